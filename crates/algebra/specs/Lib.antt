@@ -1,0 +1,9 @@
+pub mod Operations
+pub mod Ring
+pub mod Power
+pub mod Value
+pub mod Allowed
+pub mod Cut
+pub mod Fold
+pub mod Remainder
+pub mod Magnitude

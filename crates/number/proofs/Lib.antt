@@ -1,0 +1,4 @@
+pub mod BitLaws
+pub mod SplitLaws
+mod Cutting
+mod Literals

@@ -1,0 +1,25 @@
+-- The literals and tests of the code, as the definitions have them.
+use mathlib.Core.Path.{_≡_, refl, sym, ap, _∙_}
+use mathlib.Core.Bool.{true, false}
+use lib.Ieee.{Float, binary64, ofBits, eq, ne}
+use borrow.Author.Tests.{not-true, not-false}
+use Rattle.number.specs.Numbers.{floats, float}
+
+-- 0.0
+pub zero-is : ofBits binary64 0 ≡ floats .zero
+unfolding ofBits
+zero-is = refl
+
+-- 1.0
+pub one-is : ofBits binary64 0x3ff0_0000_0000_0000 ≡ floats .one
+unfolding ofBits
+one-is = refl
+
+-- `x != 0.0` found true, and found false
+pub float-not-zero : (x : Float) → ne x (ofBits binary64 0) ≡ true → float .isZero x ≡ false
+unfolding ne
+float-not-zero x test = ap (eq x) (sym zero-is) ∙ not-true (eq x (ofBits binary64 0)) test
+
+pub float-is-zero : (x : Float) → ne x (ofBits binary64 0) ≡ false → float .isZero x ≡ true
+unfolding ne
+float-is-zero x test = ap (eq x) (sym zero-is) ∙ not-false (eq x (ofBits binary64 0)) test
