@@ -3,3 +3,9 @@ pub mod Refusal
 pub mod Bits
 pub mod Split
 pub mod Room
+pub mod Evaluate
+pub mod EvaluateExamples
+pub mod Parity
+pub mod Interval
+pub mod Interpolate
+pub mod InterpolateCall

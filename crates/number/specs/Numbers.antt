@@ -1,6 +1,5 @@
 -- The two kinds of coefficients, i64 and f64: their operations, in whose terms every rule is written once, and which of them count as zero.
 use mathlib.Core.Bool.{Bool, false}
-use Prim.Native.Nat.{ℕ}
 use lib.Dec.{eqb}
 use lib.IntN.{ℤ, pos, natAbs}
 use lib.Ieee.{Float, fin, binary64}

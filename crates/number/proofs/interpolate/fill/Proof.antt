@@ -1,0 +1,42 @@
+-- The calls in turn make the zeros, the sums and the coefficients, as the definition does from the inside out; the last tells their parity.
+use borrow.Author.Needs.{needs}
+use mathlib.Core.Path.{ap, _∙_}
+use Prim.Native.Nat.{ℕ}
+use lib.ListN.{length, replicate}
+use Rattle.number.specs.Numbers.{floats, float}
+use Rattle.number.specs.Parity.{parityOf}
+use Rattle.number.specs.Interpolate.{scaled, addNodes, inverseOf}
+use Rattle.number.proofs.interpolate.fill.Statement.{statement}
+use Rattle.number.proofs.interpolate.fill.Tie as tie
+
+clear-requires : tie.Need-clear-requires
+clear-requires c κs = search needs
+
+add-nodes-requires : tie.Need-add-nodes-requires
+add-nodes-requires c κs = search needs
+
+scale-requires : tie.Need-scale-requires
+scale-requires c κs = search needs
+
+detect-parity-f64-requires : tie.Need-detect-parity-f64-requires
+detect-parity-f64-requires c κs = search needs
+
+same-length : tie.Need-same-length
+same-length c = search needs
+
+returns : tie.Need-returns
+returns c =
+    let scaling = c .before .before .before .before in
+    let adding = scaling .before .before .before .before in
+    let clearing = adding .before .before .before .before in
+    let lent = clearing .before in
+    let start = lent .before .before .before .before in
+    let nodes = start .args .nodes .now in
+    let values = start .args .values .now in
+    let zeros = clearing .clear .ensures ∙ ap (λ (n : ℕ). replicate n (floats .zero)) (start .pre .3) in
+    let sums = adding .add-nodes .ensures ∙ ap (addNodes floats nodes values) zeros in
+    let coefficients = scaling .scale .ensures ∙ ap (scaled floats (inverseOf (length nodes))) sums in
+    (c .detect-parity-f64 .ensures ∙ ap (parityOf float) coefficients, coefficients)
+
+pub fill-spec : {M : Type 1} → statement M
+fill-spec = tie.close (tie.spec clear-requires add-nodes-requires scale-requires detect-parity-f64-requires same-length returns)

@@ -1,0 +1,122 @@
+-- Worked examples of evaluation, parity, intervals and interpolation, computed.
+use mathlib.Core.Path.{_≡_, refl}
+use mathlib.Core.Bool.{true}
+use mathlib.Core.List.{[], _∷_, map}
+use lib.IntN.{ℤ, pos, negsuc}
+use lib.Ieee.{Float, nan, fin, binary64, add, sub, mul, div, neg, eq, lt, ofInt}
+use Rattle.algebra.specs.Fold.{everySecond}
+use Rattle.algebra.specs.Power.{cheb}
+use Rattle.algebra.specs.declared.Basis.the-variants.{Monomial, Chebyshev}
+use Rattle.algebra.specs.declared.Parity.the-variants.{Full, Even, Odd}
+use Rattle.number.specs.Numbers.{floats, whole, float}
+use Rattle.number.specs.Refusal.{unlessRefused}
+use Rattle.number.specs.Evaluate.{horner, pairOf, clenshaw, evaluate}
+use Rattle.number.specs.Parity.{allZero, parityOf}
+use Rattle.number.specs.Interval.{changeOfBasis}
+use Rattle.number.specs.Interpolate.{addNode, addNodes, scaled, coefficientsOf}
+use Rattle.number.specs.InterpolateCall.{miscounted, refusalOf, answerOf, interpolated, interpolatedBuffer}
+
+-- a whole number as a float
+abbrev num : ℤ → Float
+num z = ofInt binary64 z
+
+-- -0
+abbrev minusZero : Float
+minusZero = fin true 0 (pos 0)
+
+-- Chebyshev 1..6 at 2 is 2,787
+pub six-at-two : evaluate floats Chebyshev (map num (pos 1 ∷ pos 2 ∷ pos 3 ∷ pos 4 ∷ pos 5 ∷ pos 6 ∷ [])) (num (pos 2)) ≡ num (pos 2787)
+unfolding clenshaw pairOf ofInt add sub mul neg
+six-at-two = refl
+
+-- 1 + 2x + 3x² at 2 is 17
+pub three-at-two : evaluate floats Monomial (map num (pos 1 ∷ pos 2 ∷ pos 3 ∷ [])) (num (pos 2)) ≡ num (pos 17)
+unfolding horner ofInt add mul
+three-at-two = refl
+
+-- no coefficient gives zero in either basis
+pub none-monomial : evaluate floats Monomial [] nan ≡ floats .zero
+unfolding horner
+none-monomial = refl
+
+pub none-chebyshev : evaluate floats Chebyshev [] nan ≡ floats .zero
+unfolding clenshaw
+none-chebyshev = refl
+
+-- one coefficient: Clenshaw returns it as it is, Horner adds it to 0·x, so that its -0 depends on the sign of x
+pub one-chebyshev : evaluate floats Chebyshev (minusZero ∷ []) nan ≡ minusZero
+unfolding clenshaw
+one-chebyshev = refl
+
+pub one-monomial-right : evaluate floats Monomial (minusZero ∷ []) (num (pos 1)) ≡ floats .zero
+unfolding horner ofInt add mul
+one-monomial-right = refl
+
+pub one-monomial-left : evaluate floats Monomial (minusZero ∷ []) (num (negsuc 0)) ≡ minusZero
+unfolding horner ofInt add mul
+one-monomial-left = refl
+
+-- -0 counts as zero, a NaN does not
+pub minus-zero-even : parityOf float (num (pos 1) ∷ minusZero ∷ []) ≡ Even
+unfolding parityOf allZero everySecond ofInt eq
+minus-zero-even = refl
+
+pub nan-full : parityOf float (num (pos 1) ∷ nan ∷ []) ≡ Full
+unfolding parityOf allZero everySecond ofInt eq
+nan-full = refl
+
+-- no coefficient, one, and zeros alone are Even; 0 1 0 2 is Odd; 1 2 is Full
+pub none-even : parityOf whole [] ≡ Even
+unfolding parityOf allZero everySecond
+none-even = refl
+
+pub one-even : parityOf whole (pos 5 ∷ []) ≡ Even
+unfolding parityOf allZero everySecond
+one-even = refl
+
+pub zeros-even : parityOf whole (pos 0 ∷ pos 0 ∷ []) ≡ Even
+unfolding parityOf allZero everySecond
+zeros-even = refl
+
+pub odd-places : parityOf whole (pos 0 ∷ pos 1 ∷ pos 0 ∷ pos 2 ∷ []) ≡ Odd
+unfolding parityOf allZero everySecond
+odd-places = refl
+
+pub both-places : parityOf whole (pos 1 ∷ negsuc 1 ∷ []) ≡ Full
+unfolding parityOf allZero everySecond
+both-places = refl
+
+-- the Chebyshev change pair of -1 to 1 is 1 and -0
+pub unit-interval : changeOfBasis Chebyshev (num (negsuc 0)) (num (pos 1))
+    ≡ record { a = num (negsuc 0); b = num (pos 1); u = num (pos 1); w = minusZero }
+unfolding ofInt add sub neg div
+unit-interval = refl
+
+-- values 3 and 1 at 1 and -1: the sums are 4 and 2, times 1/2 and times 1
+pub two-nodes : coefficientsOf (map num (pos 1 ∷ negsuc 0 ∷ [])) (map num (pos 3 ∷ pos 1 ∷ [])) ≡ map num (pos 2 ∷ pos 2 ∷ [])
+unfolding addNode addNodes scaled cheb ofInt add sub mul div
+two-nodes = refl
+
+-- one value is its own coefficient, and -0 becomes +0, as the sum begins at +0
+pub one-node : interpolated (num (pos 0) ∷ []) (minusZero ∷ []) (num (pos 0)) (num (pos 2)) (nan ∷ [])
+    ≡ record { refusal = 0; count = 1; parity = Even; interval = changeOfBasis Chebyshev (num (pos 0)) (num (pos 2)) }
+unfolding miscounted refusalOf answerOf parityOf allZero everySecond addNode addNodes scaled cheb ofInt add sub mul div lt eq
+one-node = refl
+
+pub one-node-buffer : interpolatedBuffer (num (pos 0) ∷ []) (minusZero ∷ []) (num (pos 0)) (num (pos 2)) (nan ∷ num (pos 7) ∷ [])
+    ≡ floats .zero ∷ num (pos 7) ∷ []
+unfolding unlessRefused miscounted refusalOf addNode addNodes scaled cheb ofInt add sub mul div lt
+one-node-buffer = refl
+
+-- 8 goes ahead of 7, and 7 ahead of 21
+pub count-first : refusalOf [] [] (num (pos 1)) (num (pos 1)) 0 ≡ 8
+unfolding miscounted refusalOf
+count-first = refl
+
+pub interval-next : refusalOf (nan ∷ []) (nan ∷ []) (num (pos 1)) (num (pos 1)) 0 ≡ 7
+unfolding miscounted refusalOf ofInt lt
+interval-next = refl
+
+pub buffer-last : refusalOf (nan ∷ []) (nan ∷ []) (num (pos 0)) (num (pos 1)) 0 ≡ 21
+unfolding miscounted refusalOf ofInt lt
+buffer-last = refl

@@ -1,0 +1,18 @@
+-- The interval from a to b with its change pair: the coefficients are expressed in y = u·x + w.
+use lib.Ieee.{Float, binary64, div}
+use Rattle.algebra.specs.Operations.{two}
+use Rattle.algebra.specs.declared.Basis.{Basis}
+use Rattle.algebra.specs.declared.Basis.the-variants.{Monomial, Chebyshev}
+use Rattle.number.specs.Numbers.{floats}
+use Rattle.number.specs.declared.interval.Interval.{Interval}
+
+-- Monomial: the identity, 1 and 0. Chebyshev: u = 2 / (b - a) and w = -(a + b) / (b - a), which take a to -1 and b to 1.
+abbrev pub changeOfBasis : Basis → Float → Float → Interval
+changeOfBasis Monomial a b = record { a = a; b = b; u = floats .one; w = floats .zero }
+changeOfBasis Chebyshev a b =
+    let span = floats .sub b a in
+    record { a = a; b = b; u = div binary64 (two floats) span; w = div binary64 (floats .neg (floats .add a b)) span }
+
+-- what a refusal has in place of an interval: +0 in every field
+abbrev pub noInterval : Interval
+noInterval = record { a = floats .zero; b = floats .zero; u = floats .zero; w = floats .zero }

@@ -1,0 +1,163 @@
+// Chebyshev interpolation from lent nodes and values, which stand for k = n down to 1.
+use crate::interval::Interval;
+use crate::interval::change_of_basis;
+use crate::interval::no_interval;
+use crate::parity::detect_parity_f64;
+use algebra::Basis;
+use algebra::Parity;
+ghost use mathlib.Core.Path.{_≡_};
+ghost use Prim.Native.Nat.{_<_, _≤_};
+ghost use lib.ListN.{length, replicate};
+ghost use Rattle.number.specs.Numbers.{floats, float};
+ghost use Rattle.number.specs.Parity.{parityOf};
+ghost use Rattle.number.specs.Interpolate.{addNode, addNodes, scaledBy, scaled, inverseOf, coefficientsOf};
+ghost use Rattle.number.specs.InterpolateCall.{miscounted, refusalOf, interpolated, interpolatedBuffer};
+
+// The refusal, the number of coefficients, their parity, and the interval with its change pair.
+pub struct Interpolated {
+    pub refusal: u8,
+    pub count: usize,
+    pub parity: Parity,
+    pub interval: Interval,
+}
+
+// Every element becomes +0.
+fn clear(sums: &mut [f64])
+    ensures { λ _. ⌜ now (sums .exit) ≡ replicate (length (now (sums .entry))) (floats .zero) ⌝ }
+{
+    let mut i = 0;
+    while i < sums.len() {
+        sums[i] = 0.0;
+        i += 1;
+    }
+}
+
+// One node: value·T_i(node) is added to element i.
+fn add_node(sums: &mut [f64], node: f64, value: f64)
+    ensures { λ _. ⌜ now (sums .exit) ≡ addNode floats 0 node value (now (sums .entry)) ⌝ }
+{
+    let two = 1.0f64 + 1.0f64;
+    let mut t_prev = 1.0f64;
+    let mut t = node;
+    let mut i = 0;
+    while i < sums.len() {
+        sums[i] = sums[i] + value * t_prev;
+        let t_next = two * node * t - t_prev;
+        t_prev = t;
+        t = t_next;
+        i += 1;
+    }
+}
+
+// Each node with its value, in the order lent.
+fn add_nodes(sums: &mut [f64], nodes: &[f64], values: &[f64])
+    requires { ⌜ length (now nodes) ≡ length (now values) ⌝ }
+    ensures { λ _. ⌜ now (sums .exit) ≡ addNodes floats (now (nodes .entry)) (now (values .entry)) (now (sums .entry)) ⌝ }
+{
+    let mut k = 0;
+    while k < nodes.len() {
+        add_node(sums, nodes[k], values[k]);
+        k += 1;
+    }
+}
+
+// Every element times `factor`.
+fn scale_by(sums: &mut [f64], factor: f64)
+    ensures { λ _. ⌜ now (sums .exit) ≡ scaledBy floats factor (now (sums .entry)) ⌝ }
+{
+    let mut i = 0;
+    while i < sums.len() {
+        sums[i] = sums[i] * factor;
+        i += 1;
+    }
+}
+
+// The first element over n, the others twice that.
+fn scale(sums: &mut [f64], n: usize)
+    requires { ⌜ (n ≤ 4096) × (0 < length (now sums)) ⌝ }
+    ensures { λ _. ⌜ now (sums .exit) ≡ scaled floats (inverseOf n) (now (sums .entry)) ⌝ }
+{
+    let inv_n = 1.0 / (n as f64);
+    let two = 1.0f64 + 1.0f64;
+    let two_over_n = two * inv_n;
+    sums[0] = sums[0] * inv_n;
+    scale_by(&mut sums[1..], two_over_n);
+}
+
+// The coefficients, one for each node, and their parity.
+fn fill(out: &mut [f64], nodes: &[f64], values: &[f64]) -> Parity
+    requires { ⌜ (length (now nodes) ≡ length (now values)) × (length (now nodes) ≤ 4096) × (0 < length (now nodes))
+        × (length (now out) ≡ length (now nodes)) ⌝ }
+    ensures { λ r. ⌜ (r ≡ parityOf float (coefficientsOf (now (nodes .entry)) (now (values .entry))))
+        × (now (out .exit) ≡ coefficientsOf (now (nodes .entry)) (now (values .entry))) ⌝ }
+{
+    clear(out);
+    add_nodes(out, nodes, values);
+    scale(out, nodes.len());
+    detect_parity_f64(out)
+}
+
+// Whether nodes and values are unequal in number, none, or above 4,096.
+fn miscounted(nodes: &[f64], values: &[f64]) -> bool
+    ensures { λ r. ⌜ r ≡ miscounted (now (nodes .entry)) (now (values .entry)) ⌝ }
+{
+    let n = nodes.len();
+    if n != values.len() {
+        return true;
+    }
+    if n == 0 {
+        return true;
+    }
+    4096 < n
+}
+
+// The tests in their order: 0, or the number of the refusal.
+fn refusal_of(nodes: &[f64], values: &[f64], a: f64, b: f64, room: usize) -> u8
+    ensures { λ r. ⌜ r ≡ refusalOf (now (nodes .entry)) (now (values .entry)) a b room ⌝ }
+{
+    let unfit = miscounted(nodes, values);
+    let unordered = !(a < b);
+    if unfit {
+        return 8;
+    }
+    if unordered {
+        return 7;
+    }
+    if room < nodes.len() {
+        return 21;
+    }
+    0
+}
+
+// The coefficients in the first places of `out`, their number, parity and interval.
+pub fn chebyshev_interpolate(
+    nodes: &[f64],
+    values: &[f64],
+    a: f64,
+    b: f64,
+    out: &mut [f64],
+) -> Interpolated
+    ensures { λ r. ⌜ (r ≡ interpolated (now (nodes .entry)) (now (values .entry)) a b (now (out .entry)))
+        × (now (out .exit) ≡ interpolatedBuffer (now (nodes .entry)) (now (values .entry)) a b (now (out .entry))) ⌝ }
+{
+    let refusal = refusal_of(nodes, values, a, b, out.len());
+    if refusal == 0 {
+        let n = nodes.len();
+        let parity = fill(&mut out[..n], nodes, values);
+        let interval = change_of_basis(Basis::Chebyshev, a, b);
+        Interpolated {
+            refusal: 0,
+            count: n,
+            parity: parity,
+            interval: interval,
+        }
+    } else {
+        let interval = no_interval();
+        Interpolated {
+            refusal: refusal,
+            count: 0,
+            parity: Parity::Full,
+            interval: interval,
+        }
+    }
+}
