@@ -16,7 +16,6 @@ const THIRD: [f64; 4] = [0.0, 1.0, 0.0, 2.0];
 const SYMMETRIC: [Parity; 2] = [Parity::Even, Parity::Odd];
 
 pub fn record(dir: &Path) {
-    recording(dir, "split.tsv", split);
     recording(dir, "number.tsv", |r| {
         split(r);
         parity(r);

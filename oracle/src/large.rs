@@ -7,19 +7,15 @@ use crate::calls::{BASES, Form, PARITIES, Parity, STRATEGIES};
 use crate::inputs::*;
 use crate::{Rec, gate, recording};
 
-/// About `count` calls in all; split.tsv adds none, as its lines stand in number.tsv too.
+/// About `count` calls in all.
 pub fn record(dir: &Path, count: u64, seed: u64) {
     let share = |percent: u64| count * percent / 100;
-    let split = |r: &mut Rec| {
+    recording(dir, "number.tsv", |r| {
         let g = &mut Rng::new(seed);
         (0..=MAX_DEGREE).for_each(|n| r.split_degree(n));
         while r.lines < share(25) {
             r.split_degree(bare_degree(g));
         }
-    };
-    recording(dir, "split.tsv", split);
-    recording(dir, "number.tsv", |r| {
-        split(r);
         let g = &mut Rng::new(seed ^ 1 << 32);
         (0..share(30)).for_each(|_| number(r, g));
     });

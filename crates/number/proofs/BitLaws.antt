@@ -37,7 +37,8 @@ digits-hold zero n enough = (omega arith, λ positive. omega arith)
 digits-hold (suc halvings) zero enough = (omega arith, λ positive. omega arith)
 digits-hold (suc halvings) (suc n) enough =
     let rest = digits-hold halvings (suc n / 2) (omega arith) in
-    let more = one-digit-more n (suc n / 2) (digits halvings (suc n / 2)) refl (rest .0) (rest .1) (λ empty. ap (digits halvings) empty ∙ zero-digits halvings) in
+    let none : suc n / 2 ≡ 0 → digits halvings (suc n / 2) ≡ 0 = λ empty. ap (digits halvings) empty ∙ zero-digits halvings in
+    let more = one-digit-more n (suc n / 2) (digits halvings (suc n / 2)) refl (rest .0) (rest .1) none in
     (more .0, λ positive. more .1)
 
 -- n has bitLen n digits

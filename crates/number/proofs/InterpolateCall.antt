@@ -13,13 +13,14 @@ use Rattle.algebra.specs.declared.Basis.the-variants.{Chebyshev}
 use Rattle.algebra.specs.declared.Parity.{Parity}
 use Rattle.algebra.specs.declared.Parity.the-variants.{Full}
 use Rattle.number.specs.Numbers.{float}
-use Rattle.number.specs.Refusal.{firstRefusal, unlessRefused}
+use Rattle.number.specs.Refusal.{unlessRefused}
 use Rattle.number.specs.Parity.{parityOf}
 use Rattle.number.specs.Interval.{changeOfBasis, noInterval}
 use Rattle.number.specs.Interpolate.{coefficientsOf}
 use Rattle.number.specs.InterpolateCall.{miscounted, refusalOf, answerOf, interpolated, interpolatedBuffer}
 use Rattle.number.specs.declared.interval.Interval.{Interval}
 use Rattle.number.specs.declared.interpolate.Interpolated.{Interpolated}
+use Rattle.number.proofs.Refusals.{passed}
 
 -- what an accepted call knows of its nodes, values and room
 pub record Accepted (nodes values : List Float) (room : ℕ) : Type 0 where
@@ -63,14 +64,6 @@ module _ (nodes values : List Float) (a b : Float) (room : ℕ) where
       unfolding refusalOf
       no-refusal enough = rw (fit, ordered, le-ltb room (length nodes) enough)
 
--- no refusal: no test has held
-none-held : (unfit unordered short : Bool) → firstRefusal ((unfit, 8) ∷ (unordered, 7) ∷ (short, 21) ∷ []) ≡ 0
-    → (unfit ≡ false) × (short ≡ false)
-none-held true unordered short e = absurd (omega arith)
-none-held false true short e = absurd (omega arith)
-none-held false false true e = absurd (omega arith)
-none-held false false false e = (refl, refl)
-
 none-wrong : (even none many : Bool) → (not even || (none || many)) ≡ false → (even ≡ true) × (none ≡ false) × (many ≡ false)
 none-wrong false none many e = absurd (true≢false e)
 none-wrong true true many e = absurd (true≢false e)
@@ -86,13 +79,15 @@ pub accepted : (nodes values : List Float) (a b : Float) (room : ℕ) {k : ℕ} 
 unfolding refusalOf miscounted
 accepted nodes values a b room e z =
     let n = length nodes in
-    let held = none-held (miscounted nodes values) (not (lt a b)) (ltb room n) (sym e ∙ z) in
-    let fit = none-wrong (eqb n (length values)) (eqb n 0) (ltb 4096 n) (held .0) in
+    let counted = passed (miscounted nodes values) 7 ((not (lt a b), 7) ∷ (ltb room n, 21) ∷ []) (sym e ∙ z) in
+    let ordered = passed (not (lt a b)) 6 ((ltb room n, 21) ∷ []) (counted .1) in
+    let long = passed (ltb room n) 20 [] (ordered .1) in
+    let fit = none-wrong (eqb n (length values)) (eqb n 0) (ltb 4096 n) (counted .0) in
     record {
       even = eqb-true n (length values) (fit .0);
       some = positive n (eqb-false n 0 (fit .1));
       few = ltb-false 4096 n (fit .2);
-      fits = ltb-false room n (held .1);
+      fits = ltb-false room n (long .0);
     }
 
 -- the call's answer and its buffer, against the definition

@@ -1,9 +1,11 @@
 -- The literals and tests of the code, as the definitions have them.
 use mathlib.Core.Path.{_≡_, refl, sym, ap, _∙_}
 use mathlib.Core.Bool.{true, false}
-use lib.Ieee.{Float, binary64, ofBits, eq, ne}
+use lib.IntN.{pos}
+use lib.Ieee.{Float, binary64, ofBits, ofInt, eq, ne}
 use borrow.Author.Tests.{not-true, not-false}
 use Rattle.number.specs.Numbers.{floats, float}
+use Rattle.number.specs.Exact.{num}
 
 -- 0.0
 pub zero-is : ofBits binary64 0 ≡ floats .zero
@@ -14,6 +16,11 @@ zero-is = refl
 pub one-is : ofBits binary64 0x3ff0_0000_0000_0000 ≡ floats .one
 unfolding ofBits
 one-is = refl
+
+-- 2.0
+pub two-is : ofBits binary64 0x4000_0000_0000_0000 ≡ num (pos 2)
+unfolding ofBits ofInt
+two-is = refl
 
 -- `x != 0.0` found true, and found false
 pub float-not-zero : (x : Float) → ne x (ofBits binary64 0) ≡ true → float .isZero x ≡ false

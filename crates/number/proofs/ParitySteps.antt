@@ -1,38 +1,18 @@
 -- Whether every second coefficient counts as zero, a coefficient at a time, and the parity from the two halves: one law for whole numbers and floats.
-use mathlib.Core.Path.{_≡_, refl, sym, ap, _∙_}
+use mathlib.Core.Path.{_≡_, ap, _∙_}
 use mathlib.Core.Bool.{true, false}
-use mathlib.Core.List.{List, [], _∷_}
-use Prim.Native.Nat.{ℕ, suc, _+_, _<_, _≤_}
-use native.Mathlib.Omega.{arith}
-use lib.ListN.{length, getD, drop, drop-of-length-le}
-use lib.Seq.{drop-cons, drop-drop}
-use lib.Dec.{eqb}
-use lib.IntN.{ℤ, pos, negsuc}
-use mir.Syntax.{w64}
-use mir.Val.{SFits, toZ, ofZ}
-use mir.Facts.{toZ-ofZ}
-use borrow.Author.Tests.{eq-eqb, ne-eqb}
-use Rattle.algebra.specs.Fold.{everySecond}
+use mathlib.Core.List.{List}
+use Prim.Native.Nat.{ℕ, _+_, _<_, _≤_}
+use lib.ListN.{length, getD}
 use Rattle.algebra.specs.declared.Parity.the-variants.{Full, Even, Odd}
-use Rattle.number.specs.Numbers.{Numbers, whole}
+use Rattle.number.specs.Numbers.{Numbers}
 use Rattle.number.specs.Parity.{allZero, halfZero, parityOf}
-
--- every second element: the first, and those of the list two on
-everySecond-cons : {A : Type 0} (a : A) (l : List A) → everySecond (a ∷ l) ≡ a ∷ everySecond (drop 1 l)
-unfolding everySecond
-everySecond-cons a [] = refl
-everySecond-cons a (b ∷ l) = refl
-
-pub everySecond-step : {A : Type 0} (c : List A) (i : ℕ) (d : A) → i < length c
-    → everySecond (drop i c) ≡ getD c i d ∷ everySecond (drop (i + 2) c)
-everySecond-step c i d h =
-    let two-on : suc i + 1 ≡ i + 2 = omega arith in
-    rw (drop-cons c i d h) (everySecond-cons (getD c i d) (drop (suc i) c) ∙ rw (drop-drop 1 (suc i) c, two-on))
+use Rattle.number.proofs.EverySecond.{everySecond-step, everySecond-end}
 
 module _ {A : Type 0} (numbers : Numbers A) (c : List A) (i : ℕ) where
   pub half-end : length c ≤ i → halfZero numbers i c ≡ true
-  unfolding everySecond allZero
-  half-end h = rw (drop-of-length-le c h)
+  unfolding allZero
+  half-end h = ap (allZero numbers) (everySecond-end c i h)
 
   module _ (d : A) (h : i < length c) where
     pub half-not : numbers .isZero (getD c i d) ≡ false → halfZero numbers i c ≡ false
@@ -56,21 +36,3 @@ module _ {A : Type 0} (numbers : Numbers A) (c : List A) where
     pub parity-full : halfZero numbers 0 c ≡ false → Full ≡ parityOf numbers c
     unfolding parityOf
     parity-full evens = rw (odds, evens)
-
--- a whole number is zero exactly if its bits are
-zero-bits : (z : ℤ) → SFits w64 z → eqb (ofZ w64 z) 0 ≡ whole .isZero z
-zero-bits (pos n) h = refl
-zero-bits (negsuc n) h =
-    ne-eqb (ofZ w64 (negsuc n)) 0 (λ (e : ofZ w64 (negsuc n) ≡ 0). differ (sym (toZ-ofZ h) ∙ ap (toZ w64) e))
-    ∙ sym (ne-eqb (suc n) 0 (λ (e : suc n ≡ 0). omega arith))
-  where
-    differ : negsuc n ≡ toZ w64 0 → ⊥
-    differ e = let same : _≡_ {A = ℕ} 0 1 = cc in omega arith
-
--- the machine's test of a whole number against 0, on its bits: found equal, and found other
-module _ (z : ℤ) (fits : SFits w64 z) where
-  pub whole-is-zero : ofZ w64 z ≡ 0 → whole .isZero z ≡ true
-  whole-is-zero e = sym (zero-bits z fits) ∙ eq-eqb (ofZ w64 z) 0 e
-
-  pub whole-not-zero : (ofZ w64 z ≡ 0 → ⊥) → whole .isZero z ≡ false
-  whole-not-zero e = sym (zero-bits z fits) ∙ ne-eqb (ofZ w64 z) 0 e

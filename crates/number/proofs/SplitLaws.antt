@@ -1,12 +1,12 @@
 -- The laws of the index split that callers use: within the limits the call answers the parts, both at least 1, and they make up n.
-use mathlib.Core.Path.{_≡_, refl, sym, ap, _∙_}
+use mathlib.Core.Path.{_≡_, refl, sym, _∙_}
 use mathlib.Core.Bool.{Bool, true, false}
-use Prim.Native.Nat.{ℕ, _+_, _-_, _/_, _≤_, _<_}
+use Prim.Native.Nat.{ℕ, _+_, _≤_, _<_}
 use native.Mathlib.Nat.{lt-of-not-le}
 use native.Mathlib.Omega.{arith}
 use borrow.Author.Tests.{le-ltb, lt-ltb}
 use Rattle.number.specs.Bits.{isPowerOfTwo, powerBelow}
-use Rattle.number.specs.Split.{partsBy, partsOf, splitRefusal, splitAnswer, splitOf}
+use Rattle.number.specs.Split.{partsBy, partsOf, splitRefusal, splitOf}
 use Rattle.number.specs.declared.split.Parts.{Parts}
 use Rattle.number.proofs.BitLaws.{power-below, doubled-is-power, power-is-doubled}
 

@@ -2,23 +2,20 @@
 use mathlib.Core.Path.{_≡_, refl}
 use mathlib.Core.Bool.{true}
 use mathlib.Core.List.{[], _∷_, map}
-use lib.IntN.{ℤ, pos, negsuc}
-use lib.Ieee.{Float, nan, fin, binary64, add, sub, mul, div, neg, eq, lt, ofInt}
+use lib.IntN.{pos, negsuc}
+use lib.Ieee.{Float, nan, fin, add, sub, mul, div, neg, eq, lt, ofInt}
 use Rattle.algebra.specs.Fold.{everySecond}
 use Rattle.algebra.specs.Power.{cheb}
 use Rattle.algebra.specs.declared.Basis.the-variants.{Monomial, Chebyshev}
 use Rattle.algebra.specs.declared.Parity.the-variants.{Full, Even, Odd}
 use Rattle.number.specs.Numbers.{floats, whole, float}
+use Rattle.number.specs.Exact.{num}
 use Rattle.number.specs.Refusal.{unlessRefused}
 use Rattle.number.specs.Evaluate.{horner, pairOf, clenshaw, evaluate}
 use Rattle.number.specs.Parity.{allZero, parityOf}
 use Rattle.number.specs.Interval.{changeOfBasis}
 use Rattle.number.specs.Interpolate.{addNode, addNodes, scaled, coefficientsOf}
 use Rattle.number.specs.InterpolateCall.{miscounted, refusalOf, answerOf, interpolated, interpolatedBuffer}
-
--- a whole number as a float
-abbrev num : ℤ → Float
-num z = ofInt binary64 z
 
 -- -0
 abbrev minusZero : Float

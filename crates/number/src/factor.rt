@@ -1,31 +1,17 @@
 // The Chebyshev factorisation of a coefficient list at p, in place: low in the first p places, high in the others.
 // It serves planning, which calls it within these ranges.
+use crate::arithmetic::minus;
+use crate::arithmetic::twice;
 ghost use mathlib.Core.Path.{_≡_};
-ghost use Prim.Native.Nat.{_+_, _≤_, _<_, _^_};
+ghost use Prim.Native.Nat.{_+_, _≤_, _<_};
 ghost use lib.ListN.{length};
-ghost use lib.IntN.{natAbs, _-ℤ_};
-ghost use Rattle.algebra.specs.Operations.{wholes, double};
+ghost use Rattle.algebra.specs.Operations.{wholes};
 ghost use Rattle.algebra.specs.Cut.{cutAt};
 ghost use Rattle.algebra.specs.declared.Basis.the-variants.{Chebyshev};
 ghost use Rattle.number.specs.Numbers.{floats};
 ghost use Rattle.number.specs.Room.{Doubles};
 
-// Twice x.
-fn twice(x: i64) -> i64
-    requires { ⌜ natAbs x ≤ 2 ^ 52 ⌝ }
-    ensures { λ r. ⌜ r ≡ double wholes x ⌝ }
-{
-    2 * x
-}
-
-// x less y.
-fn minus(x: i64, y: i64) -> i64
-    requires { ⌜ (natAbs x ≤ 2 ^ 52) × (natAbs y ≤ 2 ^ 52) ⌝ }
-    ensures { λ r. ⌜ r ≡ x -ℤ y ⌝ }
-{
-    x - y
-}
-
+// Over whole numbers.
 pub fn factorize_coeffs_chebyshev(c: &mut [i64], p: usize)
     requires { ⌜ (p < length (now c)) × ((length (now c) ≤ p + p) × Doubles (now c)) ⌝ }
     ensures { λ _. ⌜ now (c .exit) ≡ cutAt wholes Chebyshev p (now (c .entry)) ⌝ }

@@ -1,12 +1,15 @@
 // Replays recorded calls of the Rust's number layer: each line of standard input has one call with the Rust's answer, and our answer
 // is compared with it. Writes the number of each line that does not agree, and how many do.
 mod evaluate;
+mod fold;
 mod interpolate;
 mod parity;
 mod split;
 
 use evaluate::change_of_basis_agrees;
 use evaluate::evaluate_agrees;
+use fold::fold_parity_agrees;
+use fold::fold_parity_whole_agrees;
 use interpolate::interpolate_agrees;
 use parity::parity_agrees;
 use parity::parity_whole_agrees;
@@ -27,6 +30,19 @@ fn agrees(line: &[u8]) -> bool {
     if parity_whole.ok {
         return parity_whole_agrees(line, parity_whole.next);
     }
+    let fold_parity = read_word(line, 0, b"fold_parity");
+    if fold_parity.ok {
+        return fold_parity_agrees(line, fold_parity.next);
+    }
+    let fold_parity_whole = read_word(line, 0, b"fold_parity_whole");
+    if fold_parity_whole.ok {
+        return fold_parity_whole_agrees(line, fold_parity_whole.next);
+    }
+    value_agrees(line)
+}
+
+// The same of the calls on f64 values.
+fn value_agrees(line: &[u8]) -> bool {
     let evaluate = read_word(line, 0, b"evaluate");
     if evaluate.ok {
         return evaluate_agrees(line, evaluate.next);

@@ -1,4 +1,5 @@
--- Each arm returns what its rule's function ensures, and the definition at the arm's basis is that rule.
+-- `number::evaluate::evaluate_coeffs` meets its contract. Each arm returns what its rule's function ensures, and the definition at the arm's
+-- basis is that rule.
 use borrow.Author.Needs.{needs}
 use mathlib.Core.Path.{_∙_, sym, ap}
 use Rattle.algebra.specs.declared.Basis.{Basis}

@@ -1,11 +1,11 @@
 -- `number::factor::factorize_coeffs_chebyshev_f64` meets its contract, by the argument of `factorize_coeffs_chebyshev`: the laws of `cutTo`
 -- go over any operations. Nothing is asked of the coefficients.
-use mathlib.Core.Path.{_≡_, ap, ap₂, sym, _∙_}
-use Prim.Native.Nat.{ℕ, _≤_, _<_, _-_, _+_}
+use mathlib.Core.Path.{_≡_, ap₂, sym, _∙_}
+use Prim.Native.Nat.{_≤_, _<_, _-_, _+_}
 use native.Mathlib.Omega.{arith}
 use borrow.Author.Needs.{needs}
 use lib.ListN.{length, length-set}
-use lib.Ieee.{Float, nan, binary64, add}
+use lib.Ieee.{nan, binary64, add}
 use Rattle.algebra.specs.Operations.{two}
 use Rattle.number.specs.Numbers.{floats}
 use Rattle.number.proofs.Cutting.{cutTo, cut-none, cut-all, turn-low, turn-high, turn-written}

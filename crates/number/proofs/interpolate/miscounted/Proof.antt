@@ -1,4 +1,4 @@
--- Each branch has the facts that decide the definition's three tests, in their order.
+-- `number::interpolate::miscounted` meets its contract. Each branch has the facts that decide the definition's three tests, in their order.
 use Rattle.number.proofs.InterpolateCall.{uneven, none, counted}
 use Rattle.number.proofs.interpolate.miscounted.Statement.{statement}
 use Rattle.number.proofs.interpolate.miscounted.Tie as tie

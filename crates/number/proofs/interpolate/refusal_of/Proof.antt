@@ -1,4 +1,4 @@
--- The tests stand in the definition's order, and each branch has the facts that decide it.
+-- `number::interpolate::refusal_of` meets its contract. The tests stand in the definition's order, and each branch has the facts that decide it.
 use borrow.Author.Needs.{needs}
 use mathlib.Core.Path.{sym, _∙_}
 use Rattle.number.proofs.InterpolateCall.{refusal-count, refusal-interval, refusal-room, no-refusal}

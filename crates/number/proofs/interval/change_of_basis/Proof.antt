@@ -1,4 +1,5 @@
--- Each arm makes the record that the definition has for its basis, once 1.0 and 0.0 are read as 1 and +0.
+-- `number::interval::change_of_basis` meets its contract. Each arm makes the record that the definition has for its basis, once 1.0 and 0.0
+-- are read as 1 and +0.
 use borrow.Author.Needs.{needs}
 use mathlib.Core.Path.{sym, ap}
 use Rattle.algebra.specs.declared.Basis.{Basis}

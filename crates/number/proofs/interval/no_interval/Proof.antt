@@ -1,4 +1,4 @@
--- The record has 0.0 in each field, which is +0.
+-- `number::interval::no_interval` meets its contract. The record has 0.0 in each field, which is +0.
 use Rattle.number.proofs.Literals.{zero-is}
 use Rattle.number.proofs.interval.no_interval.Statement.{statement}
 use Rattle.number.proofs.interval.no_interval.Tie as tie

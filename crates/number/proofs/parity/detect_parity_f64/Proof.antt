@@ -1,4 +1,5 @@
--- The two halves are tested in the definition's order: the odd places first, then the even ones.
+-- `number::parity::detect_parity_f64` meets its contract. The two halves are tested in the definition's order, the odd places first, then the
+-- even ones, and each branch has the facts that decide it.
 use borrow.Author.Needs.{needs}
 use mathlib.Core.Path.{sym, _∙_}
 use Rattle.number.specs.Numbers.{float}

@@ -7,7 +7,8 @@ use lib.ListN.{length, getD}
 use lib.IntN.{pos}
 use Rattle.number.specs.Numbers.{whole}
 use Rattle.number.specs.Parity.{halfZero}
-use Rattle.number.proofs.ParitySteps.{half-not, half-more, half-end, whole-is-zero, whole-not-zero}
+use Rattle.number.proofs.Signed.{whole-is-zero, whole-not-zero}
+use Rattle.number.proofs.ParitySteps.{half-not, half-more, half-end}
 use Rattle.number.proofs.parity.half_zero.Statement.{statement}
 use Rattle.number.proofs.parity.half_zero.Tie as tie
 

@@ -1,18 +1,14 @@
 -- `number::split::split_degree` meets its contract. Its first test is that of refusal 9; then n is twice the greatest power of two
 -- below it exactly where n is a power of two, so the second test chooses the definition's case.
-use mathlib.Core.Path.{_≡_, sym, ap, _∙_}
+use mathlib.Core.Path.{sym, _∙_}
 use mathlib.Core.Logic.{⊎-elim}
-use Prim.Native.Nat.{ℕ, _+_, _≤_}
 use native.Mathlib.Omega.{arith}
 use borrow.Author.Needs.{needs}
 use borrow.Author.Tests.{ltb-true, ltb-false}
-use Rattle.number.specs.Bits.{powerBelow}
-use Rattle.number.specs.Split.{partsOf, splitOf}
-use Rattle.number.proofs.BitLaws.{Below, power-below}
+use Rattle.number.proofs.BitLaws.{power-below}
 use Rattle.number.proofs.SplitLaws.{split-accepted, split-below, split-above, parts-doubled, parts-other}
 use Rattle.number.proofs.split.split_degree.Statement.{statement}
 use Rattle.number.proofs.split.split_degree.Tie as tie
-use Rattle.number.proofs.split.split_degree.Lts as lts
 
 returns : tie.Need-returns
 returns c =

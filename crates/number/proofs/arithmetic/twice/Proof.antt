@@ -1,10 +1,11 @@
--- `number::factor::twice` meets its contract: the double has magnitude at most 2^53, so it fits.
+-- `number::arithmetic::twice` meets its contract. Of a number up to 2^52 the double is at most 2^53, so it fits, and reading it out of its
+-- bits changes nothing.
 use native.Mathlib.Omega.{arith}
 use lib.IntN.{pos, _*ℤ_}
 use mir.Syntax.{w64}
 use Rattle.algebra.proofs.Fits.{asked, given, fits-abs, fits-double}
-use Rattle.number.proofs.factor.twice.Statement.{statement}
-use Rattle.number.proofs.factor.twice.Tie as tie
+use Rattle.number.proofs.arithmetic.twice.Statement.{statement}
+use Rattle.number.proofs.arithmetic.twice.Tie as tie
 
 mul-result : tie.Need-mul-result
 mul-result c = asked w64 _*ℤ_ (fits-abs (pos 2) (omega arith)) (c .fits .x) (fits-double (c .args .x) (omega arith))

@@ -1,0 +1,21 @@
+-- A map over a first part, a last part and a reversed list: it may be made before or after.
+use mathlib.Core.Path.{_≡_, refl, sym, ap, _∙_}
+use mathlib.Core.List.{List, [], _∷_, _++_, map, map-append, reverse, reverse-cons}
+use Prim.Native.Nat.{ℕ, zero, suc}
+use lib.ListN.{take, drop}
+
+module _ {A B : Type 0} (f : A → B) where
+  pub map-take : (n : ℕ) (c : List A) → take n (map f c) ≡ map f (take n c)
+  map-take zero c = refl
+  map-take (suc n) [] = refl
+  map-take (suc n) (a ∷ c) = ap (f a ∷_) (map-take n c)
+
+  pub map-drop : (n : ℕ) (c : List A) → drop n (map f c) ≡ map f (drop n c)
+  map-drop zero c = refl
+  map-drop (suc n) [] = refl
+  map-drop (suc n) (a ∷ c) = map-drop n c
+
+  pub map-reverse : (c : List A) → reverse (map f c) ≡ map f (reverse c)
+  map-reverse [] = refl
+  map-reverse (a ∷ c) =
+      rw (reverse-cons (f a), reverse-cons a) (ap (_++ (f a ∷ [])) (map-reverse c) ∙ sym (map-append f (reverse c) (a ∷ [])))

@@ -1,0 +1,20 @@
+-- The factorisation of whole coefficients as f64 (document 01, "Factorising and listing").
+use mathlib.Core.Path.{_≡_}
+use mathlib.Core.List.{List, map}
+use Prim.Native.Nat.{ℕ}
+use lib.IntN.{ℤ}
+use Rattle.algebra.specs.Operations.{wholes}
+use Rattle.algebra.specs.Cut.{cutAt}
+use Rattle.algebra.specs.declared.Basis.{Basis}
+use Rattle.number.specs.Numbers.{floats}
+use Rattle.number.specs.Exact.{num, AllTo53}
+use Rattle.number.specs.Room.{Doubles}
+
+-- up to 2^53 the f64 factorisation writes equal numbers; and where every coefficient can be doubled, each number written is at most 2^53
+pub record CutSame (basis : Basis) (p : ℕ) (c : List ℤ) : Type 0 where
+  pub written : AllTo53 c → cutAt floats basis p (map num c) ≡ map num (cutAt wholes basis p c)
+  pub within : Doubles c → AllTo53 (cutAt wholes basis p c)
+
+-- for every basis, place and list
+abbrev pub CutsSame : Type 0
+CutsSame = (basis : Basis) (p : ℕ) (c : List ℤ) → CutSame basis p c

@@ -1,0 +1,40 @@
+-- Whole numbers as f64 (document 01, "shown exact for whole numbers up to 2^53").
+use mathlib.Core.Path.{_≡_}
+use mathlib.Core.Bool.{true}
+use mathlib.Core.List.{List, [], _∷_}
+use Prim.Native.Nat.{ℕ, _≤_, _<_, _^_}
+use lib.IntN.{ℤ, pos, negℤ, natAbs, _+ℤ_, _-ℤ_, _*ℤ_}
+use lib.Ieee.{Float, fin, binary64, ofInt}
+use Rattle.algebra.specs.Operations.{double}
+use Rattle.number.specs.Numbers.{floats}
+
+-- the f64 of a whole number, rounded once
+abbrev pub num : ℤ → Float
+num z = ofInt binary64 z
+
+-- magnitude at most 2^53
+abbrev pub To53 : ℤ → Type 0
+To53 z = natAbs z ≤ 2 ^ 53
+
+-- every number of a list, of magnitude at most n
+abbrev pub Within : ℕ → List ℤ → Type 0
+Within n [] = Unit {0}
+Within n (x ∷ xs) = (natAbs x ≤ n) × Within n xs
+
+-- and at most 2^53
+abbrev pub AllTo53 : List ℤ → Type 0
+AllTo53 c = Within (2 ^ 53) c
+
+-- of whole numbers up to 2^53 each operation gives the f64 of the exact result, which is never -0. A product by a number up to 2 stands
+-- in a sum, and an opposite is that of a nonzero number, since alone they can be -0.
+pub record ExactTo53 : Type 0 where
+  pub zero-is : floats .zero ≡ num (pos 0)
+  pub one-is : floats .one ≡ num (pos 1)
+  pub doubled : (a : ℤ) → To53 a → double floats (num a) ≡ num (pos 2 *ℤ a)
+  pub added : (a b : ℤ) → To53 a → To53 b → floats .add (num a) (num b) ≡ num (a +ℤ b)
+  pub less : (a b : ℤ) → To53 a → To53 b → floats .sub (num a) (num b) ≡ num (a -ℤ b)
+  pub added-product : (q c v : ℤ) → To53 q → To53 c → natAbs v ≤ 2 → To53 (c *ℤ v)
+      → floats .add (num q) (floats .mul (num c) (num v)) ≡ num (q +ℤ c *ℤ v)
+  pub opposite : (a : ℤ) → 0 < natAbs a → floats .neg (num a) ≡ num (negℤ a)
+  pub never-minus-zero : (a : ℤ) → To53 a → num a ≡ fin true 0 (pos 0) → ⊥
+  pub told-apart : (a b : ℤ) → To53 a → To53 b → num a ≡ num b → a ≡ b

@@ -1,0 +1,142 @@
+// Folding of f64 polynomials of one parity, in the source's order of operations.
+use crate::fold::Folded;
+use crate::fold::fewest_of;
+use crate::fold::fold_count;
+use crate::fold::is_full;
+use crate::parity::half_zero_f64;
+use crate::transform::PolynomialInputTransform;
+use crate::transform::transform_of;
+use algebra::Basis;
+use algebra::Parity;
+ghost use mathlib.Core.Path.{_≡_};
+ghost use Prim.Native.Nat.{_+_, _*_, _≤_, _<_};
+ghost use lib.ListN.{length, drop};
+ghost use lib.Seq.{sets};
+ghost use Rattle.algebra.specs.Fold.{everySecond, coeffR, addR, fold};
+ghost use Rattle.algebra.specs.declared.Basis.the-variants.{Chebyshev};
+ghost use Rattle.algebra.specs.declared.Parity.the-variants.{Odd};
+ghost use Rattle.number.specs.Numbers.{float, floats};
+ghost use Rattle.number.specs.Parity.{allZero};
+ghost use Rattle.number.specs.FoldCall.{wrongPlaces, noTests, foldRefusal, FoldCall};
+ghost use Rattle.number.specs.Foldable.{Foldable};
+
+// Whether the coefficients at the places that the parity doesn't allow count as zero.
+fn has_parity_f64(parity: Parity, c: &[f64]) -> bool
+    ensures { λ r. ⌜ r ≡ allZero float (wrongPlaces parity (now (c .entry))) ⌝ }
+{
+    match parity {
+        Parity::Full => true,
+        Parity::Even => half_zero_f64(c, 1),
+        Parity::Odd => half_zero_f64(c, 0),
+    }
+}
+
+// The first test that holds, or 0; `short` says that the buffer is too short.
+fn refusal_of_f64(parity: Parity, c: &[f64], short: bool) -> u8
+    ensures { λ r. ⌜ r ≡ foldRefusal float noTests parity (now (c .entry)) short ⌝ }
+{
+    let n = c.len();
+    if 4096 < n {
+        return 2;
+    }
+    if is_full(parity) {
+        return 5;
+    }
+    let low = n < fewest_of(parity);
+    let wrong = !has_parity_f64(parity, c);
+    if low {
+        return 6;
+    }
+    if wrong {
+        return 4;
+    }
+    if short { 21 } else { 0 }
+}
+
+// Coefficient i of R_i.
+fn lead_f64(i: usize) -> f64
+    ensures { λ r. ⌜ r ≡ coeffR floats i i ⌝ }
+{
+    if i == 0 { 1.0 } else { 2.0 }
+}
+
+// Place i of the fold of an odd Chebyshev polynomial: the sum from +0 of c[2k+1] times coefficient i of R_k, k rising from i.
+fn odd_place_f64(c: &[f64], i: usize) -> f64
+    requires { ⌜ 2 * i + 1 < length (now c) ⌝ }
+    ensures { λ r. ⌜ r ≡ addR floats i i (floats .zero) (everySecond (drop (2 * i + 1) (now (c .entry)))) ⌝ }
+{
+    let mut sum = 0.0f64;
+    let mut w = lead_f64(i);
+    let mut j = 2 * i + 1;
+    while j < c.len() {
+        sum = sum + c[j] * w;
+        w = -w;
+        j += 2;
+    }
+    sum
+}
+
+// Writes every second coefficient from place `from` on.
+fn copy_second_f64(c: &[f64], from: usize, out: &mut [f64])
+    requires { ⌜ length (everySecond (drop from (now c))) ≤ length (now out) ⌝ }
+    ensures { λ _. ⌜ now (out .exit) ≡ sets (now (out .entry)) 0 (everySecond (drop from (now (c .entry)))) ⌝ }
+{
+    let mut i = 0;
+    let mut j = from;
+    while j < c.len() {
+        out[i] = c[j];
+        i += 1;
+        j += 2;
+    }
+}
+
+// Writes the fold of an odd Chebyshev polynomial.
+fn fold_odd_f64(c: &[f64], out: &mut [f64])
+    requires { ⌜ Foldable Odd (now c) (now out) ⌝ }
+    ensures { λ _. ⌜ now (out .exit) ≡ sets (now (out .entry)) 0 (fold floats Chebyshev Odd (now (c .entry))) ⌝ }
+{
+    let n = c.len() / 2;
+    let mut i = 0;
+    while i < n {
+        out[i] = odd_place_f64(c, i);
+        i += 1;
+    }
+}
+
+// Writes the fold.
+fn fold_into_f64(basis: Basis, parity: Parity, c: &[f64], out: &mut [f64])
+    requires { ⌜ Foldable parity (now c) (now out) ⌝ }
+    ensures { λ _. ⌜ now (out .exit) ≡ sets (now (out .entry)) 0 (fold floats basis parity (now (c .entry))) ⌝ }
+{
+    match parity {
+        Parity::Full => {}
+        Parity::Even => copy_second_f64(c, 0, out),
+        Parity::Odd => match basis {
+            Basis::Monomial => copy_second_f64(c, 1, out),
+            Basis::Chebyshev => fold_odd_f64(c, out),
+        },
+    }
+}
+
+// Folds an f64 polynomial of parity Even or Odd into one of half the degree.
+pub fn fold_parity_f64(basis: Basis, parity: Parity, c: &[f64], out: &mut [f64]) -> Folded
+    ensures { λ r. ⌜ FoldCall float noTests basis parity (now (c .entry)) (now (out .entry)) r (now (out .exit)) ⌝ }
+{
+    let n = fold_count(parity, c.len());
+    let k = refusal_of_f64(parity, c, out.len() < n);
+    if k == 0 {
+        fold_into_f64(basis, parity, c, out);
+        let t = transform_of(basis, parity);
+        Folded {
+            refusal: 0,
+            transform: t,
+            count: n,
+        }
+    } else {
+        Folded {
+            refusal: k,
+            transform: PolynomialInputTransform::Identity,
+            count: 0,
+        }
+    }
+}
