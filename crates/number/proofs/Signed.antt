@@ -17,7 +17,6 @@ pub back : {z x : ℤ} → mag z < 2 ^ 63 → z ≡ x → toZ w64 (ofZ w64 z) �
 back {z} h e = toZ-ofZ {w = w64} {z = z} (record { sfits = h }) ∙ e
 
 -- tests against a literal, as the machine makes them: on z, which is x
-
 module _ {z x : ℤ} (e : z ≡ x) where
   pub under-least : (k : ℕ) → ltZ z (negsuc k) ≡ true → suc k < natAbs x
   under-least k g = by-sign x (rw e at g)

@@ -21,7 +21,7 @@ abbrev pub Within : ℕ → List ℤ → Type 0
 Within n [] = Unit {0}
 Within n (x ∷ xs) = (natAbs x ≤ n) × Within n xs
 
--- and at most 2^53
+-- every number of a list, at most 2^53
 abbrev pub AllTo53 : List ℤ → Type 0
 AllTo53 c = Within (2 ^ 53) c
 

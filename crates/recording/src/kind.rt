@@ -1,8 +1,9 @@
-// A letter as a basis or a parity.
+// A letter as a basis, a parity or a strategy.
 use crate::field::ends;
 use crate::field::read_letter;
 use algebra::Basis;
 use algebra::Parity;
+use counts::SplitStrategy;
 
 pub struct BasisField {
     pub ok: bool,
@@ -13,6 +14,12 @@ pub struct BasisField {
 pub struct ParityField {
     pub ok: bool,
     pub value: Parity,
+    pub next: usize,
+}
+
+pub struct StrategyField {
+    pub ok: bool,
+    pub value: SplitStrategy,
     pub next: usize,
 }
 
@@ -72,6 +79,23 @@ pub fn read_parity(line: &[u8], at: usize) -> ParityField {
     ParityField {
         ok: letter.ok && parity_letter(parity) == letter.value,
         value: parity,
+        next: letter.next,
+    }
+}
+
+// D or M.
+pub fn read_strategy(line: &[u8], at: usize) -> StrategyField {
+    let letter = read_letter(line, at);
+    if letter.ok && letter.value == b'D' {
+        return StrategyField {
+            ok: true,
+            value: SplitStrategy::MinDepth,
+            next: letter.next,
+        };
+    }
+    StrategyField {
+        ok: letter.ok && letter.value == b'M',
+        value: SplitStrategy::MinMult,
         next: letter.next,
     }
 }

@@ -1,0 +1,205 @@
+-- The best split is the smallest with the least pair, and there is no other: a later split takes its place only with a pair that is less, so
+-- of equal pairs the first stays.
+use mathlib.Core.Path.{_≡_, refl, ap, ap₂, sym, subst}
+use mathlib.Core.Bool.{Bool, true, false, cond, _&&_, _||_}
+use mathlib.Core.Logic.{_⊎_, inl, inr, ⊎-elim}
+use Prim.Native.Nat.{ℕ, zero, suc, _+_, _-_, _≤_, _<_}
+use native.Mathlib.Decide.{decLe}
+use native.Mathlib.Nat.{le-antisymm, eq-or-lt-of-le}
+use native.Mathlib.Omega.{arith}
+use lib.Dec.{ltb, eqb}
+use borrow.Author.Tests.{ltb-true, ltb-false, eqb-true, eqb-false, le-leb, lt-leb}
+use Rattle.algebra.specs.declared.Basis.{Basis}
+use Rattle.algebra.specs.declared.Parity.{Parity}
+use Rattle.number.specs.Bits.{bitLen}
+use Rattle.needed.specs.Powers.{Between}
+use Rattle.counts.specs.Pair.{pairOf}
+use Rattle.counts.specs.MinMult.{AtMost, Smallest, lessPair, better, bestOf, minMult}
+use Rattle.counts.specs.declared.pair.Pair.{Pair}
+use Rattle.counts.specs.declared.choice.Best.{Best}
+use Rattle.needed.proofs.PowerLaws.{few-digits}
+use Rattle.needed.proofs.MarkLaws.{by-test}
+
+-- ---- the order of pairs
+
+-- strictly less
+abbrev Below : Pair → Pair → Type 0
+Below p q = (p .ct < q .ct) ⊎ ((p .ct ≡ q .ct) × (p .pt < q .pt))
+
+module _ (p q : Pair) where
+  -- what the test says
+  pub less-is : lessPair p q ≡ true → Below p q
+  less-is =
+      by-test (λ (b : Bool). (b || (eqb (p .ct) (q .ct) && ltb (p .pt) (q .pt))) ≡ true → Below p q) (ltb (p .ct) (q .ct))
+      (λ is holds. inl (ltb-true (p .ct) (q .ct) is))
+      (λ is. by-equal)
+    where
+      by-equal : (eqb (p .ct) (q .ct) && ltb (p .pt) (q .pt)) ≡ true → Below p q
+      by-equal =
+          by-test (λ (b : Bool). (b && ltb (p .pt) (q .pt)) ≡ true → Below p q) (eqb (p .ct) (q .ct))
+          (λ same holds. inr (eqb-true (p .ct) (q .ct) same, ltb-true (p .pt) (q .pt) holds))
+          (λ other fails. let clash : _≡_ {A = ℕ} 0 1 = cc in absurd (omega arith))
+
+  pub less-not : lessPair p q ≡ false → AtMost q p
+  less-not =
+      by-test (λ (b : Bool). (b || (eqb (p .ct) (q .ct) && ltb (p .pt) (q .pt))) ≡ false → AtMost q p) (ltb (p .ct) (q .ct))
+      (λ is fails. let clash : _≡_ {A = ℕ} 0 1 = cc in absurd (omega arith))
+      (λ is. by-equal (ltb-false (p .ct) (q .ct) is))
+    where
+      by-equal : q .ct ≤ p .ct → (eqb (p .ct) (q .ct) && ltb (p .pt) (q .pt)) ≡ false → AtMost q p
+      by-equal most =
+          by-test (λ (b : Bool). (b && ltb (p .pt) (q .pt)) ≡ false → AtMost q p) (eqb (p .ct) (q .ct))
+          (λ same fails. inr (sym (eqb-true (p .ct) (q .ct) same), ltb-false (p .pt) (q .pt) fails))
+          (λ other fails. ⊎-elim (λ same. absurd (eqb-false (p .ct) (q .ct) other (sym same))) (λ under. inl under) (eq-or-lt-of-le most))
+
+at-most-trans : (p q r : Pair) → AtMost p q → AtMost q r → AtMost p r
+at-most-trans p q r (inl pq) (inl qr) = inl (omega arith)
+at-most-trans p q r (inl pq) (inr qr) = inl (omega arith)
+at-most-trans p q r (inr pq) (inl qr) = inl (omega arith)
+at-most-trans p q r (inr pq) (inr qr) = inr (omega arith, omega arith)
+
+below-most : (p q : Pair) → Below p q → AtMost p q
+below-most p q (inl under) = inl under
+below-most p q (inr under) = inr (under .0, omega arith)
+
+-- nothing is both below q and at least q
+below-not : (p q : Pair) → Below p q → AtMost q p → ⊥
+below-not p q (inl under) (inl over) = omega arith
+below-not p q (inl under) (inr over) = omega arith
+below-not p q (inr under) (inl over) = omega arith
+below-not p q (inr under) (inr over) = omega arith
+
+same-most : (p q : Pair) → p ≡ q → AtMost p q
+same-most p q same = inr (ap (λ (x : Pair). x .ct) same, omega (arith, ap (λ (x : Pair). x .pt) same))
+
+at-most-both : (p q : Pair) → AtMost p q → AtMost q p → p ≡ q
+at-most-both p q (inl pq) (inl qp) = absurd (omega arith)
+at-most-both p q (inl pq) (inr qp) = absurd (omega arith)
+at-most-both p q (inr pq) (inl qp) = absurd (omega arith)
+at-most-both p q (inr pq) (inr qp) = ap₂ (λ (x y : ℕ). record { ct = x; pt = y }) (pq .0) (le-antisymm (pq .1) (qp .1))
+
+-- the last of 1, .., k + 2, or one before it
+last-or : (k split : ℕ) → split ≤ suc (suc k) → (split ≡ suc (suc k)) ⊎ (split ≤ suc k)
+last-or k split to = ⊎-elim (λ same. inl same) (λ less. inr (omega arith)) (eq-or-lt-of-le to)
+
+-- ---- the best split
+
+module _ (pairAt : ℕ → Pair) where
+  -- the best so far, with its pair
+  record BestTo (length : ℕ) (best : Best) : Type 0 where
+    pub pair : best .pair ≡ pairAt (best .split)
+    pub smallest : Smallest pairAt length (best .split)
+
+  module _ (k : ℕ) (best : Best) (so-far : BestTo (suc k) best) where
+    abbrev next : ℕ
+    next = suc (suc k)
+
+    -- the next split is less
+    taken : Below (pairAt next) (pairAt (best .split)) → BestTo next (record { split = next; pair = pairAt next })
+    taken under = record { pair = refl; smallest = record { from = omega arith; to = omega arith; least = least; first = first } }
+      where
+        least : (split : ℕ) → 1 ≤ split → split ≤ next → AtMost (pairAt next) (pairAt split)
+        least split from to =
+            ⊎-elim (λ last. same-most (pairAt next) (pairAt split) (ap pairAt (sym last)))
+            (λ earlier. at-most-trans (pairAt next) (pairAt (best .split)) (pairAt split) (below-most _ _ under) (so-far .smallest .least split from earlier))
+            (last-or k split to)
+
+        first : (split : ℕ) → 1 ≤ split → split ≤ next → pairAt split ≡ pairAt next → next ≤ split
+        first split from to same =
+            ⊎-elim (λ last. omega arith)
+            (λ earlier. absurd (below-not (pairAt next) (pairAt (best .split)) under (rw same at (so-far .smallest .least split from earlier))))
+            (last-or k split to)
+
+    -- it is not, and the best so far stays
+    left : AtMost (pairAt (best .split)) (pairAt next) → BestTo next best
+    left over = record {
+      pair = so-far .pair;
+      smallest = record { from = so-far .smallest .from; to = omega (arith, so-far .smallest .to); least = least; first = first };
+    }
+      where
+        least : (split : ℕ) → 1 ≤ split → split ≤ next → AtMost (pairAt (best .split)) (pairAt split)
+        least split from to =
+            ⊎-elim (λ last. subst (λ (x : ℕ). AtMost (pairAt (best .split)) (pairAt x)) (sym last) over)
+            (λ earlier. so-far .smallest .least split from earlier)
+            (last-or k split to)
+
+        first : (split : ℕ) → 1 ≤ split → split ≤ next → pairAt split ≡ pairAt (best .split) → best .split ≤ split
+        first split from to same =
+            ⊎-elim (λ last. omega (arith, so-far .smallest .to)) (λ earlier. so-far .smallest .first split from earlier same) (last-or k split to)
+
+    more : BestTo next (better best next (pairAt next))
+    unfolding better
+    more =
+        by-test (λ (b : Bool). BestTo next (cond b (record { split = next; pair = pairAt next }) best)) (lessPair (pairAt next) (best .pair))
+        (λ is. taken (rw (so-far .pair) at (less-is (pairAt next) (best .pair) is)))
+        (λ is. left (rw (so-far .pair) at (less-not (pairAt next) (best .pair) is)))
+
+  best-to : (k : ℕ) → BestTo (suc k) (bestOf pairAt k)
+  unfolding bestOf
+  best-to zero = record {
+    pair = refl;
+    smallest = record {
+      from = omega arith;
+      to = omega arith;
+      least = λ split from to. same-most (pairAt 1) (pairAt split) (ap pairAt (omega arith));
+      first = λ split from to same. from;
+    };
+  }
+  best-to (suc k) = more k (bestOf pairAt k) (best-to k)
+
+  pub best-smallest : (k : ℕ) → Smallest pairAt (suc k) (bestOf pairAt k .split)
+  best-smallest k = best-to k .smallest
+
+  pub best-pair : (k : ℕ) → bestOf pairAt k .pair ≡ pairAt (bestOf pairAt k .split)
+  best-pair k = best-to k .pair
+
+  -- there is one such split
+  pub smallest-one : (length s t : ℕ) → Smallest pairAt length s → Smallest pairAt length t → s ≡ t
+  smallest-one length s t one two =
+      let same : pairAt s ≡ pairAt t = at-most-both (pairAt s) (pairAt t) (one .least t (two .from) (two .to)) (two .least s (one .from) (one .to)) in
+      le-antisymm (one .first t (two .from) (two .to) (sym same)) (two .first s (one .from) (one .to) same)
+
+  -- the loop over the splits from 2
+  pub best-start : {pair : Pair} → pair ≡ pairAt 1 → record { split = 1; pair = pair } ≡ bestOf pairAt (2 - 2)
+  unfolding bestOf
+  best-start is = rw is
+
+  pub best-step : (split : ℕ) → 2 ≤ split → better (bestOf pairAt (split - 2)) split (pairAt split) ≡ bestOf pairAt (split + 1 - 2)
+  unfolding bestOf
+  best-step zero from = absurd (omega arith)
+  best-step (suc zero) from = absurd (omega arith)
+  best-step (suc (suc k)) from =
+      let above : suc (suc k) + 1 - 2 ≡ suc k = omega arith in
+      let here : suc (suc k) - 2 ≡ k = omega arith in
+      rw (above, here)
+
+-- ---- MinMult's choice
+
+module _ (parity : Parity) (basis : Basis) (degree : ℕ) where
+  pub mult-low : bitLen degree ≤ 1 → minMult parity basis degree ≡ 1
+  unfolding minMult
+  mult-low low = rw (le-leb (bitLen degree) 1 low, minMult)
+
+  pub mult-best : 1 < bitLen degree → minMult parity basis degree ≡ bestOf (pairOf parity basis degree) (bitLen degree - 1) .split
+  unfolding minMult
+  mult-best long = rw (lt-leb (bitLen degree) 1 long, minMult)
+
+  -- the choice is the smallest split from 1 to the bit length with the least pair
+  pub mult-smallest : 1 < bitLen degree → Smallest (pairOf parity basis degree) (bitLen degree) (minMult parity basis degree)
+  mult-smallest long =
+      let whole : suc (bitLen degree - 1) ≡ bitLen degree = omega arith in
+      rw (mult-best long)
+      (subst
+      (λ (x : ℕ). Smallest (pairOf parity basis degree) x (bestOf (pairOf parity basis degree) (bitLen degree - 1) .split))
+      whole
+      (best-smallest (pairOf parity basis degree) (bitLen degree - 1)))
+
+  pub mult-range : degree ≤ 4095 → Between 1 (minMult parity basis degree) 12
+  mult-range most = by-length (decLe (bitLen degree) 1)
+    where
+      by-length : Dec (bitLen degree ≤ 1) → Between 1 (minMult parity basis degree) 12
+      by-length (yes low) = let one = mult-low low in record { from = omega arith; to = omega arith }
+      by-length (no long) =
+          let smallest = mult-smallest (omega arith) in
+          let few = few-digits degree most in
+          record { from = smallest .from; to = omega (arith, smallest .to) }

@@ -1,0 +1,13 @@
+-- The promises are kept: each is a law of the files beside this one.
+use Prim.Native.Nat.{ℕ}
+use Rattle.algebra.specs.declared.Basis.{Basis}
+use Rattle.algebra.specs.declared.Parity.{Parity}
+use Rattle.counts.specs.Promises.{Chosen}
+use Rattle.counts.proofs.MinMultLaws.{mult-smallest}
+use Rattle.counts.proofs.ChoiceLaws.{split-range}
+
+pub chosen : (parity : Parity) (basis : Basis) (degree : ℕ) → Chosen parity basis degree
+chosen parity basis degree = record {
+  least-pair = mult-smallest parity basis degree;
+  in-range = λ strategy range. split-range strategy parity basis degree range;
+}

@@ -1,0 +1,33 @@
+-- `counts::consumed::pure_chain` meets its contract. A degree is a power of two exactly where it is its own top power.
+-- It has at least one binary digit, so one less is a number.
+use native.Mathlib.Omega.{arith}
+use borrow.Author.Needs.{needs}
+use Rattle.needed.proofs.PowerLaws.{digits-range}
+use Rattle.counts.proofs.DepthLaws.{pure-less, pure-whole}
+use Rattle.counts.proofs.consumed.pure_chain.Statement.{statement}
+use Rattle.counts.proofs.consumed.pure_chain.Tie as tie
+
+bit-length-requires : tie.Need-bit-length-requires
+bit-length-requires c κs = search needs
+
+top-power-requires : tie.Need-top-power-requires
+top-power-requires c κs = search needs
+
+sub-result : tie.Need-sub-result
+sub-result c =
+    let length = c .before .before in
+    omega (arith, length .bit-length .ensures, digits-range (length .before .args .degree) (length .before .pre))
+
+returns : tie.Need-returns
+returns c =
+    let length = c .before .before in
+    pure-less (length .before .args .degree) (length .before .pre) (length .bit-length .ensures) (c .before .top-power .ensures) (c .if1 .taken)
+
+returns-2 : tie.Need-returns-2
+returns-2 c =
+    let length = c .before .before in
+    pure-whole (length .before .args .degree) (length .before .pre) (length .bit-length .ensures) (c .before .top-power .ensures) (c .if1 .left)
+
+pub pure-chain-spec : {M : Type 1} → statement M
+pure-chain-spec =
+    tie.close (tie.spec bit-length-requires top-power-requires sub-result returns returns-2)

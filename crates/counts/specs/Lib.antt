@@ -1,0 +1,11 @@
+pub mod Slices
+pub mod PlainCount
+pub mod Pair
+pub mod MinDepth
+pub mod MinMult
+pub mod Choice
+pub mod Depth
+pub mod ConsumedBits
+pub mod Promises
+pub mod Calls
+pub mod Starred

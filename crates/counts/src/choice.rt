@@ -1,0 +1,189 @@
+// The choice of the split by either strategy, and the pair at the chosen split.
+ghost use mathlib.Core.Path.{_≡_};
+ghost use Prim.Native.Nat.{_-_, _≤_};
+ghost use Rattle.needed.specs.Powers.{Between};
+ghost use Rattle.counts.specs.Pair.{pairOf};
+ghost use Rattle.counts.specs.MinDepth.{minDepth};
+ghost use Rattle.counts.specs.MinMult.{lessPair, better, bestOf, minMult};
+ghost use Rattle.counts.specs.Choice.{splitFor};
+ghost use Rattle.counts.specs.Calls.{minDepthCall, minMultCall, countsCall};
+use super::pair::Pair;
+use super::pair::estimate_op_counts;
+use algebra::Basis;
+use algebra::Parity;
+use needed::bit_length;
+use needed::power_of_two;
+
+// Least depth, or fewest multiplications.
+pub enum SplitStrategy {
+    MinDepth,
+    MinMult,
+}
+
+// A split, or a refusal with zero.
+pub struct SplitChoice {
+    pub refusal: u8,
+    pub split: usize,
+}
+
+// The pair at the chosen split, or a refusal with zeros.
+pub struct OpCounts {
+    pub refusal: u8,
+    pub ct: usize,
+    pub pt: usize,
+}
+
+// A split with its pair.
+pub struct Best {
+    pub split: usize,
+    pub pair: Pair,
+}
+
+// MinDepth's split at a bit length: the source's formulas a and b.
+fn min_depth(length: usize) -> usize
+    requires { ⌜ Between 1 length 32 ⌝ }
+    ensures { λ r. ⌜ r ≡ minDepth length ⌝ }
+{
+    let s = length / 2;
+    let a = power_of_two(s) + power_of_two(length - s) + length - s - 3;
+    let b = power_of_two(s + 1) + power_of_two(length - s - 1) + length - s - 4;
+    if b < a { s + 1 } else { s }
+}
+
+// Whether a pair is less: ct-ct is compared first.
+fn less(p: Pair, q: Pair) -> bool
+    ensures { λ r. ⌜ r ≡ lessPair p q ⌝ }
+{
+    if p.ct < q.ct {
+        return true;
+    }
+    if q.ct < p.ct {
+        return false;
+    }
+    p.pt < q.pt
+}
+
+// The better of the best so far and a greater split.
+fn better_of(best: Best, split: usize, pair: Pair) -> Best
+    ensures { λ r. ⌜ r ≡ better best split pair ⌝ }
+{
+    let least = best.pair;
+    if less(pair, least) {
+        return Best { split, pair };
+    }
+    best
+}
+
+// The smallest split from 1 to the bit length with the least pair.
+fn best_split(degree: usize, length: usize, parity: Parity, basis: Basis) -> Best
+    requires { ⌜ Between 1 degree 4095 × Between 1 length 12 ⌝ }
+    ensures { λ r. ⌜ r ≡ bestOf (pairOf parity basis degree) (length - 1) ⌝ }
+{
+    let first = estimate_op_counts(degree, 1, parity, basis);
+    let mut best = Best {
+        split: 1,
+        pair: first,
+    };
+    let mut split = 2;
+    while split <= length {
+        let pair = estimate_op_counts(degree, split, parity, basis);
+        best = better_of(best, split, pair);
+        split += 1;
+    }
+    best
+}
+
+// MinMult's split.
+fn min_mult(degree: usize, parity: Parity, basis: Basis) -> usize
+    requires { ⌜ degree ≤ 4095 ⌝ }
+    ensures { λ r. ⌜ r ≡ minMult parity basis degree ⌝ }
+{
+    let length = bit_length(degree);
+    if length <= 1 {
+        return 1;
+    }
+    let best = best_split(degree, length, parity, basis);
+    best.split
+}
+
+// The split that a strategy chooses.
+pub fn split_for_strategy(
+    strategy: SplitStrategy,
+    degree: usize,
+    parity: Parity,
+    basis: Basis,
+) -> usize
+    requires { ⌜ Between 1 degree 4095 ⌝ }
+    ensures { λ r. ⌜ r ≡ splitFor strategy parity basis degree ⌝ }
+{
+    match strategy {
+        SplitStrategy::MinDepth => min_depth(bit_length(degree)),
+        SplitStrategy::MinMult => min_mult(degree, parity, basis),
+    }
+}
+
+// MinDepth's split of a degree: refusal 2 above 4,294,967,295, then 1 at degree 0.
+pub fn min_depth_split(degree: usize) -> SplitChoice
+    ensures { λ r. ⌜ r ≡ minDepthCall degree ⌝ }
+{
+    if 4294967295 < degree {
+        return SplitChoice {
+            refusal: 2,
+            split: 0,
+        };
+    }
+    if degree == 0 {
+        return SplitChoice {
+            refusal: 1,
+            split: 0,
+        };
+    }
+    let split = min_depth(bit_length(degree));
+    SplitChoice { refusal: 0, split }
+}
+
+// MinMult's split of a degree: refusal 2 above 4,095.
+pub fn min_mult_split(degree: usize, parity: Parity, basis: Basis) -> SplitChoice
+    ensures { λ r. ⌜ r ≡ minMultCall degree parity basis ⌝ }
+{
+    if 4095 < degree {
+        return SplitChoice {
+            refusal: 2,
+            split: 0,
+        };
+    }
+    let split = min_mult(degree, parity, basis);
+    SplitChoice { refusal: 0, split }
+}
+
+// The pair at the chosen split, (0, 0) at degree 0: refusal 2 above 4,095.
+pub fn bsgs_op_counts(
+    degree: usize,
+    strategy: SplitStrategy,
+    parity: Parity,
+    basis: Basis,
+) -> OpCounts
+    ensures { λ r. ⌜ r ≡ countsCall degree strategy parity basis ⌝ }
+{
+    if 4095 < degree {
+        return OpCounts {
+            refusal: 2,
+            ct: 0,
+            pt: 0,
+        };
+    }
+    if degree == 0 {
+        return OpCounts {
+            refusal: 0,
+            ct: 0,
+            pt: 0,
+        };
+    }
+    let split = split_for_strategy(strategy, degree, parity, basis);
+    let pair = estimate_op_counts(degree, split, parity, basis);
+    OpCounts {
+        refusal: 0,
+        ct: pair.ct,
+        pt: pair.pt,
+    }
+}

@@ -1,0 +1,49 @@
+// The depth of an evaluation.
+ghost use mathlib.Core.Path.{_≡_};
+ghost use Rattle.needed.specs.Powers.{Between};
+ghost use Rattle.counts.specs.Depth.{Deep};
+ghost use Rattle.counts.specs.Calls.{depthCall};
+use super::choice::SplitStrategy;
+use needed::bit_length;
+use needed::power_of_two;
+
+// The depth, or a refusal with zero.
+pub struct EvalDepth {
+    pub refusal: u8,
+    pub depth: usize,
+}
+
+// The depth of a degree from 1.
+pub fn depth_from_one(degree: usize, strategy: SplitStrategy) -> usize
+    requires { ⌜ Between 1 degree 4294967295 ⌝ }
+    ensures { λ r. ⌜ Deep strategy degree r ⌝ }
+{
+    let b = bit_length(degree);
+    match strategy {
+        SplitStrategy::MinDepth => b,
+        SplitStrategy::MinMult => {
+            let threshold = power_of_two(b) - power_of_two((b - 1) / 2) + 1;
+            if threshold <= degree { b + 1 } else { b }
+        }
+    }
+}
+
+// The depth of a degree, 0 at degree 0: refusal 2 above 4,294,967,295.
+pub fn bsgs_eval_depth(degree: usize, strategy: SplitStrategy) -> EvalDepth
+    ensures { λ r. ⌜ r ≡ depthCall degree strategy ⌝ }
+{
+    if 4294967295 < degree {
+        return EvalDepth {
+            refusal: 2,
+            depth: 0,
+        };
+    }
+    if degree == 0 {
+        return EvalDepth {
+            refusal: 0,
+            depth: 0,
+        };
+    }
+    let depth = depth_from_one(degree, strategy);
+    EvalDepth { refusal: 0, depth }
+}

@@ -1,0 +1,48 @@
+// The pair (ct-ct, pt-ct) of a degree at a split.
+ghost use mathlib.Core.Path.{_≡_};
+ghost use Rattle.needed.specs.Powers.{Between, Planned};
+ghost use Rattle.counts.specs.Pair.{moves, pairOf};
+use super::slices::count_slices;
+use algebra::Basis;
+use algebra::Parity;
+use needed::count_needed;
+use needed::top_power;
+
+// The numbers of ct-ct and of pt-ct multiplications.
+pub struct Pair {
+    pub ct: usize,
+    pub pt: usize,
+}
+
+// Whether one multiplication moves from ct-ct to pt-ct.
+pub fn is_moved(degree: usize, slices: usize, last: usize) -> bool
+    requires { ⌜ Between 1 degree 4294967295 ⌝ }
+    ensures { λ r. ⌜ r ≡ moves degree slices last ⌝ }
+{
+    if slices < 2 {
+        return false;
+    }
+    if 0 < last {
+        return false;
+    }
+    degree == top_power(degree)
+}
+
+// The pair at a split.
+pub fn estimate_op_counts(degree: usize, split: usize, parity: Parity, basis: Basis) -> Pair
+    requires { ⌜ Planned degree split ⌝ }
+    ensures { λ r. ⌜ r ≡ pairOf parity basis degree split ⌝ }
+{
+    let tally = count_slices(degree, split, parity);
+    let powers = count_needed(degree, split, parity, basis);
+    if is_moved(degree, tally.slices, tally.last) {
+        return Pair {
+            ct: tally.slices - 1 + powers - 1,
+            pt: tally.pt + 1,
+        };
+    }
+    Pair {
+        ct: tally.slices - 1 + powers,
+        pt: tally.pt,
+    }
+}

@@ -1,0 +1,52 @@
+// The slices of a degree, counted together with the plain multiplications that they take.
+ghost use Prim.Native.Nat.{_≤_};
+ghost use mathlib.Core.Path.{_≡_};
+ghost use Rattle.needed.specs.Powers.{Between};
+ghost use Rattle.counts.specs.PlainCount.{allowedTo};
+ghost use Rattle.counts.specs.Pair.{Tallied};
+use algebra::Parity;
+use needed::power_of_two;
+use needed::top_power;
+
+// How many slices, the pt-ct multiplications of all, and the degree of the last.
+pub struct Tally {
+    pub slices: usize,
+    pub pt: usize,
+    pub last: usize,
+}
+
+// How many of the powers 1 to the degree the parity allows.
+fn allowed_to(degree: usize, parity: Parity) -> usize
+    requires { ⌜ degree ≤ 4095 ⌝ }
+    ensures { λ r. ⌜ r ≡ allowedTo parity degree ⌝ }
+{
+    match parity {
+        Parity::Full => degree,
+        Parity::Even => degree / 2,
+        Parity::Odd => (degree + 1) / 2,
+    }
+}
+
+// The slices at a split, counted over the low and the high part of each cut.
+pub fn count_slices(degree: usize, split: usize, parity: Parity) -> Tally
+    requires { ⌜ (degree ≤ 4095) × Between 1 split 12 ⌝ }
+    ensures { λ r. ⌜ Tallied parity split degree r ⌝ }
+{
+    let base = power_of_two(split);
+    if degree < base {
+        let n = allowed_to(degree, parity);
+        return Tally {
+            slices: 1,
+            pt: n,
+            last: degree,
+        };
+    }
+    let p = top_power(degree);
+    let low = count_slices(p - 1, split, parity);
+    let high = count_slices(degree - p, split, parity);
+    Tally {
+        slices: low.slices + high.slices,
+        pt: low.pt + high.pt,
+        last: high.last,
+    }
+}

@@ -1,0 +1,7 @@
+pub mod PowerLaws
+pub mod MarkLaws
+pub mod SweepLaws
+pub mod PlaceLaws
+pub mod NeededLaws
+pub mod ListLaws
+pub mod Promised

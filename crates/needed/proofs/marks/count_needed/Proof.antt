@@ -1,0 +1,51 @@
+-- `needed::marks::count_needed` meets its contract. No mark stands beyond the greatest target, so the first places hold them all.
+-- There are at most 4,096 of these.
+use mathlib.Core.Path.{_∙_, ap}
+use Prim.Native.Nat.{_+_}
+use native.Mathlib.Omega.{arith}
+use borrow.Author.Needs.{needs}
+use Rattle.needed.specs.NeededMarks.{greatestTarget, countMarks, neededMarks, neededCount}
+use Rattle.needed.proofs.PlaceLaws.{take-padded}
+use Rattle.needed.proofs.NeededLaws.{greatest-within, needed-length}
+use Rattle.needed.proofs.marks.count_needed.Statement.{statement}
+use Rattle.needed.proofs.marks.count_needed.Tie as tie
+
+needed-marks-requires : tie.Need-needed-marks-requires
+needed-marks-requires c κs = search needs
+
+greatest-target-requires : tie.Need-greatest-target-requires
+greatest-target-requires c κs = search needs
+
+add-count-marks : tie.Need-add-count-marks
+add-count-marks c =
+    let start = c .before .before in
+    let within = greatest-within (start .args .split) (start .args .degree) (start .pre .degrees .from) in
+    omega (arith, c .greatest-target .ensures, start .pre .degrees .to)
+
+count-marks-requires : tie.Need-count-marks-requires
+count-marks-requires c κs =
+    let start = c .before .before in
+    let within = greatest-within (start .args .split) (start .args .degree) (start .pre .degrees .from) in
+    omega (arith, c .greatest-target .ensures, start .pre .degrees .to)
+
+returns : tie.Need-returns
+unfolding neededCount
+returns c =
+    let last = c .before in
+    let marks = last .before in
+    let args = marks .before .args in
+    let whole = neededMarks (args .parity) (args .basis) (args .split) (args .degree) in
+    let size = greatestTarget (args .split) (args .degree) + 1 in
+    c .count-marks .ensures
+    ∙ rw (marks .needed-marks .ensures, last .greatest-target .ensures)
+    (ap countMarks (take-padded 4096 size whole (needed-length (args .parity) (args .basis) (args .split) (args .degree))))
+
+pub count-needed-spec : {M : Type 1} → statement M
+count-needed-spec =
+    tie.close
+    (tie.spec
+    needed-marks-requires
+    greatest-target-requires
+    add-count-marks
+    count-marks-requires
+    returns)

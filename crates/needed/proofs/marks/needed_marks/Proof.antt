@@ -1,0 +1,55 @@
+-- `needed::marks::needed_marks` meets its contract. It sweeps the marks of the targets from the greatest of them.
+-- The places without marks beyond it change nothing.
+use mathlib.Core.Path.{_∙_}
+use native.Mathlib.Omega.{arith}
+use borrow.Author.Needs.{needs}
+use Rattle.needed.specs.NeededMarks.{greatestTarget, targetMarks, neededMarks}
+use Rattle.needed.proofs.PlaceLaws.{sweep-padded}
+use Rattle.needed.proofs.NeededLaws.{greatest-within}
+use Rattle.needed.proofs.marks.needed_marks.Statement.{statement}
+use Rattle.needed.proofs.marks.needed_marks.Tie as tie
+
+top-power-requires : tie.Need-top-power-requires
+top-power-requires c κs = record { from = omega arith; to = omega arith }
+
+baby-limit-requires : tie.Need-baby-limit-requires
+baby-limit-requires c κs = search needs
+
+greatest-target-requires : tie.Need-greatest-target-requires
+greatest-target-requires c κs = search needs
+
+target-marks-requires : tie.Need-target-marks-requires
+target-marks-requires c κs =
+    let start = c .before .before .before in
+    let within = greatest-within (start .args .split) (start .args .degree) (start .pre .degrees .from) in
+    omega (arith, c .greatest-target .ensures, start .pre .degrees .to)
+
+sweep-requires : tie.Need-sweep-requires
+sweep-requires c κs =
+    let last = c .before in
+    let start = last .before .before .before in
+    let within = greatest-within (start .args .split) (start .args .degree) (start .pre .degrees .from) in
+    omega (arith, last .greatest-target .ensures, start .pre .degrees .to)
+
+returns : tie.Need-returns
+unfolding neededMarks targetMarks
+returns c =
+    let targets = c .before in
+    let last = targets .before in
+    let limit = last .before in
+    let top = limit .before in
+    let args = top .before .args in
+    c .sweep .ensures
+    ∙ rw (targets .target-marks .ensures, last .greatest-target .ensures, limit .baby-limit .ensures, top .top-power .ensures)
+    (sweep-padded (args .basis) (greatestTarget (args .split) (args .degree)) 4096 _)
+
+pub needed-marks-spec : {M : Type 1} → statement M
+needed-marks-spec =
+    tie.close
+    (tie.spec
+    top-power-requires
+    baby-limit-requires
+    greatest-target-requires
+    target-marks-requires
+    sweep-requires
+    returns)

@@ -1,0 +1,85 @@
+-- The needed powers worked out: a list of marks, of which place n is true where power n is needed, swept from high to low.
+use mathlib.Core.Path.{_≡_}
+use mathlib.Core.Bool.{Bool, true, false, cond, _&&_, _||_}
+use mathlib.Core.List.{List, [], _∷_, _++_}
+use Prim.Native.Nat.{ℕ, zero, suc, _+_, _-_, max}
+use lib.Dec.{ltb, leb, eqb}
+use lib.ListN.{length, getD, set, replicate}
+use Rattle.algebra.specs.Allowed.{allows}
+use Rattle.algebra.specs.declared.Basis.{Basis}
+use Rattle.algebra.specs.declared.Basis.the-variants.{Monomial, Chebyshev}
+use Rattle.algebra.specs.declared.Parity.{Parity}
+use Rattle.number.specs.Split.{partsOf}
+use Rattle.needed.specs.Powers.{topPower}
+use Rattle.needed.specs.Needed.{partsDistance, babyLimit}
+
+-- power n is marked
+abbrev pub Marked : List Bool → ℕ → Type 0
+Marked marks n = getD marks n false ≡ true
+
+-- whether n is the top power and at least 2, or an allowed power from 3 below the limit
+unfoldable pub isTarget : Parity → ℕ → ℕ → ℕ → Bool
+isTarget parity top limit n = (eqb n top && leb 2 n) || (leb 3 n && (ltb n limit && allows parity n))
+
+-- the greatest place that may be needed at once
+abbrev pub greatestTarget : ℕ → ℕ → ℕ
+greatestTarget split degree = max (topPower degree) (babyLimit split degree - 1)
+
+-- f i, f (i + 1), .., as many as the last argument says
+unfoldable pub places : (ℕ → Bool) → ℕ → ℕ → List Bool
+places f i zero = []
+places f i (suc n) = f i ∷ places f (suc i) n
+
+-- a mark at n, if n is above 1
+unfoldable pub markAt : ℕ → List Bool → List Bool
+markAt n marks = cond (ltb 1 n) (set marks n true) marks
+
+-- in Chebyshev a mark at the distance of the parts of n
+unfoldable pub markApart : Basis → ℕ → List Bool → List Bool
+markApart Monomial n marks = marks
+markApart Chebyshev n marks = markAt (partsDistance n) marks
+
+-- and marks at the parts
+unfoldable pub markParts : Basis → ℕ → List Bool → List Bool
+markParts basis n marks = markAt (partsOf n .b) (markAt (partsOf n .a) (markApart basis n marks))
+
+-- one place of the sweep: where n is marked, so are its parts
+unfoldable pub sweepAt : Basis → ℕ → List Bool → List Bool
+sweepAt basis n marks = cond (getD marks n false) (markParts basis n marks) marks
+
+-- the sweep from n down to 2
+unfoldable pub sweepFrom : Basis → ℕ → List Bool → List Bool
+sweepFrom basis zero marks = marks
+sweepFrom basis (suc zero) marks = marks
+sweepFrom basis (suc (suc n)) marks = sweepFrom basis (suc n) (sweepAt basis (suc (suc n)) marks)
+
+-- the marks of the powers needed at once, up to the greatest
+unfoldable pub targetMarks : Parity → ℕ → ℕ → List Bool
+targetMarks parity split degree = places (isTarget parity (topPower degree) (babyLimit split degree)) 0 (greatestTarget split degree + 1)
+
+-- the marks of all needed powers
+unfoldable pub neededMarks : Parity → Basis → ℕ → ℕ → List Bool
+neededMarks parity basis split degree = sweepFrom basis (greatestTarget split degree) (targetMarks parity split degree)
+
+-- the marked places, rising; the first argument is the place of the list's first mark
+unfoldable pub markedFrom : ℕ → List Bool → List ℕ
+markedFrom i [] = []
+markedFrom i (true ∷ marks) = i ∷ markedFrom (suc i) marks
+markedFrom i (false ∷ marks) = markedFrom (suc i) marks
+
+-- the needed powers, rising
+unfoldable pub neededList : Parity → Basis → ℕ → ℕ → List ℕ
+neededList parity basis split degree = markedFrom 0 (neededMarks parity basis split degree)
+
+-- how many are marked
+unfoldable pub countMarks : List Bool → ℕ
+countMarks [] = 0
+countMarks (mark ∷ marks) = cond mark 1 0 + countMarks marks
+
+-- the number of needed powers
+unfoldable pub neededCount : Parity → Basis → ℕ → ℕ → ℕ
+neededCount parity basis split degree = countMarks (neededMarks parity basis split degree)
+
+-- a list of marks among as many places as an array has: no mark beyond the list
+unfoldable pub padded : ℕ → List Bool → List Bool
+padded size marks = marks ++ replicate (size - length marks) false
