@@ -28,10 +28,10 @@ pub fn record(dir: &Path) {
     recording(dir, "counts.tsv", counts);
     recording(dir, "lists.tsv", |r| {
         lists_whole(r);
-        folded_whole(r);
         lists(r);
         folded(r);
     });
+    recording(dir, "plans.tsv", folded_whole);
 }
 
 /// Every part starts from a seed of its own, so a change of one leaves the others alone.

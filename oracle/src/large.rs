@@ -32,7 +32,12 @@ pub fn record(dir: &Path, count: u64, seed: u64) {
     });
     recording(dir, "lists.tsv", |r| {
         let g = &mut Rng::new(seed ^ 3 << 32);
-        (0..share(15)).for_each(|_| list(r, g));
+        (1..=MAX_DEGREE).for_each(|degree| lists_of(r, g, degree));
+        (0..share(13)).for_each(|_| list(r, g));
+    });
+    recording(dir, "plans.tsv", |r| {
+        let g = &mut Rng::new(seed ^ 4 << 32);
+        (0..share(2)).for_each(|_| plan(r, g));
     });
 }
 
@@ -81,10 +86,23 @@ fn number(r: &mut Rec, g: &mut Rng) {
     }
 }
 
+/// One degree in every basis and strategy, on small whole numbers so that the file stays short, and once on f64.
+fn lists_of(r: &mut Rec, g: &mut Rng, degree: usize) {
+    for basis in BASES {
+        for strategy in STRATEGIES {
+            let c: Vec<f64> = (0..=degree).map(|_| g.below(7) as f64 - 3.0).collect();
+            r.decompose(Form::Whole, basis, g.pick(&PARITIES), strategy, &c);
+        }
+    }
+    let c = floats(g, degree + 1);
+    let (basis, parity, strategy) = (g.pick(&BASES), g.pick(&PARITIES), g.pick(&STRATEGIES));
+    r.decompose(Form::Bits, basis, parity, strategy, &c);
+}
+
 fn list(r: &mut Rec, g: &mut Rng) {
     let (basis, parity, strategy) = (g.pick(&BASES), g.pick(&PARITIES), g.pick(&STRATEGIES));
     let n = length(g, MAX_DEGREE + 1);
-    match g.below(4) {
+    match g.below(3) {
         0 => {
             let c = floats(g, n);
             r.decompose(Form::Bits, basis, parity, strategy, &c)
@@ -94,17 +112,20 @@ fn list(r: &mut Rec, g: &mut Rng) {
             let c = whole(g, shape, n);
             r.decompose(Form::Whole, basis, parity, strategy, &c)
         }
-        2 => {
+        _ => {
             let parity = foldable(g);
             let c = symmetric(g, parity, n);
             r.decompose_folded(Form::Bits, basis, parity, strategy, &c)
         }
-        _ => {
-            let parity = foldable(g);
-            let c = symmetric_whole(g, parity, n);
-            r.decompose_folded(Form::Whole, basis, parity, strategy, &c)
-        }
     }
+}
+
+fn plan(r: &mut Rec, g: &mut Rng) {
+    let (basis, strategy) = (g.pick(&BASES), g.pick(&STRATEGIES));
+    let n = length(g, MAX_DEGREE + 1);
+    let parity = foldable(g);
+    let c = symmetric_whole(g, parity, n);
+    r.decompose_folded(Form::Whole, basis, parity, strategy, &c)
 }
 
 /// A fold refuses `Full` unseen, so it is rare.

@@ -1,5 +1,5 @@
 mod Literals
-mod Signed
+pub mod Signed
 mod Refusals
 pub mod Maps
 pub mod Within

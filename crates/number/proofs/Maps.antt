@@ -1,8 +1,9 @@
--- A map over a first part, a last part and a reversed list: it may be made before or after.
+-- A map over a first part, a last part, a reversed list and a list written to: it may be made before or after.
 use mathlib.Core.Path.{_≡_, refl, sym, ap, _∙_}
 use mathlib.Core.List.{List, [], _∷_, _++_, map, map-append, reverse, reverse-cons}
 use Prim.Native.Nat.{ℕ, zero, suc}
-use lib.ListN.{take, drop}
+use lib.ListN.{take, drop, set}
+use lib.Seq.{sets}
 
 module _ {A B : Type 0} (f : A → B) where
   pub map-take : (n : ℕ) (c : List A) → take n (map f c) ≡ map f (take n c)
@@ -19,3 +20,12 @@ module _ {A B : Type 0} (f : A → B) where
   map-reverse [] = refl
   map-reverse (a ∷ c) =
       rw (reverse-cons (f a), reverse-cons a) (ap (_++ (f a ∷ [])) (map-reverse c) ∙ sym (map-append f (reverse c) (a ∷ [])))
+
+  pub map-set : (c : List A) (i : ℕ) (v : A) → set (map f c) i (f v) ≡ map f (set c i v)
+  map-set [] i v = refl
+  map-set (a ∷ c) zero v = refl
+  map-set (a ∷ c) (suc i) v = ap (f a ∷_) (map-set c i v)
+
+  pub map-sets : (vs c : List A) (i : ℕ) → sets (map f c) i (map f vs) ≡ map f (sets c i vs)
+  map-sets [] c i = refl
+  map-sets (v ∷ vs) c i = ap (λ (l : List B). sets l (suc i) (map f vs)) (map-set c i v) ∙ map-sets vs (set c i v) (suc i)

@@ -1,0 +1,10 @@
+-- `lists::call::refused` meets its contract: after a refusal every other number is 0.
+use Rattle.lists.proofs.Refusals.{zero-shape}
+use Rattle.lists.proofs.call.refused.Statement.{statement}
+use Rattle.lists.proofs.call.refused.Tie as tie
+
+returns : tie.Need-returns
+returns c = zero-shape (c .args .refusal) (c .pre)
+
+pub refused-spec : {M : Type 1} → statement M
+refused-spec = tie.close (tie.spec returns)

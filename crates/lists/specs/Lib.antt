@@ -1,0 +1,9 @@
+pub mod Tree
+pub mod Arrange
+pub mod TreeFacts
+pub mod Listing
+pub mod ListCall
+pub mod Shape
+pub mod Promises
+pub mod Starred
+pub mod Lists

@@ -1,0 +1,49 @@
+-- The plan tree (document 01, "Factorising and listing"): how a polynomial is cut into lists. It goes by degrees alone, no coefficient matters.
+use mathlib.Core.Bool.{Bool, true, false, _&&_}
+use Prim.Native.Nat.{ℕ, zero, suc, _+_, _-_, _^_}
+use lib.Dec.{ltb}
+use Rattle.algebra.specs.declared.Basis.{Basis}
+use Rattle.algebra.specs.declared.Parity.{Parity}
+use Rattle.number.specs.Bits.{bitLen}
+use Rattle.needed.specs.Powers.{topPower}
+use Rattle.counts.specs.MinDepth.{minDepth}
+use Rattle.counts.specs.Choice.{splitFor}
+use Rattle.counts.specs.declared.choice.SplitStrategy.{SplitStrategy}
+use Rattle.counts.specs.declared.choice.SplitStrategy.the-variants.{MinDepth, MinMult}
+
+-- one list; or a cut at p, with a low and a high part
+pub data Tree : Type 0 where
+  leaf : Tree
+  cut : ℕ → Tree → Tree → Tree
+
+-- a leading slice of degree d ≥ 1 at split s > 1 is listed again at split MinDepth(bit_len(d)), if that is below s and the whole degree
+-- exceeds 2^L − 2^(s−1)
+unfoldable pub listedAgain : ℕ → ℕ → ℕ → Bool
+listedAgain whole s d = ltb 0 d && (ltb 1 s && (ltb (minDepth (bitLen d)) s && ltb (2 ^ bitLen whole - 2 ^ (s - 1)) whole))
+
+-- the tree of degree d at split s: below the base 2^s one list, or, for a leading slice, the tree at the smaller split; otherwise a cut at
+-- the greatest power of two p at most d, into degrees p − 1 and d − p. Only high parts lead on. The first argument bounds the steps.
+unfoldable pub treeIn : ℕ → ℕ → ℕ → Bool → ℕ → Tree
+treeIn zero whole s lead d = leaf
+treeIn (suc steps) whole s lead d =
+    elim (ltb d (2 ^ s)) [
+      | true ↦
+          elim (lead && listedAgain whole s d) [
+            | true ↦ treeIn steps whole (minDepth (bitLen d)) lead d
+            | false ↦ leaf
+          ]
+      | false ↦ cut (topPower d) (treeIn steps whole s false (topPower d - 1)) (treeIn steps whole s lead (d - topPower d))
+    ]
+
+-- each cut takes a binary digit off both parts, and each relisting makes the split smaller: so many steps are enough
+unfoldable pub treeOf : ℕ → ℕ → Bool → ℕ → Tree
+treeOf whole s lead d = treeIn (suc (bitLen d + s)) whole s lead d
+
+-- only MinDepth lists again
+abbrev pub leads : SplitStrategy → Bool
+leads MinDepth = true
+leads MinMult = false
+
+-- the tree of a whole polynomial of degree d
+abbrev pub planTree : SplitStrategy → Parity → Basis → ℕ → Tree
+planTree strategy parity basis d = treeOf d (splitFor strategy parity basis d) (leads strategy) d

@@ -1,0 +1,104 @@
+// The list calls' answer, which numbers alone decide.
+use super::count::count_lists;
+use counts::SplitStrategy;
+use counts::split_for_strategy;
+use needed::power_of_two;
+use number::Basis;
+use number::Parity;
+ghost use mathlib.Core.Path.{_≡_};
+ghost use Prim.Native.Nat.{_<_};
+ghost use Rattle.lists.specs.Tree.{leads};
+ghost use Rattle.lists.specs.ListCall.{earlyRefusal};
+ghost use Rattle.lists.specs.Shape.{shapeOf, planShape};
+
+// What a list call answers: 0 or the refusal, then degree, base and the numbers of coefficients and lists, all zero after a refusal.
+pub struct Listed {
+    pub refusal: u8,
+    pub degree: usize,
+    pub base: usize,
+    pub coefficients: usize,
+    pub lists: usize,
+}
+
+// The answer with the split that the lister goes by.
+pub struct Shape {
+    pub split: usize,
+    pub answer: Listed,
+}
+
+// Whether the strategy lists a leading slice again.
+pub fn leads_on(strategy: SplitStrategy) -> bool
+    ensures { λ r. ⌜ r ≡ leads strategy ⌝ }
+{
+    match strategy {
+        SplitStrategy::MinDepth => true,
+        SplitStrategy::MinMult => false,
+    }
+}
+
+// The first test ahead of the boundaries that holds for n coefficients and `room` places, or 0.
+fn early_refusal(fits: bool, n: usize, room: usize) -> u8
+    ensures { λ r. ⌜ r ≡ earlyRefusal fits n room ⌝ }
+{
+    if 4096 < n {
+        return 2;
+    }
+    if n < 2 {
+        return 1;
+    }
+    if !fits {
+        return 3;
+    }
+    if room < n { 21 } else { 0 }
+}
+
+// A refusal's shape: zeros.
+fn refused(refusal: u8) -> Shape
+    requires { ⌜ 0 < refusal ⌝ }
+    ensures { λ r. ⌜ r ≡ shapeOf refusal 0 0 0 ⌝ }
+{
+    Shape {
+        split: 0,
+        answer: Listed {
+            refusal,
+            degree: 0,
+            base: 0,
+            coefficients: 0,
+            lists: 0,
+        },
+    }
+}
+
+// The shape of n coefficients, for `room` places and `boundaries` boundaries. Every test is made here, before the first write.
+pub fn shape_for(
+    strategy: SplitStrategy,
+    parity: Parity,
+    basis: Basis,
+    fits: bool,
+    n: usize,
+    room: usize,
+    boundaries: usize,
+) -> Shape
+    ensures { λ r. ⌜ r ≡ planShape strategy parity basis fits n room boundaries ⌝ }
+{
+    let early = early_refusal(fits, n, room);
+    if 0 < early {
+        return refused(early);
+    }
+    let degree = n - 1;
+    let split = split_for_strategy(strategy, degree, parity, basis);
+    let lists = count_lists(degree, degree, split, leads_on(strategy));
+    if boundaries < lists {
+        return refused(22);
+    }
+    Shape {
+        split,
+        answer: Listed {
+            refusal: 0,
+            degree,
+            base: power_of_two(split),
+            coefficients: n,
+            lists,
+        },
+    }
+}

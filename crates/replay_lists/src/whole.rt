@@ -1,0 +1,72 @@
+// Replaying decompositions on whole coefficients.
+use crate::settings::is_refused;
+use crate::settings::match_head;
+use crate::settings::match_number;
+use crate::settings::read_settings;
+use crate::settings::wide;
+use recording::Word;
+use recording::ends;
+use recording::first_wholes;
+use recording::match_wholes;
+use recording::read_wholes;
+use recording::read_word;
+use recording::refused;
+
+// The places from one boundary to the next.
+fn part(out: &[i64], from: usize, to: usize) -> &[i64] {
+    if to < from {
+        return &out[0..0];
+    }
+    if out.len() < to {
+        return &out[0..0];
+    }
+    &out[from..to]
+}
+
+// Whether the lists are ours: as many, each with the same elements.
+fn match_lists(line: &[u8], at: usize, count: usize, out: &[i64], bounds: &[u16]) -> Word {
+    let lists = match_number(line, at, count);
+    let mut ok = lists.ok;
+    let mut next = lists.next;
+    let mut from = 0;
+    let mut i = 0;
+    while i < bounds.len() {
+        if !ok || count <= i {
+            break;
+        }
+        let to = wide(bounds[i]);
+        let list = match_wholes(line, next, part(out, from, to));
+        ok = list.ok;
+        next = list.next;
+        from = to;
+        i += 1;
+    }
+    Word {
+        ok: ok && i == count,
+        next: next,
+    }
+}
+
+// decompose_whole  basis  parity  strategy  n  c..  =  degree  base  lists, then each list: n  c..
+pub fn decompose_whole_agrees(line: &[u8], at: usize) -> bool {
+    let mut coeffs = [0i64; 4096];
+    let mut out = [0i64; 4096];
+    let mut bounds = [0u16; 4096];
+    let settings = read_settings(line, at);
+    let list = read_wholes(line, settings.next, &mut coeffs);
+    let answer = read_word(line, list.next, b"=");
+    if !settings.ok || !list.ok || !answer.ok {
+        return false;
+    }
+    let b = settings.basis;
+    let p = settings.parity;
+    let s = settings.strategy;
+    let c = first_wholes(&coeffs, list.count);
+    let ours = lists::decompose_bsgs(c, b, p, s, &mut out, &mut bounds);
+    if refused(line, answer.next) {
+        return is_refused(ours);
+    }
+    let head = match_head(line, answer.next, ours);
+    let lists = match_lists(line, head.next, ours.lists, &out, &bounds);
+    head.ok && lists.ok && ends(line, lists.next)
+}
