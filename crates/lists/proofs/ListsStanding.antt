@@ -1,7 +1,7 @@
 -- The arranged coefficients are the lists one after another. By induction over a sound tree: at a cut the low part has p places, so the high lists
 -- begin p places further.
 use mathlib.Core.Path.{_≡_, refl, ap, ap₂, sym, _∙_}
-use mathlib.Core.List.{List, [], _∷_, _++_, map, append-nil, append-assoc}
+use mathlib.Core.List.{List, [], _∷_, _++_, map, append-nil, append-assoc, map-append}
 use Prim.Native.Nat.{ℕ, suc, _+_, _-_, _^_, _<_}
 use native.Mathlib.Omega.{arith}
 use lib.ListN.{length, take, drop, length-append}
@@ -13,7 +13,6 @@ use Rattle.lists.specs.Arrange.{arranged, leavesOf, lengthsOf, endsOf}
 use Rattle.lists.specs.TreeFacts.{Sound}
 use Rattle.lists.specs.Lists.{listsOf, joined, endsFrom, ListsStand}
 use Rattle.lists.proofs.Arranging.{low-size, high-size}
-use mathlib.Core.List.{map-append}
 use Rattle.lists.proofs.TreeFactsProved.{trees-sound}
 
 module _ {A : Type 0} where

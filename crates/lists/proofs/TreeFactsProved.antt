@@ -1,7 +1,7 @@
 -- The facts of specs/TreeFacts.antt, each by induction over the tree.
 use mathlib.Core.Path.{_≡_, refl, ap, ap₂, sym, _∙_}
 use mathlib.Core.Bool.{Bool, true, false, false≢true}
-use mathlib.Core.List.{_++_, map}
+use mathlib.Core.List.{_++_, map, map-append}
 use Prim.Native.Nat.{ℕ, suc, _+_, _-_, _^_, _≤_, _<_}
 use native.Mathlib.Nat.{lt-of-not-le}
 use native.Mathlib.Omega.{arith}
@@ -17,7 +17,6 @@ use Rattle.counts.proofs.ChoiceLaws.{depth-range}
 use Rattle.lists.specs.Tree.{Tree, leaf, cut}
 use Rattle.lists.specs.Arrange.{lengthsOf}
 use Rattle.lists.specs.TreeFacts.{Sound, highCuts, TreesSound, HighCutsFew, SlicesAreLeaves}
-use mathlib.Core.List.{map-append}
 use Rattle.lists.proofs.TreeLaws.{Again, tree-holds}
 
 -- ---- the cuts

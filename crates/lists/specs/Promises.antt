@@ -11,8 +11,7 @@ use Rattle.algebra.specs.Fold.{fold}
 use Rattle.algebra.specs.declared.Basis.{Basis}
 use Rattle.algebra.specs.declared.Parity.{Parity}
 use Rattle.number.specs.Numbers.{floats}
-use Rattle.number.specs.Exact.{num}
-use Rattle.number.specs.Exact.{AllTo53}
+use Rattle.number.specs.Exact.{num, AllTo53}
 use Rattle.number.specs.SumLimit.{sumFits}
 use Rattle.number.specs.Room.{Roomy}
 use Rattle.counts.specs.declared.choice.SplitStrategy.{SplitStrategy}

@@ -100,7 +100,8 @@ pub fn decompose_bsgs_f64(
     out: &mut [f64],
     bounds: &mut [u16],
 ) -> Listed
-    ensures { λ r. ⌜ ListCall floats anySum basis parity strategy (now (c .entry)) (now (out .entry)) (now (bounds .entry)) (now (out .exit)) (now (bounds .exit)) r ⌝ }
+    ensures { λ r. ⌜ ListCall floats anySum basis parity strategy (now (c .entry)) (now (out .entry)) (now (bounds .entry))
+        (now (out .exit)) (now (bounds .exit)) r ⌝ }
 {
     let n = c.len();
     let shape = shape_for(strategy, parity, basis, true, n, out.len(), bounds.len());

@@ -103,7 +103,8 @@ pub fn decompose_bsgs(
     out: &mut [i64],
     bounds: &mut [u16],
 ) -> Listed
-    ensures { λ r. ⌜ ListCall wholes sumFits basis parity strategy (now (c .entry)) (now (out .entry)) (now (bounds .entry)) (now (out .exit)) (now (bounds .exit)) r ⌝ }
+    ensures { λ r. ⌜ ListCall wholes sumFits basis parity strategy (now (c .entry)) (now (out .entry)) (now (bounds .entry))
+        (now (out .exit)) (now (bounds .exit)) r ⌝ }
 {
     let n = c.len();
     let shape = shape_for(

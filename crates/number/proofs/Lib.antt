@@ -1,6 +1,6 @@
-mod Literals
+pub mod Literals
 pub mod Signed
-mod Refusals
+pub mod Refusals
 pub mod Maps
 pub mod Within
 mod WholeFloats
@@ -19,6 +19,3 @@ pub mod FoldSame
 pub mod Transforms
 mod EvaluateSteps
 pub mod EvaluateLaws
-mod InterpolateSteps
-mod InterpolateCall
-pub mod InterpolateLaws

@@ -15,5 +15,3 @@ pub mod FoldExamples
 pub mod Evaluate
 pub mod EvaluateExamples
 pub mod Interval
-pub mod Interpolate
-pub mod InterpolateCall

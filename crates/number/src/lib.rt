@@ -1,10 +1,9 @@
-// The number layer: index splitting, factorisation, folding, evaluation, interpolation.
+// The number layer: index splitting, factorisation, folding, evaluation.
 pub mod arithmetic;
 pub mod evaluate;
 pub mod factor;
 pub mod fold;
 pub mod fold_f64;
-pub mod interpolate;
 pub mod interval;
 pub mod magnitude;
 pub mod parity;
@@ -21,10 +20,9 @@ pub use fold::Folded;
 pub use fold::fold_into;
 pub use fold::fold_parity;
 pub use fold_f64::fold_parity_f64;
-pub use interpolate::Interpolated;
-pub use interpolate::chebyshev_interpolate;
 pub use interval::Interval;
 pub use interval::change_of_basis;
+pub use interval::no_interval;
 pub use magnitude::sum_fits;
 pub use parity::detect_parity;
 pub use parity::detect_parity_f64;

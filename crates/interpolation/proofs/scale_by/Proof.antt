@@ -5,11 +5,11 @@ use mathlib.Core.List.{_++_}
 use Prim.Native.Nat.{_-_}
 use lib.ListN.{length, take, drop}
 use lib.Ieee.{nan}
 use Rattle.number.specs.Numbers.{floats}
-use Rattle.number.specs.Interpolate.{scaledBy}
+use Rattle.interpolation.specs.Interpolate.{scaledBy}
 use Rattle.algebra.proofs.Filling.{place-step, place-end}
-use Rattle.number.proofs.interpolate.scale_by.Statement.{statement}
-use Rattle.number.proofs.interpolate.scale_by.Tie as tie
+use Rattle.interpolation.proofs.scale_by.Statement.{statement}
+use Rattle.interpolation.proofs.scale_by.Tie as tie
 
 abbrev Inv-loop : tie.InvT-loop
 Inv-loop sums₀ factor i₀ sums i =

@@ -1,7 +1,7 @@
--- `number::interpolate::miscounted` meets its contract. Each branch has the facts that decide the definition's three tests, in their order.
-use Rattle.number.proofs.InterpolateCall.{uneven, none, counted}
-use Rattle.number.proofs.interpolate.miscounted.Statement.{statement}
-use Rattle.number.proofs.interpolate.miscounted.Tie as tie
+-- `interpolation::miscounted` meets its contract. Each branch has the facts that decide the definition's three tests, in their order.
+use Rattle.interpolation.proofs.InterpolateCall.{uneven, none, counted}
+use Rattle.interpolation.proofs.miscounted.Statement.{statement}
+use Rattle.interpolation.proofs.miscounted.Tie as tie
 
 returns : tie.Need-returns
 returns c = uneven _ _ (c .if1 .taken)

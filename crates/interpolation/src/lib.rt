@@ -1,17 +1,17 @@
 // Chebyshev interpolation from lent nodes and values, which stand for k = n down to 1.
-use crate::interval::Interval;
-use crate::interval::change_of_basis;
-use crate::interval::no_interval;
-use crate::parity::detect_parity_f64;
-use algebra::Basis;
-use algebra::Parity;
+use number::Basis;
+use number::Interval;
+use number::Parity;
+use number::change_of_basis;
+use number::detect_parity_f64;
+use number::no_interval;
 ghost use mathlib.Core.Path.{_≡_};
 ghost use Prim.Native.Nat.{_<_, _≤_};
 ghost use lib.ListN.{length, replicate};
 ghost use Rattle.number.specs.Numbers.{floats, float};
 ghost use Rattle.number.specs.Parity.{parityOf};
-ghost use Rattle.number.specs.Interpolate.{addNode, addNodes, scaledBy, scaled, inverseOf, coefficientsOf};
-ghost use Rattle.number.specs.InterpolateCall.{miscounted, refusalOf, interpolated, interpolatedBuffer};
+ghost use Rattle.interpolation.specs.Interpolate.{addNode, addNodes, scaledBy, scaled, inverseOf, coefficientsOf};
+ghost use Rattle.interpolation.specs.InterpolateCall.{miscounted, refusalOf, interpolated, interpolatedBuffer};
 
 // The refusal, the number of coefficients, their parity, and the interval with its change pair.
 pub struct Interpolated {

@@ -8,12 +8,12 @@ use lib.Seq.{sets}
 use lib.Ieee.{Float, lt}
 use Rattle.algebra.specs.declared.Basis.the-variants.{Chebyshev}
 use Rattle.algebra.specs.declared.Parity.the-variants.{Full}
 use Rattle.number.specs.Numbers.{float}
 use Rattle.number.specs.Refusal.{firstRefusal, unlessRefused}
 use Rattle.number.specs.Parity.{parityOf}
 use Rattle.number.specs.Interval.{changeOfBasis, noInterval}
-use Rattle.number.specs.Interpolate.{coefficientsOf}
-use Rattle.number.specs.declared.interpolate.Interpolated.{Interpolated}
+use Rattle.interpolation.specs.Interpolate.{coefficientsOf}
+use Rattle.interpolation.specs.declared.Interpolated.{Interpolated}
 
 -- nodes and values are unequal in number, none, or above 4,096
 unfoldable pub miscounted : List Float → List Float → Bool

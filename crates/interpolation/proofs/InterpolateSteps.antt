@@ -14,7 +14,7 @@ use borrow.Rule.Slice.PartMut.{midOf, putMid}
 use Rattle.algebra.specs.Operations.{Operations, double}
 use Rattle.algebra.specs.Power.{cheb}
 use Rattle.algebra.proofs.Chebyshev.{cheb-step}
-use Rattle.number.specs.Interpolate.{addNode, addNodes, scaledBy, scaled}
+use Rattle.interpolation.specs.Interpolate.{addNode, addNodes, scaledBy, scaled}
 
 module _ {A : Type 0} (𝓞 : Operations A) where
   -- T_(i+2) with the index as the code counts

@@ -12,15 +12,15 @@ use lib.Seq.{sets-eq}
 use Rattle.algebra.specs.declared.Basis.the-variants.{Chebyshev}
 use Rattle.algebra.specs.declared.Parity.{Parity}
 use Rattle.algebra.specs.declared.Parity.the-variants.{Full}
 use Rattle.number.specs.Numbers.{float}
 use Rattle.number.specs.Refusal.{unlessRefused}
 use Rattle.number.specs.Parity.{parityOf}
 use Rattle.number.specs.Interval.{changeOfBasis, noInterval}
-use Rattle.number.specs.Interpolate.{coefficientsOf}
-use Rattle.number.specs.InterpolateCall.{miscounted, refusalOf, answerOf, interpolated, interpolatedBuffer}
+use Rattle.interpolation.specs.Interpolate.{coefficientsOf}
+use Rattle.interpolation.specs.InterpolateCall.{miscounted, refusalOf, answerOf, interpolated, interpolatedBuffer}
 use Rattle.number.specs.declared.interval.Interval.{Interval}
-use Rattle.number.specs.declared.interpolate.Interpolated.{Interpolated}
+use Rattle.interpolation.specs.declared.Interpolated.{Interpolated}
 use Rattle.number.proofs.Refusals.{passed}
 
 -- what an accepted call knows of its nodes, values and room
 pub record Accepted (nodes values : List Float) (room : ℕ) : Type 0 where

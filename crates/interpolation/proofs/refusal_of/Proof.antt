@@ -1,9 +1,9 @@
--- `number::interpolate::refusal_of` meets its contract. The tests stand in the definition's order, and each branch has the facts that decide it.
+-- `interpolation::refusal_of` meets its contract. The tests stand in the definition's order, and each branch has the facts that decide it.
 use borrow.Author.Needs.{needs}
 use mathlib.Core.Path.{sym, _∙_}
-use Rattle.number.proofs.InterpolateCall.{refusal-count, refusal-interval, refusal-room, no-refusal}
-use Rattle.number.proofs.interpolate.refusal_of.Statement.{statement}
-use Rattle.number.proofs.interpolate.refusal_of.Tie as tie
+use Rattle.interpolation.proofs.InterpolateCall.{refusal-count, refusal-interval, refusal-room, no-refusal}
+use Rattle.interpolation.proofs.refusal_of.Statement.{statement}
+use Rattle.interpolation.proofs.refusal_of.Tie as tie
 
 miscounted-requires : tie.Need-miscounted-requires
 miscounted-requires c κs = search needs

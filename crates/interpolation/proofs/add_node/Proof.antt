@@ -7,14 +7,14 @@ use Prim.Native.Nat.{ℕ, _+_, _-_}
 use lib.ListN.{length, take, drop}
 use lib.Ieee.{Float, nan}
 use Rattle.algebra.specs.Power.{cheb}
 use Rattle.number.specs.Numbers.{floats}
-use Rattle.number.specs.Interpolate.{addNode}
+use Rattle.interpolation.specs.Interpolate.{addNode}
 use Rattle.number.proofs.Literals.{one-is}
 use Rattle.algebra.proofs.Chebyshev.{cheb-zero, cheb-one}
 use Rattle.algebra.proofs.Filling.{place-step, place-end}
-use Rattle.number.proofs.InterpolateSteps.{cheb-next, node-none, node-cons}
-use Rattle.number.proofs.interpolate.add_node.Statement.{statement}
-use Rattle.number.proofs.interpolate.add_node.Tie as tie
+use Rattle.interpolation.proofs.InterpolateSteps.{cheb-next, node-none, node-cons}
+use Rattle.interpolation.proofs.add_node.Statement.{statement}
+use Rattle.interpolation.proofs.add_node.Tie as tie
 
 abbrev Inv-loop : tie.InvT-loop
 Inv-loop sums₀ node value two t-prev₀ t₀ i₀ sums t-prev t i =

@@ -4,9 +4,9 @@ use borrow.Author.Needs.{needs}
 use mathlib.Core.Path.{sym, _∙_}
 use lib.ListN.{length}
 use lib.Seq.{length-take-le}
-use Rattle.number.proofs.InterpolateCall.{accepted, answered, refused}
-use Rattle.number.proofs.interpolate.chebyshev_interpolate.Statement.{statement}
-use Rattle.number.proofs.interpolate.chebyshev_interpolate.Tie as tie
+use Rattle.interpolation.proofs.InterpolateCall.{accepted, answered, refused}
+use Rattle.interpolation.proofs.chebyshev_interpolate.Statement.{statement}
+use Rattle.interpolation.proofs.chebyshev_interpolate.Tie as tie
 
 refusal-of-requires : tie.Need-refusal-of-requires
 refusal-of-requires c κs = search needs

@@ -5,11 +5,11 @@ use mathlib.Core.List.{List, _++_}
 use Prim.Native.Nat.{_-_}
 use lib.ListN.{length, take, drop, replicate}
 use lib.Ieee.{Float, nan}
 use Rattle.number.specs.Numbers.{floats}
 use Rattle.number.proofs.Literals.{zero-is}
 use Rattle.algebra.proofs.Filling.{place-step, place-end}
-use Rattle.number.proofs.interpolate.clear.Statement.{statement}
-use Rattle.number.proofs.interpolate.clear.Tie as tie
+use Rattle.interpolation.proofs.clear.Statement.{statement}
+use Rattle.interpolation.proofs.clear.Tie as tie
 
 abbrev cleared : List Float → List Float
 cleared sums = replicate (length sums) (floats .zero)

@@ -3,11 +3,11 @@ use borrow.Author.Needs.{needs}
 use mathlib.Core.Path.{ap, _∙_}
 use Prim.Native.Nat.{ℕ}
 use lib.ListN.{length, replicate}
 use Rattle.number.specs.Numbers.{floats, float}
 use Rattle.number.specs.Parity.{parityOf}
-use Rattle.number.specs.Interpolate.{scaled, addNodes, inverseOf}
-use Rattle.number.proofs.interpolate.fill.Statement.{statement}
-use Rattle.number.proofs.interpolate.fill.Tie as tie
+use Rattle.interpolation.specs.Interpolate.{scaled, addNodes, inverseOf}
+use Rattle.interpolation.proofs.fill.Statement.{statement}
+use Rattle.interpolation.proofs.fill.Tie as tie
 
 clear-requires : tie.Need-clear-requires
 clear-requires c κs = search needs

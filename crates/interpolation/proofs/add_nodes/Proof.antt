@@ -5,11 +5,11 @@ use mathlib.Core.Path.{_≡_, refl, sym, ap, _∙_}
 use Prim.Native.Nat.{_+_, _-_}
 use lib.ListN.{length, drop}
 use lib.Ieee.{nan}
 use Rattle.number.specs.Numbers.{floats}
-use Rattle.number.specs.Interpolate.{addNodes}
-use Rattle.number.proofs.InterpolateSteps.{nodes-step, nodes-end}
-use Rattle.number.proofs.interpolate.add_nodes.Statement.{statement}
-use Rattle.number.proofs.interpolate.add_nodes.Tie as tie
+use Rattle.interpolation.specs.Interpolate.{addNodes}
+use Rattle.interpolation.proofs.InterpolateSteps.{nodes-step, nodes-end}
+use Rattle.interpolation.proofs.add_nodes.Statement.{statement}
+use Rattle.interpolation.proofs.add_nodes.Tie as tie
 
 abbrev Inv-loop : tie.InvT-loop
 Inv-loop sums₀ nodes values k₀ sums k =

@@ -7,12 +7,12 @@ use lib.ListN.{length, getD, set, length-set}
 use lib.IntN.{pos}
 use lib.Ieee.{nan, binary64, mul, div, ofBits, ofInt}
 use borrow.Rule.Slice.PartMut.{same-len-mid}
 use Rattle.number.specs.Numbers.{floats}
-use Rattle.number.specs.Interpolate.{scaledBy}
+use Rattle.interpolation.specs.Interpolate.{scaledBy}
 use Rattle.number.proofs.Literals.{one-is}
-use Rattle.number.proofs.InterpolateSteps.{count-fits, head-part, scaled-parts}
-use Rattle.number.proofs.interpolate.scale.Statement.{statement}
-use Rattle.number.proofs.interpolate.scale.Tie as tie
+use Rattle.interpolation.proofs.InterpolateSteps.{count-fits, head-part, scaled-parts}
+use Rattle.interpolation.proofs.scale.Statement.{statement}
+use Rattle.interpolation.proofs.scale.Tie as tie
 
 int-to-float-inv-n : tie.Need-int-to-float-inv-n
 int-to-float-inv-n c = count-fits (c .before .before .args .n) (search needs)

@@ -12,7 +12,7 @@ use Rattle.algebra.specs.Ring.{Ring}
 use Rattle.algebra.specs.Value.{dot}
 use Rattle.algebra.proofs.RingLaws as R
 use Rattle.algebra.proofs.Sums.{dot-nil, dot-cons}
-use Rattle.number.specs.Interpolate.{addNode, addNodes, scaledBy, scaled}
+use Rattle.interpolation.specs.Interpolate.{addNode, addNodes, scaledBy, scaled}
 
 module _ {A : Type 0} (𝓞 : Operations A) where
   -- a node's term at place j, where the list starts at place m

@@ -1,0 +1,3 @@
+mod InterpolateSteps
+mod InterpolateCall
+pub mod InterpolateLaws

@@ -1,0 +1,3 @@
+pub mod Interpolate
+pub mod InterpolateCall
+pub mod InterpolateExamples
