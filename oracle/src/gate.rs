@@ -374,6 +374,17 @@ pub fn bare(r: &mut Rec, g: &mut Rng, degree: usize) {
     }
 }
 
+/// Each power of two with its neighbours and each band's ends with the degrees just outside, above the degrees that are recorded all.
+fn near_ends() -> Vec<usize> {
+    let powers = (7..=12).flat_map(|k| (1usize << k) - 1..=(1usize << k) + 1);
+    let bands = BANDS.into_iter().flat_map(|(a, b)| [a - 1, a, b, b + 1]);
+    let mut all: Vec<usize> = powers.chain(bands).collect();
+    all.retain(|d| (67..=MAX_DEGREE).contains(d));
+    all.sort();
+    all.dedup();
+    all
+}
+
 fn lists_whole(r: &mut Rec) {
     let g = &mut rng(8);
     r.decompose(
@@ -421,9 +432,10 @@ fn lists_whole(r: &mut Rec) {
                     );
                 }
             }
-            for degree in [4_064, MAX_DEGREE] {
-                let c: Vec<f64> = (0..=degree).map(|_| g.below(10) as f64).collect();
-                r.decompose(Form::Whole, basis, Parity::Full, strategy, &c);
+            // Small numbers, so that the file stays short.
+            for degree in near_ends() {
+                let c: Vec<f64> = (0..=degree).map(|_| g.below(3) as f64).collect();
+                r.decompose(Form::Whole, basis, g.pick(&PARITIES), strategy, &c);
             }
             let parity = g.pick(&PARITIES);
             let at = MAX_DEGREE - g.below(64);
@@ -433,20 +445,6 @@ fn lists_whole(r: &mut Rec) {
                 parity,
                 strategy,
                 &one_place(MAX_DEGREE + 1, at, MAX_SUM),
-            );
-        }
-        for degree in edges(512, 1)
-            .into_iter()
-            .filter(|&d| d > 66)
-            .chain([1_008, 1_009, 1_023, 1_024, 2_016, 2_017])
-        {
-            let c: Vec<f64> = (0..=degree).map(|_| g.below(10) as f64).collect();
-            r.decompose(
-                Form::Whole,
-                basis,
-                Parity::Full,
-                SplitStrategy::MinDepth,
-                &c,
             );
         }
     }
@@ -520,13 +518,22 @@ fn lists(r: &mut Rec) {
                     r.decompose(Form::Bits, basis, g.pick(&PARITIES), strategy, &c);
                 }
             }
-            for degree in edges(64, 1).into_iter().filter(|&d| d > 17) {
+            for degree in edges(129, 1).into_iter().filter(|&d| d > 17) {
                 let c = floats(g, degree + 1);
                 r.decompose(Form::Bits, basis, g.pick(&PARITIES), strategy, &c);
             }
         }
     }
-    for degree in [127, 511, MAX_DEGREE] {
+    // From here on a NaN, which is short, fills the places between the special floats, and the settings take turns.
+    for (i, degree) in near_ends().into_iter().enumerate() {
+        let mut c = vec![f64::NAN; degree + 1];
+        for at in [0, 1, degree / 4, degree / 2, degree - 1, degree] {
+            c[at] = float(g, 3);
+        }
+        let (basis, strategy) = (BASES[i % 2], STRATEGIES[i / 2 % 2]);
+        r.decompose(Form::Bits, basis, g.pick(&PARITIES), strategy, &c);
+    }
+    for degree in [127, MAX_DEGREE] {
         let c: Vec<f64> = (0..=degree).map(|_| float(g, 4)).collect();
         r.decompose(
             Form::Bits,
