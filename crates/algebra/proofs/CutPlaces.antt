@@ -5,7 +5,7 @@ use Prim.Native.Nat.{ℕ, zero, suc, _+_, _-_, _≤_, _<_}
 use native.Mathlib.Omega.{arith}
 use lib.ListN.{length, getD, take, drop, length-append, length-reverse, length-drop, length-map}
 use lib.Seq.{take-at, drop-at, getD-take, getD-drop, length-take-le}
-use Rattle.algebra.specs.Cut.{less, doubled, lowered, cutAt}
+use Rattle.algebra.specs.Cut.{differences, doubled, lowered, cutAt}
 use Rattle.algebra.specs.Operations.{Operations, double}
 use Rattle.algebra.specs.Ring.{Ring}
 use Rattle.algebra.specs.declared.Basis.{Basis}
@@ -15,11 +15,11 @@ use Rattle.algebra.proofs.RingLaws as R
 
 module _ {A : Type 0} (𝓞 : Operations A) where
   -- the first list's length
-  pub length-less : (xs ys : List A) → length (less 𝓞 xs ys) ≡ length xs
-  unfolding less
-  length-less [] ys = refl
-  length-less (x ∷ xs) [] = refl
-  length-less (x ∷ xs) (y ∷ ys) = ap suc (length-less xs ys)
+  pub length-differences : (xs ys : List A) → length (differences 𝓞 xs ys) ≡ length xs
+  unfolding differences
+  length-differences [] ys = refl
+  length-differences (x ∷ xs) [] = refl
+  length-differences (x ∷ xs) (y ∷ ys) = ap suc (length-differences xs ys)
 
   -- doubling keeps the length
   pub length-doubled : (xs : List A) → length (doubled 𝓞 xs) ≡ length xs
@@ -32,8 +32,8 @@ module _ {A : Type 0} (𝓞 : Operations A) where
     pub length-lowered : length (lowered 𝓞 p c) ≡ p
     unfolding lowered
     length-lowered =
-        length-reverse (less 𝓞 (reverse (take p c)) (drop (suc p) c))
-        ∙ length-less (reverse (take p c)) (drop (suc p) c)
+        length-reverse (differences 𝓞 (reverse (take p c)) (drop (suc p) c))
+        ∙ length-differences (reverse (take p c)) (drop (suc p) c)
         ∙ length-reverse (take p c)
         ∙ length-take-le p c under
 
@@ -58,12 +58,12 @@ module _ {A : Type 0} (𝓡 : Ring A) where
   open Operations ops using (zero as 𝟘, sub as _⊖_)
 
   infixl 6 _⊖_
-  getD-less : (xs ys : List A) (m : ℕ) → m < length xs → getD (less ops xs ys) m 𝟘 ≡ getD xs m 𝟘 ⊖ getD ys m 𝟘
-  unfolding less
-  getD-less [] ys m h = absurd (omega arith)
-  getD-less (x ∷ xs) [] m h = sym (R.sub-zero 𝓡 (getD (x ∷ xs) m 𝟘))
-  getD-less (x ∷ xs) (y ∷ ys) zero h = refl
-  getD-less (x ∷ xs) (y ∷ ys) (suc m) h = getD-less xs ys m (omega arith)
+  getD-differences : (xs ys : List A) (m : ℕ) → m < length xs → getD (differences ops xs ys) m 𝟘 ≡ getD xs m 𝟘 ⊖ getD ys m 𝟘
+  unfolding differences
+  getD-differences [] ys m h = absurd (omega arith)
+  getD-differences (x ∷ xs) [] m h = sym (R.sub-zero 𝓡 (getD (x ∷ xs) m 𝟘))
+  getD-differences (x ∷ xs) (y ∷ ys) zero h = refl
+  getD-differences (x ∷ xs) (y ∷ ys) (suc m) h = getD-differences xs ys m (omega arith)
 
   -- r_i = c_i - c_(2p-i)
   pub getD-lowered : (p : ℕ) (c : List A) → p ≤ length c → (i : ℕ) → i < p → getD (lowered ops p c) i 𝟘 ≡ getD c i 𝟘 ⊖ getD c (p + (p - i)) 𝟘
@@ -71,10 +71,10 @@ module _ {A : Type 0} (𝓡 : Ring A) where
   getD-lowered p c under i h =
       let taken : length (take p c) ≡ p = length-take-le p c under in
       let turned : length (reverse (take p c)) ≡ p = length-reverse (take p c) ∙ taken in
-      let size : length (less ops (reverse (take p c)) (drop (suc p) c)) ≡ p = length-less ops (reverse (take p c)) (drop (suc p) c) ∙ turned in
+      let size : length (differences ops (reverse (take p c)) (drop (suc p) c)) ≡ p = length-differences ops (reverse (take p c)) (drop (suc p) c) ∙ turned in
       let mirrored : suc p + (p - suc i) ≡ p + (p - i) = omega arith in
-      getD-reverse (less ops (reverse (take p c)) (drop (suc p) c)) (p - suc i) i 𝟘 (omega arith)
-      ∙ getD-less (reverse (take p c)) (drop (suc p) c) (p - suc i) (omega arith)
+      getD-reverse (differences ops (reverse (take p c)) (drop (suc p) c)) (p - suc i) i 𝟘 (omega arith)
+      ∙ getD-differences (reverse (take p c)) (drop (suc p) c) (p - suc i) (omega arith)
       ∙ ap₂ _⊖_
       (getD-reverse (take p c) i (p - suc i) 𝟘 (omega arith) ∙ getD-take p c i 𝟘 h)
       (getD-drop (suc p) c (p - suc i) 𝟘 ∙ ap (λ k. getD c k 𝟘) mirrored)

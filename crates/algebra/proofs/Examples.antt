@@ -2,10 +2,10 @@
 use mathlib.Core.Path.{_≡_, refl}
 use mathlib.Core.List.{[], _∷_, map}
 use lib.IntN.{pos, negsuc, _+ℤ_, _*ℤ_}
-use Rattle.algebra.specs.Cut.{less, doubled, lowered, cutAt}
+use Rattle.algebra.specs.Cut.{differences, doubled, lowered, cutAt}
 use Rattle.algebra.specs.Fold.{everySecond, coeffR, addR, sumRFrom, fold, foldedPoint, unfolded}
 use Rattle.algebra.specs.Magnitude.{sumAbs}
-use Rattle.algebra.specs.Operations.{wholes}
+use Rattle.algebra.specs.Operations.{wholeOps}
 use Rattle.algebra.specs.Power.{pow, cheb, power}
 use Rattle.algebra.specs.Remainder.{rem}
 use Rattle.algebra.specs.Value.{sum, dot, value}
@@ -15,80 +15,80 @@ use Rattle.algebra.specs.declared.Parity.the-variants.{Even, Odd}
 -- ---- powers and values
 
 -- T_0 .. T_7 at 2 are 1, 2, 7, 26, 97, 362, 1351, 5042
-seventh : cheb wholes (pos 2) 7 ≡ pos 5042
+seventh : cheb wholeOps (pos 2) 7 ≡ pos 5042
 unfolding cheb
 seventh = refl
 
 -- 1 + 2·2 + 3·4 + 4·8 + 5·16 + 6·32
-monomial-at-2 : value wholes Monomial (pos 2) (map pos (1 ∷ 2 ∷ 3 ∷ 4 ∷ 5 ∷ 6 ∷ [])) ≡ pos 321
+monomial-at-2 : value wholeOps Monomial (pos 2) (map pos (1 ∷ 2 ∷ 3 ∷ 4 ∷ 5 ∷ 6 ∷ [])) ≡ pos 321
 unfolding dot sum pow
 monomial-at-2 = refl
 
 -- 1 + 2·2 + 3·7 + 4·26 + 5·97 + 6·362
-chebyshev-at-2 : value wholes Chebyshev (pos 2) (map pos (1 ∷ 2 ∷ 3 ∷ 4 ∷ 5 ∷ 6 ∷ [])) ≡ pos 2787
+chebyshev-at-2 : value wholeOps Chebyshev (pos 2) (map pos (1 ∷ 2 ∷ 3 ∷ 4 ∷ 5 ∷ 6 ∷ [])) ≡ pos 2787
 unfolding dot sum cheb
 chebyshev-at-2 = refl
 
 -- ---- the cut of 1 + 2·T_1 + 3·T_2 + 4·T_3 at 2: (1 - 2·T_1) + T_2·(3 + 8·T_1)
 
 -- r_1 = 2 - 4, q_0 = 3 as it is, q_1 = 2·4
-cut-at-2 : cutAt wholes Chebyshev 2 (map pos (1 ∷ 2 ∷ 3 ∷ 4 ∷ [])) ≡ pos 1 ∷ negsuc 1 ∷ pos 3 ∷ pos 8 ∷ []
-unfolding cutAt lowered less doubled
+cut-at-2 : cutAt wholeOps Chebyshev 2 (map pos (1 ∷ 2 ∷ 3 ∷ 4 ∷ [])) ≡ pos 1 ∷ negsuc 1 ∷ pos 3 ∷ pos 8 ∷ []
+unfolding cutAt lowered differences doubled
 cut-at-2 = refl
 
 -- at 5, where T_1, T_2, T_3 are 5, 49, 485: the whole
-whole-at-5 : value wholes Chebyshev (pos 5) (map pos (1 ∷ 2 ∷ 3 ∷ 4 ∷ [])) ≡ pos 2098
+whole-at-5 : value wholeOps Chebyshev (pos 5) (map pos (1 ∷ 2 ∷ 3 ∷ 4 ∷ [])) ≡ pos 2098
 unfolding dot sum cheb
 whole-at-5 = refl
 
 -- the parts: low is -9 and high is 43
-low-at-5 : value wholes Chebyshev (pos 5) (pos 1 ∷ negsuc 1 ∷ []) ≡ negsuc 8
+low-at-5 : value wholeOps Chebyshev (pos 5) (pos 1 ∷ negsuc 1 ∷ []) ≡ negsuc 8
 unfolding dot sum cheb
 low-at-5 = refl
 
-high-at-5 : value wholes Chebyshev (pos 5) (pos 3 ∷ pos 8 ∷ []) ≡ pos 43
+high-at-5 : value wholeOps Chebyshev (pos 5) (pos 3 ∷ pos 8 ∷ []) ≡ pos 43
 unfolding dot sum cheb
 high-at-5 = refl
 
 -- and together they are the whole; with q_0 doubled too, high would be 46
-parts-at-5 : negsuc 8 +ℤ power wholes Chebyshev (pos 5) 2 *ℤ pos 43 ≡ pos 2098
+parts-at-5 : negsuc 8 +ℤ power wholeOps Chebyshev (pos 5) 2 *ℤ pos 43 ≡ pos 2098
 unfolding cheb
 parts-at-5 = refl
 
 -- a cut that leaves high one coefficient changes nothing: q_0 is not doubled
-cut-at-last : cutAt wholes Chebyshev 2 (map pos (1 ∷ 2 ∷ 3 ∷ [])) ≡ map pos (1 ∷ 2 ∷ 3 ∷ [])
-unfolding cutAt lowered less doubled
+cut-at-last : cutAt wholeOps Chebyshev 2 (map pos (1 ∷ 2 ∷ 3 ∷ [])) ≡ map pos (1 ∷ 2 ∷ 3 ∷ [])
+unfolding cutAt lowered differences doubled
 cut-at-last = refl
 
 -- of powers a cut changes nothing
-cut-monomial : cutAt wholes Monomial 2 (map pos (1 ∷ 2 ∷ 3 ∷ 4 ∷ [])) ≡ map pos (1 ∷ 2 ∷ 3 ∷ 4 ∷ [])
+cut-monomial : cutAt wholeOps Monomial 2 (map pos (1 ∷ 2 ∷ 3 ∷ 4 ∷ [])) ≡ map pos (1 ∷ 2 ∷ 3 ∷ 4 ∷ [])
 unfolding cutAt
 cut-monomial = refl
 
 -- ---- folds
 
 -- 1 + 3·T_2 + 5·T_4 is 1 + 3·T_1 + 5·T_2 at T_2
-even-fold : fold wholes Chebyshev Even (map pos (1 ∷ 0 ∷ 3 ∷ 0 ∷ 5 ∷ [])) ≡ map pos (1 ∷ 3 ∷ 5 ∷ [])
+even-fold : fold wholeOps Chebyshev Even (map pos (1 ∷ 0 ∷ 3 ∷ 0 ∷ 5 ∷ [])) ≡ map pos (1 ∷ 3 ∷ 5 ∷ [])
 unfolding fold everySecond
 even-fold = refl
 
 -- x + 2·x³ is x·(1 + 2·y) at y = x²
-odd-monomial-fold : fold wholes Monomial Odd (map pos (0 ∷ 1 ∷ 0 ∷ 2 ∷ [])) ≡ map pos (1 ∷ 2 ∷ [])
+odd-monomial-fold : fold wholeOps Monomial Odd (map pos (0 ∷ 1 ∷ 0 ∷ 2 ∷ [])) ≡ map pos (1 ∷ 2 ∷ [])
 unfolding fold everySecond
 odd-monomial-fold = refl
 
 -- T_1 + 2·T_3 is x·(R_0 + 2·R_1) at T_2, with R_0 = 1 and R_1 = 2·T_1 - 1
-odd-chebyshev-fold : fold wholes Chebyshev Odd (map pos (0 ∷ 1 ∷ 0 ∷ 2 ∷ [])) ≡ negsuc 0 ∷ pos 4 ∷ []
+odd-chebyshev-fold : fold wholeOps Chebyshev Odd (map pos (0 ∷ 1 ∷ 0 ∷ 2 ∷ [])) ≡ negsuc 0 ∷ pos 4 ∷ []
 unfolding fold everySecond sumRFrom addR coeffR
 odd-chebyshev-fold = refl
 
 -- at 3: T_2 = 17, and 3·(-1 + 4·17) = 201 = 3 + 2·99
-odd-chebyshev-at-3 : unfolded wholes Odd (pos 3) (value wholes Chebyshev (foldedPoint wholes Chebyshev Odd (pos 3)) (negsuc 0 ∷ pos 4 ∷ [])) ≡ pos 201
+odd-chebyshev-at-3 : unfolded wholeOps Odd (pos 3) (value wholeOps Chebyshev (foldedPoint wholeOps Chebyshev Odd (pos 3)) (negsuc 0 ∷ pos 4 ∷ [])) ≡ pos 201
 unfolding unfolded foldedPoint dot sum cheb
 odd-chebyshev-at-3 = refl
 
 -- R_2 = 2·T_2 - 2·T_1 + 1
-second-R : coeffR wholes 2 0 ∷ coeffR wholes 2 1 ∷ coeffR wholes 2 2 ∷ coeffR wholes 2 3 ∷ [] ≡ pos 1 ∷ negsuc 1 ∷ pos 2 ∷ pos 0 ∷ []
+second-R : coeffR wholeOps 2 0 ∷ coeffR wholeOps 2 1 ∷ coeffR wholeOps 2 2 ∷ coeffR wholeOps 2 3 ∷ [] ≡ pos 1 ∷ negsuc 1 ∷ pos 2 ∷ pos 0 ∷ []
 unfolding coeffR
 second-R = refl
 

@@ -10,7 +10,7 @@ use mir.Syntax.{Width, w64}
 use mir.Val.{SFits, toZ, ofZ}
 use mir.Facts.{toZ-ofZ}
 use Rattle.algebra.specs.Magnitude.{sumAbs}
-use Rattle.algebra.specs.Operations.{double, wholes}
+use Rattle.algebra.specs.Operations.{double, wholeOps}
 use Rattle.algebra.proofs.Magnitudes.{abs-add, abs-sub, abs-double, abs-getD}
 
 mag-abs : (z : ℤ) → mag z ≤ natAbs z
@@ -30,8 +30,8 @@ pub fits-sub : (a b : ℤ) → natAbs a + natAbs b < 2 ^ 63 → SFits w64 (a -�
 fits-sub a b h = fits-abs (a -ℤ b) (omega (arith, abs-sub a b))
 
 -- a double
-pub fits-double : (a : ℤ) → natAbs a < 2 ^ 62 → SFits w64 (double wholes a)
-fits-double a h = fits-abs (double wholes a) (omega (arith, abs-double a))
+pub fits-double : (a : ℤ) → natAbs a < 2 ^ 62 → SFits w64 (double wholeOps a)
+fits-double a h = fits-abs (double wholeOps a) (omega (arith, abs-double a))
 
 -- an element of a list
 pub fits-getD : (c : List ℤ) (i : ℕ) → sumAbs c < 2 ^ 63 → SFits w64 (getD c i (pos 0))

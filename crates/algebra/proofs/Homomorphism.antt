@@ -5,7 +5,7 @@ use mathlib.Core.List.{List, map}
 use Prim.Native.Nat.{ℕ, zero, suc, _<_}
 use lib.ListN.{length, getD, List·getD-map, length-map}
 use lib.IntN.{ℤ}
-use Rattle.algebra.specs.Operations.{Operations, double, wholes}
+use Rattle.algebra.specs.Operations.{Operations, double, wholeOps}
 use Rattle.algebra.specs.Power.{pow, cheb, power}
 use Rattle.algebra.specs.Remainder.{rem}
 use Rattle.algebra.specs.Value.{sum, dot, value}
@@ -65,7 +65,7 @@ module _ {A B : Type 0} {𝓞 : Operations A} {𝓟 : Operations B} {φ : A → 
   hom-value basis x c = hom-dot (power 𝓞 basis x) (power 𝓟 basis (φ x)) (hom-power basis x) c
 
 -- the remainder by m, as a plain number
-pub remainder-homomorphism : (m : ℕ) → 0 < m → Homomorphism wholes (remainders m) (rem m)
+pub remainder-homomorphism : (m : ℕ) → 0 < m → Homomorphism wholeOps (remainders m) (rem m)
 unfolding rem
 remainder-homomorphism m h = record {
   zero = rem-zero m h;
@@ -77,7 +77,7 @@ remainder-homomorphism m h = record {
 }
 
 -- and as an element of the ring of those below m
-pub residue-homomorphism : (m : ℕ) (h : 0 < m) → Homomorphism wholes (residues m h .ops) (residue m h)
+pub residue-homomorphism : (m : ℕ) (h : 0 < m) → Homomorphism wholeOps (residues m h .ops) (residue m h)
 unfolding rem
 residue-homomorphism m h = record {
   zero = residue-eq refl;
@@ -89,5 +89,5 @@ residue-homomorphism m h = record {
 }
 
 -- the value's remainder is the value modulo m of the coefficients' remainders at that of x
-pub value-mod : (m : ℕ) → 0 < m → (basis : Basis) (x : ℤ) (c : List ℤ) → rem m (value wholes basis x c) ≡ value (remainders m) basis (rem m x) (map (rem m) c)
+pub value-mod : (m : ℕ) → 0 < m → (basis : Basis) (x : ℤ) (c : List ℤ) → rem m (value wholeOps basis x c) ≡ value (remainders m) basis (rem m x) (map (rem m) c)
 value-mod m h = hom-value (remainder-homomorphism m h)

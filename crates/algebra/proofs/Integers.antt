@@ -3,7 +3,7 @@ use mathlib.Core.Path.{_≡_, refl, sym, _∙_, ap}
 use Prim.Native.Nat.{zero, suc}
 use lib.IntN.{ℤ, pos, negsuc, sucℤ, predℤ, negℤ, one, _+ℤ_, _*ℤ_, sucℤ-*ℤ, predℤ-*ℤ, zero-*ℤ, *ℤ-comm, *ℤ-one}
 use lib.IntN.{+ℤ-assoc, +ℤ-comm, +ℤ-idl, +ℤ-idr, +ℤ-invl, +ℤ-invr, sucℤ-+ℤ, predℤ-+ℤ}
-use Rattle.algebra.specs.Operations.{wholes}
+use Rattle.algebra.specs.Operations.{wholeOps}
 use Rattle.algebra.specs.Ring.{Ring}
 
 -- what holds at 0, and goes one up and one down, holds at every whole number
@@ -49,7 +49,7 @@ unfolding one
 -- the ring of the whole numbers
 abbrev pub integers : Ring ℤ
 integers = record {
-  ops = wholes;
+  ops = wholeOps;
   add-assoc = +ℤ-assoc;
   add-comm = +ℤ-comm;
   add-zero = +ℤ-idr;

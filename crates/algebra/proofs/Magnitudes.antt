@@ -8,7 +8,7 @@ use lib.Dec.{T, ltb, ltb→lt}
 use lib.IntN.{ℤ, pos, negsuc, negℤ, natAbs, subℕ, _+ℤ_, _-ℤ_, _*ℤ_}
 use lib.ListN.{length, getD, take, drop, take-append-drop}
 use Rattle.algebra.specs.Magnitude.{sumAbs}
-use Rattle.algebra.specs.Operations.{double, wholes}
+use Rattle.algebra.specs.Operations.{double, wholeOps}
 
 -- ---- of one number
 
@@ -44,7 +44,7 @@ abs-mul (negsuc a) (pos b) = abs-neg (pos (suc a * b))
 abs-mul (negsuc a) (negsuc b) = refl
 
 -- of the double
-pub abs-double : (a : ℤ) → natAbs (double wholes a) ≡ 2 * natAbs a
+pub abs-double : (a : ℤ) → natAbs (double wholeOps a) ≡ 2 * natAbs a
 abs-double a = abs-mul (pos 2) a
 
 -- ---- of a list
@@ -62,7 +62,7 @@ sumAbs-reverse [] = refl
 sumAbs-reverse (x ∷ xs) = rw (reverse-cons, sumAbs-append) (omega (arith, sumAbs-reverse xs))
 
 -- all doubled
-pub sumAbs-double : (xs : List ℤ) → sumAbs (map (double wholes) xs) ≡ 2 * sumAbs xs
+pub sumAbs-double : (xs : List ℤ) → sumAbs (map (double wholeOps) xs) ≡ 2 * sumAbs xs
 unfolding sumAbs
 sumAbs-double [] = refl
 sumAbs-double (x ∷ xs) = omega (arith, sumAbs-double xs, abs-double x)

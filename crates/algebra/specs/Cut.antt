@@ -8,10 +8,10 @@ use Rattle.algebra.specs.declared.Basis.the-variants.{Monomial, Chebyshe
 
 module _ {A : Type 0} (𝓞 : Operations A) where
   -- each element less the one at its place in the second list, where that has one
-  unfoldable pub less : List A → List A → List A
-  less [] ys = []
-  less (x ∷ xs) [] = x ∷ xs
-  less (x ∷ xs) (y ∷ ys) = 𝓞 .sub x y ∷ less xs ys
+  unfoldable pub differences : List A → List A → List A
+  differences [] ys = []
+  differences (x ∷ xs) [] = x ∷ xs
+  differences (x ∷ xs) (y ∷ ys) = 𝓞 .sub x y ∷ differences xs ys
 
   -- q_0 = c_p, and q_j = 2·c_(p+j) for j ≥ 1; here of the list from p on
   unfoldable pub doubled : List A → List A
@@ -20,7 +20,7 @@ module _ {A : Type 0} (𝓞 : Operations A) where
 
   -- r: the first p coefficients, of which r_(p-j) loses c_(p+j). Counted from p downwards that is place by place.
   unfoldable pub lowered : ℕ → List A → List A
-  lowered p c = reverse (less (reverse (take p c)) (drop (suc p) c))
+  lowered p c = reverse (differences (reverse (take p c)) (drop (suc p) c))
 
   -- what stands in the coefficients' places after the cut: low, then high
   unfoldable pub cutAt : Basis → ℕ → List A → List A

@@ -10,8 +10,8 @@ pub record Operations (A : Type 0) : Type 0 where
   pub neg : A → A
 
 -- the whole numbers
-abbrev pub wholes : Operations ℤ
-wholes = record { zero = pos 0; one = pos 1; add = _+ℤ_; sub = _-ℤ_; mul = _*ℤ_; neg = negℤ }
+abbrev pub wholeOps : Operations ℤ
+wholeOps = record { zero = pos 0; one = pos 1; add = _+ℤ_; sub = _-ℤ_; mul = _*ℤ_; neg = negℤ }
 
 module _ {A : Type 0} (𝓞 : Operations A) where
   -- 1 + 1

@@ -10,7 +10,7 @@ use Rattle.algebra.specs.declared.Parity.{Parity}
 use Rattle.number.specs.Bits.{bitLen, isPowerOfTwo}
 use Rattle.needed.specs.Powers.{TwoTo, Between}
 use Rattle.needed.specs.NeededMarks.{neededCount}
-use Rattle.counts.specs.Pair.{Tallied, moves, pairBy, pairOf}
+use Rattle.counts.specs.Pair.{Tallied, moves, pairBy, pairAt}
 use Rattle.counts.specs.MinDepth.{exceeds, minDepth}
 use Rattle.counts.specs.Choice.{splitFor, countsOf}
 use Rattle.counts.specs.declared.slices.Tally.{Tally}
@@ -31,17 +31,17 @@ moves-two degree slices last =
     (λ is fails. let clash : _≡_ {A = ℕ} 0 1 = cc in absurd (omega arith))
 
 module _ {parity : Parity} (basis : Basis) {split degree needed : ℕ} {tally : Tally} {test : Bool}
-    (tallied : Tallied parity split degree tally) (needed-is : needed ≡ neededCount parity basis split degree)
+    (tallied : Tallied parity degree split tally) (needed-is : needed ≡ neededCount parity basis degree split)
     (test-is : test ≡ moves degree (tally .slices) (tally .last)) where
-  pair-is : pairOf parity basis degree split ≡ pairBy tally needed degree
-  unfolding pairOf
+  pair-is : pairAt parity basis degree split ≡ pairBy tally needed degree
+  unfolding pairAt
   pair-is = rw (tallied .is, needed-is)
 
-  pub pair-moved : test ≡ true → record { ct = tally .slices - 1 + needed - 1; pt = tally .pt + 1 } ≡ pairOf parity basis degree split
+  pub pair-moved : test ≡ true → record { ct = tally .slices - 1 + needed - 1; pt = tally .pt + 1 } ≡ pairAt parity basis degree split
   unfolding pairBy
   pair-moved holds = let is = sym test-is ∙ holds in rw pair-is (rw is)
 
-  pub pair-kept : test ≡ false → record { ct = tally .slices - 1 + needed; pt = tally .pt } ≡ pairOf parity basis degree split
+  pub pair-kept : test ≡ false → record { ct = tally .slices - 1 + needed; pt = tally .pt } ≡ pairAt parity basis degree split
   unfolding pairBy
   pair-kept fails = let is = sym test-is ∙ fails in rw pair-is (rw is)
 
@@ -78,7 +78,7 @@ split-range MinDepth parity basis degree range =
 split-range MinMult parity basis degree range = mult-range parity basis degree (range .to)
 
 pub counts-some : (strategy : SplitStrategy) (parity : Parity) (basis : Basis) (degree : ℕ) → 0 < degree
-    → countsOf strategy parity basis degree ≡ pairOf parity basis degree (splitFor strategy parity basis degree)
+    → countsOf strategy parity basis degree ≡ pairAt parity basis degree (splitFor strategy parity basis degree)
 unfolding countsOf
 counts-some strategy parity basis zero some = absurd (omega arith)
 counts-some strategy parity basis (suc d) some = refl

@@ -13,7 +13,7 @@ use Rattle.algebra.specs.declared.Basis.{Basis}
 use Rattle.algebra.specs.declared.Parity.{Parity}
 use Rattle.number.specs.Bits.{bitLen}
 use Rattle.needed.specs.Powers.{Between}
-use Rattle.counts.specs.Pair.{pairOf}
+use Rattle.counts.specs.Pair.{pairAt}
 use Rattle.counts.specs.MinMult.{AtMost, Smallest, lessPair, better, bestOf, minMult}
 use Rattle.counts.specs.declared.pair.Pair.{Pair}
 use Rattle.counts.specs.declared.choice.Best.{Best}
@@ -84,87 +84,87 @@ last-or k split to = ⊎-elim (λ same. inl same) (λ less. inr (omega arith)) (
 
 -- ---- the best split
 
-module _ (pairAt : ℕ → Pair) where
+module _ (pairs : ℕ → Pair) where
   -- the best so far, with its pair
   record BestTo (length : ℕ) (best : Best) : Type 0 where
-    pub pair : best .pair ≡ pairAt (best .split)
-    pub smallest : Smallest pairAt length (best .split)
+    pub pair : best .pair ≡ pairs (best .split)
+    pub smallest : Smallest pairs length (best .split)
 
   module _ (k : ℕ) (best : Best) (so-far : BestTo (suc k) best) where
     abbrev next : ℕ
     next = suc (suc k)
 
     -- the next split is less
-    taken : Below (pairAt next) (pairAt (best .split)) → BestTo next (record { split = next; pair = pairAt next })
+    taken : Below (pairs next) (pairs (best .split)) → BestTo next (record { split = next; pair = pairs next })
     taken under = record { pair = refl; smallest = record { from = omega arith; to = omega arith; least = least; first = first } }
       where
-        least : (split : ℕ) → 1 ≤ split → split ≤ next → AtMost (pairAt next) (pairAt split)
+        least : (split : ℕ) → 1 ≤ split → split ≤ next → AtMost (pairs next) (pairs split)
         least split from to =
-            ⊎-elim (λ last. same-most (pairAt next) (pairAt split) (ap pairAt (sym last)))
-            (λ earlier. at-most-trans (pairAt next) (pairAt (best .split)) (pairAt split) (below-most _ _ under) (so-far .smallest .least split from earlier))
+            ⊎-elim (λ last. same-most (pairs next) (pairs split) (ap pairs (sym last)))
+            (λ earlier. at-most-trans (pairs next) (pairs (best .split)) (pairs split) (below-most _ _ under) (so-far .smallest .least split from earlier))
             (last-or k split to)
 
-        first : (split : ℕ) → 1 ≤ split → split ≤ next → pairAt split ≡ pairAt next → next ≤ split
+        first : (split : ℕ) → 1 ≤ split → split ≤ next → pairs split ≡ pairs next → next ≤ split
         first split from to same =
             ⊎-elim (λ last. omega arith)
-            (λ earlier. absurd (below-not (pairAt next) (pairAt (best .split)) under (rw same at (so-far .smallest .least split from earlier))))
+            (λ earlier. absurd (below-not (pairs next) (pairs (best .split)) under (rw same at (so-far .smallest .least split from earlier))))
             (last-or k split to)
 
     -- it is not, and the best so far stays
-    left : AtMost (pairAt (best .split)) (pairAt next) → BestTo next best
+    left : AtMost (pairs (best .split)) (pairs next) → BestTo next best
     left over = record {
       pair = so-far .pair;
       smallest = record { from = so-far .smallest .from; to = omega (arith, so-far .smallest .to); least = least; first = first };
     }
       where
-        least : (split : ℕ) → 1 ≤ split → split ≤ next → AtMost (pairAt (best .split)) (pairAt split)
+        least : (split : ℕ) → 1 ≤ split → split ≤ next → AtMost (pairs (best .split)) (pairs split)
         least split from to =
-            ⊎-elim (λ last. subst (λ (x : ℕ). AtMost (pairAt (best .split)) (pairAt x)) (sym last) over)
+            ⊎-elim (λ last. subst (λ (x : ℕ). AtMost (pairs (best .split)) (pairs x)) (sym last) over)
             (λ earlier. so-far .smallest .least split from earlier)
             (last-or k split to)
 
-        first : (split : ℕ) → 1 ≤ split → split ≤ next → pairAt split ≡ pairAt (best .split) → best .split ≤ split
+        first : (split : ℕ) → 1 ≤ split → split ≤ next → pairs split ≡ pairs (best .split) → best .split ≤ split
         first split from to same =
             ⊎-elim (λ last. omega (arith, so-far .smallest .to)) (λ earlier. so-far .smallest .first split from earlier same) (last-or k split to)
 
-    more : BestTo next (better best next (pairAt next))
+    more : BestTo next (better best next (pairs next))
     unfolding better
     more =
-        by-test (λ (b : Bool). BestTo next (cond b (record { split = next; pair = pairAt next }) best)) (lessPair (pairAt next) (best .pair))
-        (λ is. taken (rw (so-far .pair) at (less-is (pairAt next) (best .pair) is)))
-        (λ is. left (rw (so-far .pair) at (less-not (pairAt next) (best .pair) is)))
+        by-test (λ (b : Bool). BestTo next (cond b (record { split = next; pair = pairs next }) best)) (lessPair (pairs next) (best .pair))
+        (λ is. taken (rw (so-far .pair) at (less-is (pairs next) (best .pair) is)))
+        (λ is. left (rw (so-far .pair) at (less-not (pairs next) (best .pair) is)))
 
-  best-to : (k : ℕ) → BestTo (suc k) (bestOf pairAt k)
+  best-to : (k : ℕ) → BestTo (suc k) (bestOf pairs k)
   unfolding bestOf
   best-to zero = record {
     pair = refl;
     smallest = record {
       from = omega arith;
       to = omega arith;
-      least = λ split from to. same-most (pairAt 1) (pairAt split) (ap pairAt (omega arith));
+      least = λ split from to. same-most (pairs 1) (pairs split) (ap pairs (omega arith));
       first = λ split from to same. from;
     };
   }
-  best-to (suc k) = more k (bestOf pairAt k) (best-to k)
+  best-to (suc k) = more k (bestOf pairs k) (best-to k)
 
-  pub best-smallest : (k : ℕ) → Smallest pairAt (suc k) (bestOf pairAt k .split)
+  pub best-smallest : (k : ℕ) → Smallest pairs (suc k) (bestOf pairs k .split)
   best-smallest k = best-to k .smallest
 
-  pub best-pair : (k : ℕ) → bestOf pairAt k .pair ≡ pairAt (bestOf pairAt k .split)
+  pub best-pair : (k : ℕ) → bestOf pairs k .pair ≡ pairs (bestOf pairs k .split)
   best-pair k = best-to k .pair
 
   -- there is one such split
-  pub smallest-one : (length s t : ℕ) → Smallest pairAt length s → Smallest pairAt length t → s ≡ t
+  pub smallest-one : (length s t : ℕ) → Smallest pairs length s → Smallest pairs length t → s ≡ t
   smallest-one length s t one two =
-      let same : pairAt s ≡ pairAt t = at-most-both (pairAt s) (pairAt t) (one .least t (two .from) (two .to)) (two .least s (one .from) (one .to)) in
+      let same : pairs s ≡ pairs t = at-most-both (pairs s) (pairs t) (one .least t (two .from) (two .to)) (two .least s (one .from) (one .to)) in
       le-antisymm (one .first t (two .from) (two .to) (sym same)) (two .first s (one .from) (one .to) same)
 
   -- the loop over the splits from 2
-  pub best-start : {pair : Pair} → pair ≡ pairAt 1 → record { split = 1; pair = pair } ≡ bestOf pairAt (2 - 2)
+  pub best-start : {pair : Pair} → pair ≡ pairs 1 → record { split = 1; pair = pair } ≡ bestOf pairs (2 - 2)
   unfolding bestOf
   best-start is = rw is
 
-  pub best-step : (split : ℕ) → 2 ≤ split → better (bestOf pairAt (split - 2)) split (pairAt split) ≡ bestOf pairAt (split + 1 - 2)
+  pub best-step : (split : ℕ) → 2 ≤ split → better (bestOf pairs (split - 2)) split (pairs split) ≡ bestOf pairs (split + 1 - 2)
   unfolding bestOf
   best-step zero from = absurd (omega arith)
   best-step (suc zero) from = absurd (omega arith)
@@ -180,19 +180,19 @@ module _ (parity : Parity) (basis : Basis) (degree : ℕ) where
   unfolding minMult
   mult-low low = rw (le-leb (bitLen degree) 1 low, minMult)
 
-  pub mult-best : 1 < bitLen degree → minMult parity basis degree ≡ bestOf (pairOf parity basis degree) (bitLen degree - 1) .split
+  pub mult-best : 1 < bitLen degree → minMult parity basis degree ≡ bestOf (pairAt parity basis degree) (bitLen degree - 1) .split
   unfolding minMult
   mult-best long = rw (lt-leb (bitLen degree) 1 long, minMult)
 
   -- the choice is the smallest split from 1 to the bit length with the least pair
-  pub mult-smallest : 1 < bitLen degree → Smallest (pairOf parity basis degree) (bitLen degree) (minMult parity basis degree)
+  pub mult-smallest : 1 < bitLen degree → Smallest (pairAt parity basis degree) (bitLen degree) (minMult parity basis degree)
   mult-smallest long =
       let whole : suc (bitLen degree - 1) ≡ bitLen degree = omega arith in
       rw (mult-best long)
       (subst
-      (λ (x : ℕ). Smallest (pairOf parity basis degree) x (bestOf (pairOf parity basis degree) (bitLen degree - 1) .split))
+      (λ (x : ℕ). Smallest (pairAt parity basis degree) x (bestOf (pairAt parity basis degree) (bitLen degree - 1) .split))
       whole
-      (best-smallest (pairOf parity basis degree) (bitLen degree - 1)))
+      (best-smallest (pairAt parity basis degree) (bitLen degree - 1)))
 
   pub mult-range : degree ≤ 4095 → Between 1 (minMult parity basis degree) 12
   mult-range most = by-length (decLe (bitLen degree) 1)

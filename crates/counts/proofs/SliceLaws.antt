@@ -18,7 +18,7 @@ no-digits zero none positive = positive
 no-digits (suc d) none positive = absurd (omega (arith, some-digit (suc d) (omega arith)))
 
 -- any bound from the number of digits on gives the same slices
-same-slices : (cuts more split degree : ℕ) → bitLen degree ≤ cuts → bitLen degree ≤ more → slicesIn cuts split degree ≡ slicesIn more split degree
+same-slices : (cuts more split degree : ℕ) → bitLen degree ≤ cuts → bitLen degree ≤ more → slicesIn cuts degree split ≡ slicesIn more degree split
 unfolding slicesIn
 same-slices zero zero split degree enough enough′ = refl
 same-slices zero (suc more) split degree enough enough′ =
@@ -30,8 +30,8 @@ same-slices (suc cuts) zero split degree enough enough′ =
 same-slices (suc cuts) (suc more) split degree enough enough′ = by-test (ltb degree (2 ^ split)) refl (same-slices cuts more split)
   where
     by-test : (test : Bool) → ltb degree (2 ^ split) ≡ test
-        → ((d : ℕ) → bitLen d ≤ cuts → bitLen d ≤ more → slicesIn cuts split d ≡ slicesIn more split d)
-        → slicesIn (suc cuts) split degree ≡ slicesIn (suc more) split degree
+        → ((d : ℕ) → bitLen d ≤ cuts → bitLen d ≤ more → slicesIn cuts d split ≡ slicesIn more d split)
+        → slicesIn (suc cuts) degree split ≡ slicesIn (suc more) degree split
     by-test true is sides = rw (is, slicesIn)
     by-test false is sides =
         let some : 0 < degree = omega (arith, ltb-false degree (2 ^ split) is, pow-pos split) in
@@ -39,17 +39,17 @@ same-slices (suc cuts) (suc more) split degree enough enough′ = by-test (ltb d
         rw (is, slicesIn) (ap₂ _++_ (sides (topPower degree - 1) (omega arith) (omega arith)) (sides (degree - topPower degree) (omega arith) (omega arith)))
 
 -- degree below base is one slice
-pub slices-one : (split degree : ℕ) → degree < 2 ^ split → slicesOf split degree ≡ degree ∷ []
+pub slices-one : (split degree : ℕ) → degree < 2 ^ split → slicesOf degree split ≡ degree ∷ []
 unfolding slicesOf slicesIn
 slices-one split degree under = at-bound (bitLen degree)
   where
-    at-bound : (cuts : ℕ) → slicesIn cuts split degree ≡ degree ∷ []
+    at-bound : (cuts : ℕ) → slicesIn cuts degree split ≡ degree ∷ []
     at-bound zero = refl
     at-bound (suc cuts) = rw (lt-ltb degree (2 ^ split) under, slicesIn)
 
 -- otherwise slice p − 1 and then degree − p
 pub slices-cut : (split degree : ℕ) → 2 ^ split ≤ degree
-    → slicesOf split degree ≡ slicesOf split (topPower degree - 1) ++ slicesOf split (degree - topPower degree)
+    → slicesOf degree split ≡ slicesOf (topPower degree - 1) split ++ slicesOf (degree - topPower degree) split
 unfolding slicesOf slicesIn
 slices-cut split degree reached = at-bound (bitLen degree) refl
   where
@@ -57,7 +57,7 @@ slices-cut split degree reached = at-bound (bitLen degree) refl
     some = omega (arith, pow-pos split)
 
     at-bound : (cuts : ℕ) → bitLen degree ≡ cuts
-        → slicesIn cuts split degree ≡ slicesOf split (topPower degree - 1) ++ slicesOf split (degree - topPower degree)
+        → slicesIn cuts degree split ≡ slicesOf (topPower degree - 1) split ++ slicesOf (degree - topPower degree) split
     at-bound zero is = absurd (omega (arith, some-digit degree some))
     at-bound (suc cuts) is =
         let fall = sides-fall degree some in

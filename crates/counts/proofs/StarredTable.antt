@@ -10,7 +10,7 @@ use Rattle.counts.specs.Slices.{slicesIn, slicesOf, lastOf}
 use Rattle.counts.specs.PlainCount.{allowedTo, plainCount}
 use Rattle.needed.specs.NeededMarks.{isTarget, places, markAt, markApart, markParts, sweepAt, sweepFrom}
 use Rattle.needed.specs.NeededMarks.{targetMarks, neededMarks, countMarks, neededCount}
-use Rattle.counts.specs.Pair.{tallyOf, moves, pairBy, pairOf}
+use Rattle.counts.specs.Pair.{tallyOf, moves, pairBy, pairAt}
 use Rattle.counts.specs.MinDepth.{exceeds, minDepth}
 use Rattle.counts.specs.MinMult.{better, bestOf, minMult}
 use Rattle.counts.specs.Choice.{splitFor, countsOf}
@@ -24,8 +24,8 @@ in-both P in-monomial in-chebyshev Monomial = in-monomial
 in-both P in-monomial in-chebyshev Chebyshev = in-chebyshev
 
 pub starred : Starred
-unfolding minMultCall countsCall countsOf splitFor minMult bestOf better pairOf pairBy moves tallyOf slicesOf slicesIn lastOf plainCount allowedTo
-    neededCount countMarks neededMarks targetMarks sweepFrom sweepAt markParts markApart markAt places isTarget allows topPower
+unfolding minMultCall countsCall countsOf splitFor minMult bestOf better pairAt pairBy moves tallyOf slicesOf slicesIn lastOf plainCount allowedTo
+    neededCount countMarks neededMarks sweepFrom targetMarks markParts markApart sweepAt markAt places isTarget allows topPower
     splitOf splitRefusal partsOf powerBelow isPowerOfTwo bitLen digits exceeds minDepth depthCall depthOf bitsCall bitsOf pureChain chainBefore
 starred = record {
   split-3 = refl;

@@ -76,7 +76,7 @@ last-append (d ∷ e ∷ low) high some = last-append (e ∷ low) high some
 module _ (parity : Parity) (split degree : ℕ) where
   -- below the base
   pub tallied-one : {n : ℕ} → degree < 2 ^ split → n ≡ allowedTo parity degree
-      → Tallied parity split degree (record { slices = 1; pt = n; last = degree })
+      → Tallied parity degree split (record { slices = 1; pt = n; last = degree })
   unfolding tallyOf plainCount lastOf
   tallied-one {n} under counted = record {
     is = rw (slices-one split degree under) (ap (λ (x : ℕ). record { slices = 1; pt = x; last = degree }) whole);
@@ -87,23 +87,23 @@ module _ (parity : Parity) (split degree : ℕ) where
       whole : n ≡ allowedTo parity degree + 0
       whole = omega arith
 
-  joined : {low high : Tally} → 2 ^ split ≤ degree → low ≡ tallyOf parity (slicesOf split (topPower degree - 1))
-      → high ≡ tallyOf parity (slicesOf split (degree - topPower degree)) → 0 < length (slicesOf split (degree - topPower degree))
-      → record { slices = low .slices + high .slices; pt = low .pt + high .pt; last = high .last } ≡ tallyOf parity (slicesOf split degree)
+  joined : {low high : Tally} → 2 ^ split ≤ degree → low ≡ tallyOf parity (slicesOf (topPower degree - 1) split)
+      → high ≡ tallyOf parity (slicesOf (degree - topPower degree) split) → 0 < length (slicesOf (degree - topPower degree) split)
+      → record { slices = low .slices + high .slices; pt = low .pt + high .pt; last = high .last } ≡ tallyOf parity (slicesOf degree split)
   unfolding tallyOf
   joined reached low-is high-is some =
-      let low = slicesOf split (topPower degree - 1) in
-      let high = slicesOf split (degree - topPower degree) in
+      let low = slicesOf (topPower degree - 1) split in
+      let high = slicesOf (degree - topPower degree) split in
       rw (low-is, high-is, slices-cut split degree reached, length-append low high, plain-append parity low high, last-append low high some)
 
   -- from the base on: both sides together
   pub tallied-cut : {p : ℕ} {low high : Tally} → 2 ^ split ≤ degree → p ≡ topPower degree
-      → Tallied parity split (p - 1) low → Tallied parity split (degree - p) high
-      → Tallied parity split degree (record { slices = low .slices + high .slices; pt = low .pt + high .pt; last = high .last })
+      → Tallied parity (p - 1) split low → Tallied parity (degree - p) split high
+      → Tallied parity degree split (record { slices = low .slices + high .slices; pt = low .pt + high .pt; last = high .last })
   unfolding tallyOf
   tallied-cut {p} {low} {high} reached p-is low-tallied high-tallied =
       let top = top-power degree (omega (arith, pow-pos split)) in
-      let high-is : high ≡ tallyOf parity (slicesOf split (degree - topPower degree)) = rw p-is at high-tallied .is in
+      let high-is : high ≡ tallyOf parity (slicesOf (degree - topPower degree) split) = rw p-is at high-tallied .is in
       record {
         is = joined reached (rw p-is at low-tallied .is) high-is (rw (ap (λ (t : Tally). t .slices) high-is) at high-tallied .some);
         most = omega (arith, low-tallied .most, high-tallied .most);

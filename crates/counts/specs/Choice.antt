@@ -3,7 +3,7 @@ use Prim.Native.Nat.{ℕ, zero, suc}
 use Rattle.algebra.specs.declared.Basis.{Basis}
 use Rattle.algebra.specs.declared.Parity.{Parity}
 use Rattle.number.specs.Bits.{bitLen}
-use Rattle.counts.specs.Pair.{pairOf}
+use Rattle.counts.specs.Pair.{pairAt}
 use Rattle.counts.specs.MinDepth.{minDepth}
 use Rattle.counts.specs.MinMult.{minMult}
 use Rattle.counts.specs.declared.pair.Pair.{Pair}
@@ -18,4 +18,4 @@ splitFor MinMult parity basis degree = minMult parity basis degree
 -- the pair at the chosen split; at degree 0 it is (0, 0)
 unfoldable pub countsOf : SplitStrategy → Parity → Basis → ℕ → Pair
 countsOf strategy parity basis zero = record { ct = 0; pt = 0 }
-countsOf strategy parity basis (suc d) = pairOf parity basis (suc d) (splitFor strategy parity basis (suc d))
+countsOf strategy parity basis (suc d) = pairAt parity basis (suc d) (splitFor strategy parity basis (suc d))

@@ -7,7 +7,7 @@ use lib.Dec.{ltb, leb, eqb}
 use Rattle.algebra.specs.declared.Basis.{Basis}
 use Rattle.algebra.specs.declared.Parity.{Parity}
 use Rattle.number.specs.Bits.{bitLen}
-use Rattle.counts.specs.Pair.{pairOf}
+use Rattle.counts.specs.Pair.{pairAt}
 use Rattle.counts.specs.declared.pair.Pair.{Pair}
 use Rattle.counts.specs.declared.choice.Best.{Best}
 
@@ -17,11 +17,11 @@ AtMost p q = (p .ct < q .ct) ⊎ ((p .ct ≡ q .ct) × (p .pt ≤ q .pt))
 
 -- s is the smallest split from 1 to the length with the least pair: every other split has a pair at least as large, and an equal pair
 -- only a larger split
-pub record Smallest (pairAt : ℕ → Pair) (length s : ℕ) : Type 0 where
+pub record Smallest (pairs : ℕ → Pair) (length s : ℕ) : Type 0 where
   pub from : 1 ≤ s
   pub to : s ≤ length
-  pub least : (split : ℕ) → 1 ≤ split → split ≤ length → AtMost (pairAt s) (pairAt split)
-  pub first : (split : ℕ) → 1 ≤ split → split ≤ length → pairAt split ≡ pairAt s → s ≤ split
+  pub least : (split : ℕ) → 1 ≤ split → split ≤ length → AtMost (pairs s) (pairs split)
+  pub first : (split : ℕ) → 1 ≤ split → split ≤ length → pairs split ≡ pairs s → s ≤ split
 
 -- whether a pair is less than another
 abbrev pub lessPair : Pair → Pair → Bool
@@ -33,13 +33,13 @@ better best split pair = cond (lessPair pair (best .pair)) (record { split = spl
 
 -- the best of the splits 1, .., k + 1
 unfoldable pub bestOf : (ℕ → Pair) → ℕ → Best
-bestOf pairAt zero = record { split = 1; pair = pairAt 1 }
-bestOf pairAt (suc k) = better (bestOf pairAt k) (suc (suc k)) (pairAt (suc (suc k)))
+bestOf pairs zero = record { split = 1; pair = pairs 1 }
+bestOf pairs (suc k) = better (bestOf pairs k) (suc (suc k)) (pairs (suc (suc k)))
 
 -- 1 if L ≤ 1, also at degree 0; else the smallest split from 1 to L with the least pair
 unfoldable pub minMult : Parity → Basis → ℕ → ℕ
 minMult parity basis degree =
     elim (leb (bitLen degree) 1) [
       | true ↦ 1
-      | false ↦ bestOf (pairOf parity basis degree) (bitLen degree - 1) .split
+      | false ↦ bestOf (pairAt parity basis degree) (bitLen degree - 1) .split
     ]

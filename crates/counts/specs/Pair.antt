@@ -19,13 +19,13 @@ unfoldable pub tallyOf : Parity → List ℕ → Tally
 tallyOf parity slices = record { slices = length slices; pt = plainCount parity slices; last = lastOf slices }
 
 -- the tally of a degree's slices: there is at least one, and slices and pt-ct multiplications together are at most the degree + 1
-pub record Tallied (parity : Parity) (split degree : ℕ) (tally : Tally) : Type 0 where
-  pub is : tally ≡ tallyOf parity (slicesOf split degree)
+pub record Tallied (parity : Parity) (degree split : ℕ) (tally : Tally) : Type 0 where
+  pub is : tally ≡ tallyOf parity (slicesOf degree split)
   pub most : tally .slices + tally .pt ≤ degree + 1
   pub some : 0 < tally .slices
 
 -- whether one multiplication moves: there are two or more slices, the last has degree 0 and the degree is a power of two
-unfoldable pub moves : ℕ → ℕ → ℕ → Bool
+unfoldable pub moves : (degree slices last : ℕ) → Bool
 moves degree slices last = leb 2 slices && (eqb last 0 && isPowerOfTwo degree)
 
 -- one moves from ct-ct to pt-ct
@@ -33,11 +33,11 @@ abbrev pub moved : Pair → Pair
 moved pair = record { ct = pair .ct - 1; pt = pair .pt + 1 }
 
 -- ct-ct: slices − 1 plus needed powers; pt-ct: that of the slices; and the move, where there is one
-unfoldable pub pairBy : Tally → ℕ → ℕ → Pair
+unfoldable pub pairBy : Tally → (needed degree : ℕ) → Pair
 pairBy tally needed degree =
     let whole : Pair = record { ct = tally .slices - 1 + needed; pt = tally .pt } in
     cond (moves degree (tally .slices) (tally .last)) (moved whole) whole
 
 -- the pair of a degree at a split
-unfoldable pub pairOf : Parity → Basis → ℕ → ℕ → Pair
-pairOf parity basis degree split = pairBy (tallyOf parity (slicesOf split degree)) (neededCount parity basis split degree) degree
+unfoldable pub pairAt : Parity → Basis → (degree split : ℕ) → Pair
+pairAt parity basis degree split = pairBy (tallyOf parity (slicesOf degree split)) (neededCount parity basis degree split) degree

@@ -4,7 +4,7 @@ use Rattle.algebra.specs.declared.Basis.{Basis}
 use Rattle.algebra.specs.declared.Parity.{Parity}
 use Rattle.number.specs.Bits.{bitLen}
 use Rattle.needed.specs.Powers.{Between}
-use Rattle.counts.specs.Pair.{pairOf}
+use Rattle.counts.specs.Pair.{pairAt}
 use Rattle.counts.specs.MinMult.{Smallest, minMult}
 use Rattle.counts.specs.Choice.{splitFor}
 use Rattle.counts.specs.declared.choice.SplitStrategy.{SplitStrategy}
@@ -12,6 +12,6 @@ use Rattle.counts.specs.declared.choice.SplitStrategy.{SplitStrategy}
 -- of the choice, for all parities and bases
 pub record Chosen (parity : Parity) (basis : Basis) (degree : ℕ) : Type 0 where
   -- MinMult takes the smallest split from 1 to L with the least pair
-  pub least-pair : 1 < bitLen degree → Smallest (pairOf parity basis degree) (bitLen degree) (minMult parity basis degree)
+  pub least-pair : 1 < bitLen degree → Smallest (pairAt parity basis degree) (bitLen degree) (minMult parity basis degree)
   -- both strategies choose a split from 1 to 12 up to degree 4,095
   pub in-range : (strategy : SplitStrategy) → Between 1 degree 4095 → Between 1 (splitFor strategy parity basis degree) 12

@@ -8,17 +8,17 @@ use Rattle.needed.specs.Powers.{topPower}
 
 -- degree below base is one slice; otherwise, with p the greatest power of two at most the degree, slice p − 1 and then degree − p.
 -- The first argument bounds the depth of the cuts.
-unfoldable pub slicesIn : ℕ → ℕ → ℕ → List ℕ
-slicesIn zero split degree = degree ∷ []
-slicesIn (suc cuts) split degree =
+unfoldable pub slicesIn : (cuts degree split : ℕ) → List ℕ
+slicesIn zero degree split = degree ∷ []
+slicesIn (suc cuts) degree split =
     elim (ltb degree (2 ^ split)) [
       | true ↦ degree ∷ []
-      | false ↦ slicesIn cuts split (topPower degree - 1) ++ slicesIn cuts split (degree - topPower degree)
+      | false ↦ slicesIn cuts (topPower degree - 1) split ++ slicesIn cuts (degree - topPower degree) split
     ]
 
 -- the degrees of the slices at base 2^split, in their order: each cut takes a binary digit off both parts
-unfoldable pub slicesOf : ℕ → ℕ → List ℕ
-slicesOf split degree = slicesIn (bitLen degree) split degree
+unfoldable pub slicesOf : (degree split : ℕ) → List ℕ
+slicesOf degree split = slicesIn (bitLen degree) degree split
 
 -- the degree of the last slice
 unfoldable pub lastOf : List ℕ → ℕ

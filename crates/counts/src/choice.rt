@@ -2,7 +2,7 @@
 ghost use mathlib.Core.Path.{_≡_};
 ghost use Prim.Native.Nat.{_-_, _≤_};
 ghost use Rattle.needed.specs.Powers.{Between};
-ghost use Rattle.counts.specs.Pair.{pairOf};
+ghost use Rattle.counts.specs.Pair.{pairAt};
 ghost use Rattle.counts.specs.MinDepth.{minDepth};
 ghost use Rattle.counts.specs.MinMult.{lessPair, better, bestOf, minMult};
 ghost use Rattle.counts.specs.Choice.{splitFor};
@@ -77,7 +77,7 @@ fn better_of(best: Best, split: usize, pair: Pair) -> Best
 // The smallest split from 1 to the bit length with the least pair.
 fn best_split(degree: usize, length: usize, parity: Parity, basis: Basis) -> Best
     requires { ⌜ Between 1 degree 4095 × Between 1 length 12 ⌝ }
-    ensures { λ r. ⌜ r ≡ bestOf (pairOf parity basis degree) (length - 1) ⌝ }
+    ensures { λ r. ⌜ r ≡ bestOf (pairAt parity basis degree) (length - 1) ⌝ }
 {
     let first = estimate_op_counts(degree, 1, parity, basis);
     let mut best = Best {

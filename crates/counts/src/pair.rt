@@ -1,7 +1,7 @@
 // The pair (ct-ct, pt-ct) of a degree at a split.
 ghost use mathlib.Core.Path.{_≡_};
 ghost use Rattle.needed.specs.Powers.{Between, Planned};
-ghost use Rattle.counts.specs.Pair.{moves, pairOf};
+ghost use Rattle.counts.specs.Pair.{moves, pairAt};
 use super::slices::count_slices;
 use algebra::Basis;
 use algebra::Parity;
@@ -31,7 +31,7 @@ pub fn is_moved(degree: usize, slices: usize, last: usize) -> bool
 // The pair at a split.
 pub fn estimate_op_counts(degree: usize, split: usize, parity: Parity, basis: Basis) -> Pair
     requires { ⌜ Planned degree split ⌝ }
-    ensures { λ r. ⌜ r ≡ pairOf parity basis degree split ⌝ }
+    ensures { λ r. ⌜ r ≡ pairAt parity basis degree split ⌝ }
 {
     let tally = count_slices(degree, split, parity);
     let powers = count_needed(degree, split, parity, basis);

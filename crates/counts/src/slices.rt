@@ -30,7 +30,7 @@ fn allowed_to(degree: usize, parity: Parity) -> usize
 // The slices at a split, counted over the low and the high part of each cut.
 pub fn count_slices(degree: usize, split: usize, parity: Parity) -> Tally
     requires { ⌜ (degree ≤ 4095) × Between 1 split 12 ⌝ }
-    ensures { λ r. ⌜ Tallied parity split degree r ⌝ }
+    ensures { λ r. ⌜ Tallied parity degree split r ⌝ }
 {
     let base = power_of_two(split);
     if degree < base {

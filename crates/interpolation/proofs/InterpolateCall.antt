@@ -12,7 +12,7 @@ use lib.Seq.{sets-eq}
 use Rattle.algebra.specs.declared.Basis.the-variants.{Chebyshev}
 use Rattle.algebra.specs.declared.Parity.{Parity}
 use Rattle.algebra.specs.declared.Parity.the-variants.{Full}
-use Rattle.number.specs.Numbers.{float}
+use Rattle.number.specs.Numbers.{floatNumbers}
 use Rattle.number.specs.Refusal.{unlessRefused}
 use Rattle.number.specs.Parity.{parityOf}
 use Rattle.number.specs.Interval.{changeOfBasis, noInterval}
@@ -98,7 +98,7 @@ module _ (nodes values : List Float) (a b : Float) (out : List Float) where
   -- accepted: the coefficients stand in the first places, the others are as they were
   pub answered : {k : ℕ} {filled : List Float} {parity : Parity} {interval : Interval} → k ≡ refusalOf nodes values a b (length out) → k ≡ 0
       → length filled ≡ length nodes
-      → parity ≡ parityOf float (coefficientsOf nodes values)
+      → parity ≡ parityOf floatNumbers (coefficientsOf nodes values)
       → filled ≡ coefficientsOf nodes values
       → interval ≡ changeOfBasis Chebyshev a b
       → Answered (record { refusal = 0; count = length nodes; parity = parity; interval = interval }) (filled ++ drop (length nodes) out)

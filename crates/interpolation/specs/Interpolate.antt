@@ -7,7 +7,7 @@ use lib.ListN.{length, replicate}
 use lib.Ieee.{Float, binary64, div, ofInt}
 use Rattle.algebra.specs.Operations.{Operations, double}
 use Rattle.algebra.specs.Power.{cheb}
-use Rattle.number.specs.Numbers.{floats}
+use Rattle.number.specs.Numbers.{floatOps}
 
 module _ {A : Type 0} (𝓞 : Operations A) where
   -- one node: value·T_j(node) is added to the sum of coefficient j, here from place j on
@@ -32,10 +32,10 @@ module _ {A : Type 0} (𝓞 : Operations A) where
 
 -- 1/n
 abbrev pub inverseOf : ℕ → Float
-inverseOf n = div binary64 (floats .one) (ofInt binary64 (pos n))
+inverseOf n = div binary64 (floatOps .one) (ofInt binary64 (pos n))
 
 -- the coefficients, one for each node: every sum begins at +0
 abbrev pub coefficientsOf : List Float → List Float → List Float
 coefficientsOf nodes values =
     let n = length nodes in
-    scaled floats (inverseOf n) (addNodes floats nodes values (replicate n (floats .zero)))
+    scaled floatOps (inverseOf n) (addNodes floatOps nodes values (replicate n (floatOps .zero)))

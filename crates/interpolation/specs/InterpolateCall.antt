@@ -8,7 +8,7 @@ use lib.Seq.{sets}
 use lib.Ieee.{Float, lt}
 use Rattle.algebra.specs.declared.Basis.the-variants.{Chebyshev}
 use Rattle.algebra.specs.declared.Parity.the-variants.{Full}
-use Rattle.number.specs.Numbers.{float}
+use Rattle.number.specs.Numbers.{floatNumbers}
 use Rattle.number.specs.Refusal.{firstRefusal, unlessRefused}
 use Rattle.number.specs.Parity.{parityOf}
 use Rattle.number.specs.Interval.{changeOfBasis, noInterval}
@@ -28,7 +28,7 @@ unfoldable pub answerOf : ℕ → List Float → List Float → Float → Float 
 answerOf zero nodes values a b = record {
   refusal = 0;
   count = length nodes;
-  parity = parityOf float (coefficientsOf nodes values);
+  parity = parityOf floatNumbers (coefficientsOf nodes values);
   interval = changeOfBasis Chebyshev a b;
 }
 answerOf (suc k) nodes values a b = record { refusal = suc k; count = 0; parity = Full; interval = noInterval }

@@ -8,7 +8,7 @@ use Rattle.algebra.specs.Fold.{everySecond}
 use Rattle.algebra.specs.Power.{cheb}
 use Rattle.algebra.specs.declared.Basis.the-variants.{Chebyshev}
 use Rattle.algebra.specs.declared.Parity.the-variants.{Even}
-use Rattle.number.specs.Numbers.{floats}
+use Rattle.number.specs.Numbers.{floatOps}
 use Rattle.number.specs.Exact.{num}
 use Rattle.number.specs.Refusal.{unlessRefused}
 use Rattle.number.specs.Parity.{allZero, parityOf}
@@ -32,7 +32,7 @@ unfolding miscounted refusalOf answerOf parityOf allZero everySecond addNode add
 one-node = refl
 
 pub one-node-buffer : interpolatedBuffer (num (pos 0) ∷ []) (minusZero ∷ []) (num (pos 0)) (num (pos 2)) (nan ∷ num (pos 7) ∷ [])
-    ≡ floats .zero ∷ num (pos 7) ∷ []
+    ≡ floatOps .zero ∷ num (pos 7) ∷ []
 unfolding unlessRefused miscounted refusalOf addNode addNodes scaled cheb ofInt add sub mul div lt
 one-node-buffer = refl
 

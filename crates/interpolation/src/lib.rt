@@ -8,7 +8,7 @@ use number::no_interval;
 ghost use mathlib.Core.Path.{_≡_};
 ghost use Prim.Native.Nat.{_<_, _≤_};
 ghost use lib.ListN.{length, replicate};
-ghost use Rattle.number.specs.Numbers.{floats, float};
+ghost use Rattle.number.specs.Numbers.{floatOps, floatNumbers};
 ghost use Rattle.number.specs.Parity.{parityOf};
 ghost use Rattle.interpolation.specs.Interpolate.{addNode, addNodes, scaledBy, scaled, inverseOf, coefficientsOf};
 ghost use Rattle.interpolation.specs.InterpolateCall.{miscounted, refusalOf, interpolated, interpolatedBuffer};
@@ -23,7 +23,7 @@ pub struct Interpolated {
 
 // Every element becomes +0.
 fn clear(sums: &mut [f64])
-    ensures { λ _. ⌜ now (sums .exit) ≡ replicate (length (now (sums .entry))) (floats .zero) ⌝ }
+    ensures { λ _. ⌜ now (sums .exit) ≡ replicate (length (now (sums .entry))) (floatOps .zero) ⌝ }
 {
     let mut i = 0;
     while i < sums.len() {
@@ -34,7 +34,7 @@ fn clear(sums: &mut [f64])
 
 // One node: value·T_i(node) is added to element i.
 fn add_node(sums: &mut [f64], node: f64, value: f64)
-    ensures { λ _. ⌜ now (sums .exit) ≡ addNode floats 0 node value (now (sums .entry)) ⌝ }
+    ensures { λ _. ⌜ now (sums .exit) ≡ addNode floatOps 0 node value (now (sums .entry)) ⌝ }
 {
     let two = 1.0f64 + 1.0f64;
     let mut t_prev = 1.0f64;
@@ -52,7 +52,7 @@ fn add_node(sums: &mut [f64], node: f64, value: f64)
 // Each node with its value, in the order lent.
 fn add_nodes(sums: &mut [f64], nodes: &[f64], values: &[f64])
     requires { ⌜ length (now nodes) ≡ length (now values) ⌝ }
-    ensures { λ _. ⌜ now (sums .exit) ≡ addNodes floats (now (nodes .entry)) (now (values .entry)) (now (sums .entry)) ⌝ }
+    ensures { λ _. ⌜ now (sums .exit) ≡ addNodes floatOps (now (nodes .entry)) (now (values .entry)) (now (sums .entry)) ⌝ }
 {
     let mut k = 0;
     while k < nodes.len() {
@@ -63,7 +63,7 @@ fn add_nodes(sums: &mut [f64], nodes: &[f64], values: &[f64])
 
 // Every element times `factor`.
 fn scale_by(sums: &mut [f64], factor: f64)
-    ensures { λ _. ⌜ now (sums .exit) ≡ scaledBy floats factor (now (sums .entry)) ⌝ }
+    ensures { λ _. ⌜ now (sums .exit) ≡ scaledBy floatOps factor (now (sums .entry)) ⌝ }
 {
     let mut i = 0;
     while i < sums.len() {
@@ -75,7 +75,7 @@ fn scale_by(sums: &mut [f64], factor: f64)
 // The first element over n, the others twice that.
 fn scale(sums: &mut [f64], n: usize)
     requires { ⌜ (n ≤ 4096) × (0 < length (now sums)) ⌝ }
-    ensures { λ _. ⌜ now (sums .exit) ≡ scaled floats (inverseOf n) (now (sums .entry)) ⌝ }
+    ensures { λ _. ⌜ now (sums .exit) ≡ scaled floatOps (inverseOf n) (now (sums .entry)) ⌝ }
 {
     let inv_n = 1.0 / (n as f64);
     let two = 1.0f64 + 1.0f64;
@@ -88,7 +88,7 @@ fn scale(sums: &mut [f64], n: usize)
 fn fill(out: &mut [f64], nodes: &[f64], values: &[f64]) -> Parity
     requires { ⌜ (length (now nodes) ≡ length (now values)) × (length (now nodes) ≤ 4096) × (0 < length (now nodes))
         × (length (now out) ≡ length (now nodes)) ⌝ }
-    ensures { λ r. ⌜ (r ≡ parityOf float (coefficientsOf (now (nodes .entry)) (now (values .entry))))
+    ensures { λ r. ⌜ (r ≡ parityOf floatNumbers (coefficientsOf (now (nodes .entry)) (now (values .entry))))
         × (now (out .exit) ≡ coefficientsOf (now (nodes .entry)) (now (values .entry))) ⌝ }
 {
     clear(out);

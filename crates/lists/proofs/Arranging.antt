@@ -30,7 +30,7 @@ some-leaves leaf = omega arith
 some-leaves (cut p low high) = omega (arith, some-leaves low)
 
 -- no more lists than coefficients
-pub leaves-most : (whole s : ℕ) (lead : Bool) (d : ℕ) → leavesOf (treeOf whole s lead d) ≤ suc d
+pub leaves-most : (whole s : ℕ) (lead : Bool) (d : ℕ) → leavesOf (treeOf lead whole d s) ≤ suc d
 unfolding leavesOf
 leaves-most whole =
     tree-holds whole (λ s lead d tree. leavesOf tree ≤ suc d) (λ s lead d below. omega arith) (λ s lead d tree leading again most. most) both-parts

@@ -9,7 +9,7 @@ use native.Mathlib.Omega.{arith}
 use borrow.Author.Tests.{leb-true}
 use lib.IntN.{ℤ, pos}
 use lib.ListN.{length, take, drop, length-drop}
-use Rattle.algebra.specs.Operations.{wholes}
+use Rattle.algebra.specs.Operations.{wholeOps}
 use Rattle.algebra.specs.Cut.{cutAt}
 use Rattle.algebra.specs.Fold.{everySecond, sumRFrom, fold}
 use Rattle.algebra.specs.Magnitude.{sumAbs}
@@ -46,20 +46,20 @@ unfolding Roomy sumAbs
 roomy-sum [] room = omega arith
 roomy-sum (x ∷ l) room = le-trans (le-mul-of-pos-right {m = suc (length l)} (sumAbs (x ∷ l)) (omega arith)) room
 
-pub arranged-to-53 : (basis : Basis) (base : ℕ) (tree : Tree) (c : List ℤ) → Sound base tree (length c) → Roomy c → AllTo53 (arranged wholes basis tree c)
+pub arranged-to-53 : (basis : Basis) (base : ℕ) (tree : Tree) (c : List ℤ) → Sound base tree (length c) → Roomy c → AllTo53 (arranged wholeOps basis tree c)
 unfolding arranged
 arranged-to-53 basis base leaf c sound room = all-of-sum c (roomy-sum c room)
 arranged-to-53 basis base (cut p low high) c sound room =
-    let c₁ = cutAt wholes basis p c in
+    let c₁ = cutAt wholeOps basis p c in
     let under : p < length c = sound .under in
-    within-append (2 ^ 53) (arranged wholes basis low (take p c₁)) (arranged wholes basis high (drop p c₁))
-    (arranged-to-53 basis base low (take p c₁) (rw (low-size wholes basis p c under) (sound .low)) (roomy-low basis p c (omega arith) room))
-    (arranged-to-53 basis base high (drop p c₁) (rw (high-size wholes basis p c under) (sound .high)) (roomy-high basis p c (omega arith) (sound .half) room))
+    within-append (2 ^ 53) (arranged wholeOps basis low (take p c₁)) (arranged wholeOps basis high (drop p c₁))
+    (arranged-to-53 basis base low (take p c₁) (rw (low-size wholeOps basis p c under) (sound .low)) (roomy-low basis p c (omega arith) room))
+    (arranged-to-53 basis base high (drop p c₁) (rw (high-size wholeOps basis p c under) (sound .high)) (roomy-high basis p c (omega arith) (sound .half) room))
 
 -- ---- room at the start
 
 -- each place of an odd Chebyshev fold is at most twice the sum
-sum-rows : (i S : ℕ) (os : List ℤ) → sumAbs os ≤ S → sumAbs (sumRFrom wholes i os) ≤ length os * (2 * S)
+sum-rows : (i S : ℕ) (os : List ℤ) → sumAbs os ≤ S → sumAbs (sumRFrom wholeOps i os) ≤ length os * (2 * S)
 unfolding sumAbs sumRFrom
 sum-rows i S [] within = omega arith
 sum-rows i S (o ∷ os) within =
@@ -68,16 +68,16 @@ sum-rows i S (o ∷ os) within =
     let more : suc (length os) * (2 * S) ≡ length os * (2 * S) + 2 * S = suc-mul (length os) (2 * S) in
     omega arith
 
-rows-roomy : (os : List ℤ) → sumAbs os ≤ 2 ^ 30 → length os ≤ 2048 → Roomy (sumRFrom wholes 0 os)
+rows-roomy : (os : List ℤ) → sumAbs os ≤ 2 ^ 30 → length os ≤ 2048 → Roomy (sumRFrom wholeOps 0 os)
 unfolding Roomy
 rows-roomy os fits few =
     let all : length os * (2 * 2 ^ 30) ≤ 2048 * (2 * 2 ^ 30) = mul-le-mul-right (2 * 2 ^ 30) few in
     let rows = sum-rows 0 (2 ^ 30) os fits in
-    let size = length-sumRFrom wholes 0 os in
+    let size = length-sumRFrom wholeOps 0 os in
     le-trans (mul-le-mul {m₂ = 2048} (le-trans rows all) (rw size few)) (omega arith)
 
 -- a fold of coefficients within the limits has room to double
-pub fold-roomy : (basis : Basis) (parity : Parity) (c : List ℤ) → sumAbs c ≤ 2 ^ 30 → length c ≤ 4096 → Roomy (fold wholes basis parity c)
+pub fold-roomy : (basis : Basis) (parity : Parity) (c : List ℤ) → sumAbs c ≤ 2 ^ 30 → length c ≤ 4096 → Roomy (fold wholeOps basis parity c)
 unfolding fold
 fold-roomy basis Full c fits few = sum-roomy c fits few
 fold-roomy basis Even c fits few =
@@ -95,7 +95,7 @@ roomy-to-53 : (basis : Basis) (whole s : ℕ) (lead : Bool) (c : List ℤ) → R
     → AllTo53 (listedAs basis whole s lead c)
 roomy-to-53 basis whole s lead c room some few from =
     let degree : suc (length c - 1) ≡ length c = omega arith in
-    arranged-to-53 basis (2 ^ s) (treeOf whole s lead (length c - 1)) c (rw degree at (trees-sound whole s lead (length c - 1) from (omega arith))) room
+    arranged-to-53 basis (2 ^ s) (treeOf lead whole (length c - 1) s) c (rw degree at (trees-sound whole s lead (length c - 1) from (omega arith))) room
 
 pub lists-to-53 : ListsTo53
 lists-to-53 basis whole s lead c fits some few from =
@@ -109,5 +109,5 @@ fold-few Odd n = omega arith
 
 pub folded-lists-to-53 : FoldedListsTo53
 folded-lists-to-53 basis parity whole s lead c fits some few from =
-    roomy-to-53 basis whole s lead (fold wholes basis parity c) (fold-roomy basis parity c (leb-true (sumAbs c) (2 ^ 30) fits) few) some
-    (omega (arith, fold-length wholes basis parity c, fold-few parity (length c))) from
+    roomy-to-53 basis whole s lead (fold wholeOps basis parity c) (fold-roomy basis parity c (leb-true (sumAbs c) (2 ^ 30) fits) few) some
+    (omega (arith, fold-length wholeOps basis parity c, fold-few parity (length c))) from

@@ -44,7 +44,7 @@ sum-roomy c fits few = le-trans (mul-le-mul fits few) (omega arith)
 
 -- a whole polynomial can be listed from the first place on
 pub whole-ready : {A : Type 0} (c : List A) (bounds : List ℕ) (s : ℕ) (lead : Bool) → 2 ≤ length c → length c ≤ 4096 → s ≤ 12
-    → leavesOf (treeOf (length c - 1) s lead (length c - 1)) ≤ length bounds → Ready (length c - 1) s lead 0 0 c bounds
+    → leavesOf (treeOf lead (length c - 1) (length c - 1) s) ≤ length bounds → Ready (length c - 1) s lead 0 0 c bounds
 whole-ready c bounds s lead several few split long = record {
   some = omega arith;
   few = omega arith;
@@ -109,8 +109,8 @@ module _ {A : Type 0} {𝓞 : Operations A} {fits : List A → Bool} {basis : Ba
       rest-is : drop (length c) copied ≡ drop (length c) out
       rest-is = ap (drop (length c)) copy-is ∙ drop-at c (drop (length c) out) (length c) refl
 
-      tree-is : treeOf (length c - 1) (shape .split) lead (length c - 1) ≡ planTree strategy parity basis (length c - 1)
-      tree-is = ap₂ (λ (s : ℕ) (l : Bool). treeOf (length c - 1) s l (length c - 1)) split-is lead-is
+      tree-is : treeOf lead (length c - 1) (length c - 1) (shape .split) ≡ planTree strategy parity basis (length c - 1)
+      tree-is = ap₂ (λ (s : ℕ) (l : Bool). treeOf l (length c - 1) (length c - 1) s) split-is lead-is
 
       pub ready : Ready (length c - 1) (shape .split) lead 0 0 (take (length c) copied) bounds
       ready =
@@ -118,7 +118,7 @@ module _ {A : Type 0} {𝓞 : Operations A} {fits : List A → Bool} {basis : Ba
           rw part-is (whole-ready c bounds (shape .split) lead (early .several) (early .few) split-fits (rw tree-is (passed .1)))
 
       pub call-listed : {z : List A} {bounds′ : List ℕ} {r : ℕ} → length z ≡ length (take (length c) copied)
-          → Left 𝓞 basis (treeOf (length c - 1) (shape .split) lead (length (take (length c) copied) - 1)) 0 0 (take (length c) copied) bounds z bounds′ r
+          → Left 𝓞 basis (treeOf lead (length c - 1) (length (take (length c) copied) - 1) (shape .split)) 0 0 (take (length c) copied) bounds z bounds′ r
           → ListCall 𝓞 fits basis parity strategy c out bounds (z ++ drop (length c) copied) bounds′ (shape .answer)
       unfolding callCoefficients callBoundaries
       call-listed {z} {bounds′} size left =

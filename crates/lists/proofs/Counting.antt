@@ -10,15 +10,15 @@ use Rattle.lists.specs.Arrange.{leavesOf}
 use Rattle.lists.proofs.TreeLaws.{tree-leaf, tree-again, tree-cut}
 
 module _ (whole s : ℕ) (lead : Bool) (d : ℕ) where
-  pub counted-cut : (p : ℕ) {low high : ℕ} → 2 ^ s ≤ d → p ≡ topPower d → low ≡ leavesOf (treeOf whole s false (p - 1))
-      → high ≡ leavesOf (treeOf whole s lead (d - p)) → low + high ≡ leavesOf (treeOf whole s lead d)
+  pub counted-cut : (p : ℕ) {low high : ℕ} → 2 ^ s ≤ d → p ≡ topPower d → low ≡ leavesOf (treeOf false whole (p - 1) s)
+      → high ≡ leavesOf (treeOf lead whole (d - p) s) → low + high ≡ leavesOf (treeOf lead whole d s)
   unfolding leavesOf
   counted-cut p from power low-is high-is = ap₂ _+_ low-is high-is ∙ rw (tree-cut whole s lead d from, ← power)
 
-  pub counted-again : {t r : ℕ} → d < 2 ^ s → (lead && listedAgain whole s d) ≡ true → t ≡ minDepth (bitLen d)
-      → r ≡ leavesOf (treeOf whole t lead d) → r ≡ leavesOf (treeOf whole s lead d)
+  pub counted-again : {t r : ℕ} → d < 2 ^ s → (lead && listedAgain whole d s) ≡ true → t ≡ minDepth (bitLen d)
+      → r ≡ leavesOf (treeOf lead whole d t) → r ≡ leavesOf (treeOf lead whole d s)
   counted-again below again split r-is = r-is ∙ rw (tree-again whole s lead d below again, split)
 
-  pub counted-one : d < 2 ^ s → (lead && listedAgain whole s d) ≡ false → 1 ≡ leavesOf (treeOf whole s lead d)
+  pub counted-one : d < 2 ^ s → (lead && listedAgain whole d s) ≡ false → 1 ≡ leavesOf (treeOf lead whole d s)
   unfolding leavesOf
   counted-one below once = rw (tree-leaf whole s lead d below once)

@@ -84,7 +84,7 @@ module _ {A : Type 0} (𝓞 : Operations A) (basis : Basis) where
 pub lists-stand : {A : Type 0} → ListsStand A
 lists-stand 𝓞 basis whole s lead c some few from =
     let degree : suc (length c - 1) ≡ length c = omega arith in
-    let tree = treeOf whole s lead (length c - 1) in
+    let tree = treeOf lead whole (length c - 1) s in
     let sound : Sound (2 ^ s) tree (length c) = rw degree at (trees-sound whole s lead (length c - 1) from (omega arith)) in
     record {
       places = places-stand 𝓞 basis tree c;

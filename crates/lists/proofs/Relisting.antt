@@ -24,27 +24,27 @@ exceeds a b whole some = by-test (decLt a (whole + b))
 
 module _ (whole s : ℕ) (lead : Bool) (d : ℕ) where
   -- not the leading slice
-  pub not-leading : lead ≡ false → (lead && listedAgain whole s d) ≡ false
+  pub not-leading : lead ≡ false → (lead && listedAgain whole d s) ≡ false
   not-leading low = rw low
 
   -- degree 0
-  pub constant : d < 1 → (lead && listedAgain whole s d) ≡ false
+  pub constant : d < 1 → (lead && listedAgain whole d s) ≡ false
   unfolding listedAgain
   constant none = rw (le-ltb 0 d (omega arith)) (and-false lead)
 
   -- split 1
-  pub least-split : s < 2 → (lead && listedAgain whole s d) ≡ false
+  pub least-split : s < 2 → (lead && listedAgain whole d s) ≡ false
   unfolding listedAgain
   least-split low = rw (le-ltb 1 s (omega arith), and-false (ltb 0 d)) (and-false lead)
 
   -- no smaller split
-  pub none-smaller : s ≤ minDepth (bitLen d) → (lead && listedAgain whole s d) ≡ false
+  pub none-smaller : s ≤ minDepth (bitLen d) → (lead && listedAgain whole d s) ≡ false
   unfolding listedAgain
   none-smaller as-great = rw (le-ltb (minDepth (bitLen d)) s as-great, and-false (ltb 1 s), and-false (ltb 0 d)) (and-false lead)
 
   -- otherwise the whole degree decides
   pub by-whole : 0 < whole → lead ≡ true → 0 < d → 1 < s → minDepth (bitLen d) < s
-      → (lead && listedAgain whole s d) ≡ ltb (2 ^ bitLen whole) (whole + 2 ^ (s - 1))
+      → (lead && listedAgain whole d s) ≡ ltb (2 ^ bitLen whole) (whole + 2 ^ (s - 1))
   unfolding listedAgain
   by-whole some leading positive wide smaller =
       rw (leading, lt-ltb 0 d positive, lt-ltb 1 s wide, lt-ltb (minDepth (bitLen d)) s smaller) (exceeds (2 ^ bitLen whole) (2 ^ (s - 1)) whole some)

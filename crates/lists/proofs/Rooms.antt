@@ -7,7 +7,7 @@ use native.Mathlib.Omega.{arith}
 use lib.IntN.{ℤ}
 use lib.ListN.{length, take, drop, length-drop}
 use lib.Seq.{length-take-le}
-use Rattle.algebra.specs.Operations.{wholes}
+use Rattle.algebra.specs.Operations.{wholeOps}
 use Rattle.algebra.specs.Cut.{cutAt}
 use Rattle.algebra.specs.Magnitude.{sumAbs}
 use Rattle.algebra.specs.declared.Basis.{Basis}
@@ -34,16 +34,16 @@ twice-on-half m S n sum short room =
     doubled x = omega arith
 
 module _ (basis : Basis) (p : ℕ) (c : List ℤ) (under : p ≤ length c) where
-  pub roomy-low : Roomy c → Roomy (take p (cutAt wholes basis p c))
+  pub roomy-low : Roomy c → Roomy (take p (cutAt wholeOps basis p c))
   unfolding Roomy
   roomy-low room =
-      let long = cut-length wholes p c under basis in
-      let size : length (take p (cutAt wholes basis p c)) ≤ length c = omega (arith, length-take-le p (cutAt wholes basis p c) (omega arith)) in
+      let long = cut-length wholeOps p c under basis in
+      let size : length (take p (cutAt wholeOps basis p c)) ≤ length c = omega (arith, length-take-le p (cutAt wholeOps basis p c) (omega arith)) in
       le-trans (mul-le-mul (low-magnitude p c under basis) size) room
 
-  pub roomy-high : length c ≤ p + p → Roomy c → Roomy (drop p (cutAt wholes basis p c))
+  pub roomy-high : length c ≤ p + p → Roomy c → Roomy (drop p (cutAt wholeOps basis p c))
   unfolding Roomy
   roomy-high half room =
-      let long = cut-length wholes p c under basis in
-      let size = length-drop p (cutAt wholes basis p c) in
-      twice-on-half (length (drop p (cutAt wholes basis p c))) (sumAbs c) (length c) (high-magnitude p c under basis) (omega arith) room
+      let long = cut-length wholeOps p c under basis in
+      let size = length-drop p (cutAt wholeOps basis p c) in
+      twice-on-half (length (drop p (cutAt wholeOps basis p c))) (sumAbs c) (length c) (high-magnitude p c under basis) (omega arith) room

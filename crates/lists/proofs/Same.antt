@@ -9,14 +9,14 @@ use borrow.Author.Tests.{leb-true}
 use lib.IntN.{ℤ}
 use lib.ListN.{length, take, drop, length-map}
 use lib.Seq.{sets}
-use Rattle.algebra.specs.Operations.{wholes}
+use Rattle.algebra.specs.Operations.{wholeOps}
 use Rattle.algebra.specs.Cut.{cutAt}
 use Rattle.algebra.specs.Magnitude.{sumAbs}
 use Rattle.algebra.specs.declared.Basis.{Basis}
 use Rattle.algebra.specs.declared.Parity.{Parity}
 use Rattle.number.specs.Exact.{num}
 use Rattle.number.specs.SumLimit.{sumFits}
-use Rattle.number.specs.Numbers.{floats}
+use Rattle.number.specs.Numbers.{floatOps}
 use Rattle.number.specs.Refusal.{unlessRefused}
 use Rattle.number.specs.Room.{Roomy}
 use Rattle.number.proofs.CutSame.{cuts-same}
@@ -39,21 +39,21 @@ use Rattle.lists.proofs.TreeFactsProved.{trees-sound}
 -- ---- a tree
 
 same-tree : (basis : Basis) (base : ℕ) (tree : Tree) (c : List ℤ) → Sound base tree (length c) → Roomy c
-    → arranged floats basis tree (map num c) ≡ map num (arranged wholes basis tree c)
+    → arranged floatOps basis tree (map num c) ≡ map num (arranged wholeOps basis tree c)
 unfolding arranged
 same-tree basis base leaf c sound room = refl
 same-tree basis base (cut p low high) c sound room =
-    let c₁ = cutAt wholes basis p c in
+    let c₁ = cutAt wholeOps basis p c in
     let under : p < length c = sound .under in
     rw (cuts-same basis p c .written (all-of-sum c (roomy-sum c room)), map-take num p c₁, map-drop num p c₁, map-append)
     (ap₂ _++_
-    (same-tree basis base low (take p c₁) (rw (low-size wholes basis p c under) (sound .low)) (roomy-low basis p c (omega arith) room))
-    (same-tree basis base high (drop p c₁) (rw (high-size wholes basis p c under) (sound .high)) (roomy-high basis p c (omega arith) (sound .half) room)))
+    (same-tree basis base low (take p c₁) (rw (low-size wholeOps basis p c under) (sound .low)) (roomy-low basis p c (omega arith) room))
+    (same-tree basis base high (drop p c₁) (rw (high-size wholeOps basis p c under) (sound .high)) (roomy-high basis p c (omega arith) (sound .half) room)))
 
 pub arranged-same : ArrangedSame
 arranged-same basis whole s lead c room some few from =
     let degree : suc (length c - 1) ≡ length c = omega arith in
-    same-tree basis (2 ^ s) (treeOf whole s lead (length c - 1)) c
+    same-tree basis (2 ^ s) (treeOf lead whole (length c - 1) s) c
     (rw degree at (trees-sound whole s lead (length c - 1) from (omega arith))) room
 
 -- ---- the calls
@@ -66,18 +66,18 @@ module _ (basis : Basis) (parity : Parity) (strategy : SplitStrategy) (c out : L
   unfolding callRefusal
   same-refusal = rw (length-map c num, length-map out num, fits)
 
-  same-answer : callAnswer floats anySum basis parity strategy (map num c) (map num out) bounds
-      ≡ callAnswer wholes sumFits basis parity strategy c out bounds
+  same-answer : callAnswer floatOps anySum basis parity strategy (map num c) (map num out) bounds
+      ≡ callAnswer wholeOps sumFits basis parity strategy c out bounds
   unfolding callAnswer
   same-answer = rw (same-refusal, length-map c num)
 
-  same-boundaries : callBoundaries floats anySum basis parity strategy (map num c) (map num out) bounds
-      ≡ callBoundaries wholes sumFits basis parity strategy c out bounds
+  same-boundaries : callBoundaries floatOps anySum basis parity strategy (map num c) (map num out) bounds
+      ≡ callBoundaries wholeOps sumFits basis parity strategy c out bounds
   unfolding callBoundaries
   same-boundaries = rw (same-refusal, length-map c num)
 
   -- without a refusal the whole listing is carried over
-  same-listing : callRefusal sumFits basis parity strategy c out bounds ≡ 0 → arranged floats basis tree (map num c) ≡ map num (arranged wholes basis tree c)
+  same-listing : callRefusal sumFits basis parity strategy c out bounds ≡ 0 → arranged floatOps basis tree (map num c) ≡ map num (arranged wholeOps basis tree c)
   unfolding callRefusal
   same-listing none =
       let passed = all-passed (sumFits c) (length c) (length out) (leavesOf tree) (length bounds) none .0 in
@@ -87,15 +87,15 @@ module _ (basis : Basis) (parity : Parity) (strategy : SplitStrategy) (c out : L
       (sum-roomy c (leb-true (sumAbs c) (2 ^ 30) fits) few) (omega arith) few
       (split-range strategy parity basis (length c - 1) (record { from = omega arith; to = omega arith }) .from)
 
-  same-coefficients : callCoefficients floats anySum basis parity strategy (map num c) (map num out) bounds
-      ≡ map num (callCoefficients wholes sumFits basis parity strategy c out bounds)
+  same-coefficients : callCoefficients floatOps anySum basis parity strategy (map num c) (map num out) bounds
+      ≡ map num (callCoefficients wholeOps sumFits basis parity strategy c out bounds)
   unfolding callCoefficients unlessRefused
   same-coefficients = rw (same-refusal, length-map c num) (by-refusal (callRefusal sumFits basis parity strategy c out bounds) refl)
     where
       by-refusal : (k : ℕ) → callRefusal sumFits basis parity strategy c out bounds ≡ k
-          → unlessRefused k (sets (map num out) 0 (arranged floats basis tree (map num c))) (map num out)
-          ≡ map num (unlessRefused k (sets out 0 (arranged wholes basis tree c)) out)
-      by-refusal zero none = ap (sets (map num out) 0) (same-listing none) ∙ map-sets num (arranged wholes basis tree c) out 0
+          → unlessRefused k (sets (map num out) 0 (arranged floatOps basis tree (map num c))) (map num out)
+          ≡ map num (unlessRefused k (sets out 0 (arranged wholeOps basis tree c)) out)
+      by-refusal zero none = ap (sets (map num out) 0) (same-listing none) ∙ map-sets num (arranged wholeOps basis tree c) out 0
       by-refusal (suc k) refused = refl
 
 pub lists-same : ListsSame

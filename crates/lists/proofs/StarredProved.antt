@@ -3,8 +3,8 @@ use mathlib.Core.Path.{_≡_, refl, ap}
 use mathlib.Core.Bool.{false}
 use mathlib.Core.List.{[], _∷_}
 use lib.IntN.{pos, negsuc}
-use Rattle.algebra.specs.Operations.{wholes}
-use Rattle.algebra.specs.Cut.{less, doubled, lowered, cutAt}
+use Rattle.algebra.specs.Operations.{wholeOps}
+use Rattle.algebra.specs.Cut.{differences, doubled, lowered, cutAt}
 use Rattle.algebra.specs.declared.Basis.the-variants.{Chebyshev}
 use Rattle.algebra.specs.declared.Parity.the-variants.{Full}
 use Rattle.number.specs.Bits.{digits, bitLen}
@@ -24,12 +24,12 @@ split-5 : splitFor MinMult Full Chebyshev 5 ≡ 1
 unfolding splitFor minMultCall
 split-5 = ap (λ (choice : SplitChoice). choice .split) (counts.starred .mult-5 Chebyshev .chosen)
 
-at-split-1 : arranged wholes Chebyshev (treeOf 5 1 false 5) (pos 1 ∷ pos 2 ∷ pos 3 ∷ pos 4 ∷ pos 5 ∷ pos 6 ∷ [])
+at-split-1 : arranged wholeOps Chebyshev (treeOf false 5 5 1) (pos 1 ∷ pos 2 ∷ pos 3 ∷ pos 4 ∷ pos 5 ∷ pos 6 ∷ [])
     ≡ pos 1 ∷ pos 4 ∷ pos 3 ∷ negsuc 3 ∷ pos 5 ∷ pos 12 ∷ []
-unfolding arranged cutAt lowered doubled less treeOf treeIn topPower bitLen digits
+unfolding arranged cutAt lowered doubled differences treeOf treeIn topPower bitLen digits
 at-split-1 = refl
 
-ends-1 : endsOf (treeOf 5 1 false 5) 0 6 ≡ 2 ∷ 4 ∷ 6 ∷ []
+ends-1 : endsOf (treeOf false 5 5 1) 0 6 ≡ 2 ∷ 4 ∷ 6 ∷ []
 unfolding endsOf treeOf treeIn topPower bitLen digits
 ends-1 = refl
 

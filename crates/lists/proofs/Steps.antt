@@ -34,11 +34,11 @@ module _ {A : Type 0} (p : ℕ) (y rest : List A) (front : length y ≡ p) where
 -- a slice
 module _ {A : Type 0} {whole s : ℕ} {lead : Bool} {at n : ℕ} {c : List A} {b : List ℕ} (ready : Ready whole s lead at n c b) where
   pub room-for-one : n < length b
-  room-for-one = omega (arith, some-leaves (treeOf whole s lead (length c - 1)), ready .long)
+  room-for-one = omega (arith, some-leaves (treeOf lead whole (length c - 1) s), ready .long)
 
-  module _ (short : length c - 1 < 2 ^ s) (again : (lead && listedAgain whole s (length c - 1)) ≡ true) where
+  module _ (short : length c - 1 < 2 ^ s) (again : (lead && listedAgain whole (length c - 1) s) ≡ true) where
     pub smaller : minDepth (bitLen (length c - 1)) < s
-    smaller = again-facts whole s (length c - 1) (and-right lead (listedAgain whole s (length c - 1)) again) .smaller
+    smaller = again-facts whole s (length c - 1) (and-right lead (listedAgain whole (length c - 1) s) again) .smaller
 
     pub ready-again : Ready whole (minDepth (bitLen (length c - 1))) lead at n c b
     ready-again = record {
@@ -54,12 +54,12 @@ module _ {A : Type 0} {whole s : ℕ} {lead : Bool} {at n : ℕ} {c : List A} {b
     }
 
     pub left-again : {𝓞 : Operations A} {basis : Basis} {c′ : List A} {b′ : List ℕ} {r : ℕ}
-        → Left 𝓞 basis (treeOf whole (minDepth (bitLen (length c - 1))) lead (length c - 1)) at n c b c′ b′ r
-        → Left 𝓞 basis (treeOf whole s lead (length c - 1)) at n c b c′ b′ r
+        → Left 𝓞 basis (treeOf lead whole (length c - 1) (minDepth (bitLen (length c - 1)))) at n c b c′ b′ r
+        → Left 𝓞 basis (treeOf lead whole (length c - 1) s) at n c b c′ b′ r
     left-again left = rw (tree-again whole s lead (length c - 1) short again) left
 
-  pub left-slice : {𝓞 : Operations A} {basis : Basis} → length c - 1 < 2 ^ s → (lead && listedAgain whole s (length c - 1)) ≡ false
-      → Left 𝓞 basis (treeOf whole s lead (length c - 1)) at n c b c (set b n (at + length c)) (n + 1)
+  pub left-slice : {𝓞 : Operations A} {basis : Basis} → length c - 1 < 2 ^ s → (lead && listedAgain whole (length c - 1) s) ≡ false
+      → Left 𝓞 basis (treeOf lead whole (length c - 1) s) at n c b c (set b n (at + length c)) (n + 1)
   left-slice short once = rw (tree-leaf whole s lead (length c - 1) short once) (left-leaf c)
 
 -- a cut, that left c₁ of c
@@ -96,12 +96,12 @@ module _ {A : Type 0} {𝓞 : Operations A} {basis : Basis} {whole s : ℕ} {lea
   pub high-length : length (drop p c₁) ≡ length c - p
   high-length = length-drop p c₁ ∙ ap (λ (x : ℕ). x - p) same-length
 
-  tree : treeOf whole s lead (length c - 1) ≡ cut p (treeOf whole s false (p - 1)) (treeOf whole s lead (length c - p - 1))
+  tree : treeOf lead whole (length c - 1) s ≡ cut p (treeOf false whole (p - 1) s) (treeOf lead whole (length c - p - 1) s)
   tree =
       let swapped : length c - 1 - p ≡ length c - p - 1 = omega arith in
       tree-cut whole s lead (length c - 1) (k .from) ∙ rw (← k .power, swapped)
 
-  leaves : leavesOf (treeOf whole s lead (length c - 1)) ≡ leavesOf (treeOf whole s false (p - 1)) + leavesOf (treeOf whole s lead (length c - p - 1))
+  leaves : leavesOf (treeOf lead whole (length c - 1) s) ≡ leavesOf (treeOf false whole (p - 1) s) + leavesOf (treeOf lead whole (length c - p - 1) s)
   unfolding leavesOf
   leaves = ap leavesOf tree
 
@@ -118,7 +118,7 @@ module _ {A : Type 0} {𝓞 : Operations A} {basis : Basis} {whole s : ℕ} {lea
     long = rw low-length (omega (arith, leaves, k .ready .long));
   }
 
-  module _ {y : List A} {b₁ : List ℕ} {m : ℕ} (low : Left 𝓞 basis (treeOf whole s false (length (take p c₁) - 1)) at n (take p c₁) b y b₁ m)
+  module _ {y : List A} {b₁ : List ℕ} {m : ℕ} (low : Left 𝓞 basis (treeOf false whole (length (take p c₁) - 1) s) at n (take p c₁) b y b₁ m)
       (kept : length y ≡ length (take p c₁)) where
     abbrev lent : List A
     lent = take (length (y ++ drop p c₁) - p) (drop p (y ++ drop p c₁))
@@ -131,7 +131,7 @@ module _ {A : Type 0} {𝓞 : Operations A} {basis : Basis} {whole s : ℕ} {lea
 
     pub ready-high : length b₁ ≡ length b → Ready whole s lead (at + p) m lent b₁
     ready-high same =
-        let count : m ≡ n + leavesOf (treeOf whole s false (p - 1)) = low .count ∙ ap (λ (x : ℕ). n + leavesOf (treeOf whole s false (x - 1))) low-length in
+        let count : m ≡ n + leavesOf (treeOf false whole (p - 1) s) = low .count ∙ ap (λ (x : ℕ). n + leavesOf (treeOf false whole (x - 1) s)) low-length in
         rw part-is (record {
           some = rw high-length (omega (arith, under));
           few = rw high-length (omega (arith, k .ready .few, under));
@@ -144,8 +144,8 @@ module _ {A : Type 0} {𝓞 : Operations A} {basis : Basis} {whole s : ℕ} {lea
           long = rw high-length (omega (arith, leaves, k .ready .long));
         })
 
-    pub left-both : {z : List A} {b₂ : List ℕ} {r : ℕ} → Left 𝓞 basis (treeOf whole s lead (length lent - 1)) (at + p) m lent b₁ z b₂ r
-        → Left 𝓞 basis (treeOf whole s lead (length c - 1)) at n c b
+    pub left-both : {z : List A} {b₂ : List ℕ} {r : ℕ} → Left 𝓞 basis (treeOf lead whole (length lent - 1) s) (at + p) m lent b₁ z b₂ r
+        → Left 𝓞 basis (treeOf lead whole (length c - 1) s) at n c b
         (take p (y ++ drop p c₁) ++ (z ++ drop (length (y ++ drop p c₁) - p) (drop p (y ++ drop p c₁)))) b₂ r
     left-both {z} high =
         rw (tree, put-after p y (drop p c₁) (kept ∙ low-length) z)

@@ -93,7 +93,7 @@ high-cuts-few whole = tree-holds whole (λ s lead d tree. highCuts tree ≤ bitL
 -- ---- the slices
 
 abbrev SlicesAt : ℕ → Bool → ℕ → Tree → Type 0
-SlicesAt s lead d tree = lead ≡ false → lengthsOf tree (suc d) ≡ map suc (slicesOf s d)
+SlicesAt s lead d tree = lead ≡ false → lengthsOf tree (suc d) ≡ map suc (slicesOf d s)
 
 pub slices-are-leaves : SlicesAreLeaves
 unfolding lengthsOf
@@ -113,4 +113,4 @@ slices-are-leaves whole s d = tree-holds whole SlicesAt one-list listed-again bo
         let low-size : suc (topPower d - 1) ≡ topPower d = omega arith in
         let high-size : suc (d - topPower d) ≡ suc d - topPower d = omega arith in
         ap₂ _++_ (rw low-size at (low-slices refl)) (rw high-size at (high-slices lower))
-        ∙ sym (ap (map suc) (slices-cut s d above) ∙ map-append suc (slicesOf s (topPower d - 1)) (slicesOf s (d - topPower d)))
+        ∙ sym (ap (map suc) (slices-cut s d above) ∙ map-append suc (slicesOf (topPower d - 1) s) (slicesOf (d - topPower d) s))

@@ -21,7 +21,7 @@ pub record Again (whole s d : ℕ) : Type 0 where
   pub smaller : minDepth (bitLen d) < s
   pub near : 2 ^ bitLen whole - 2 ^ (s - 1) < whole
 
-pub again-facts : (whole s d : ℕ) → listedAgain whole s d ≡ true → Again whole s d
+pub again-facts : (whole s d : ℕ) → listedAgain whole d s ≡ true → Again whole s d
 unfolding listedAgain
 again-facts whole s d =
     by-tests (ltb 0 d) (ltb 1 s) (ltb (minDepth (bitLen d)) s) (ltb (2 ^ bitLen whole - 2 ^ (s - 1)) whole) refl refl refl refl
@@ -52,7 +52,7 @@ and-right false b both = absurd (false≢true both)
 module _ (whole : ℕ) where
   -- the steps that are left at each further tree suffice
   abbrev Same : ℕ → ℕ → Type 0
-  Same f g = (s : ℕ) (lead : Bool) (d : ℕ) → bitLen d + s < f → bitLen d + s < g → treeIn f whole s lead d ≡ treeIn g whole s lead d
+  Same f g = (s : ℕ) (lead : Bool) (d : ℕ) → bitLen d + s < f → bitLen d + s < g → treeIn f lead whole d s ≡ treeIn g lead whole d s
 
   steps-enough : (f g : ℕ) → Same f g
   unfolding treeIn
@@ -60,15 +60,15 @@ module _ (whole : ℕ) where
   steps-enough (suc f) zero s lead d h k = absurd (omega arith)
   steps-enough (suc f) (suc g) s lead d h k = by-degree (ltb d (2 ^ s)) refl (steps-enough f g)
     where
-      by-slice : (again : Bool) → (lead && listedAgain whole s d) ≡ again → ltb d (2 ^ s) ≡ true → Same f g
-          → treeIn (suc f) whole s lead d ≡ treeIn (suc g) whole s lead d
+      by-slice : (again : Bool) → (lead && listedAgain whole d s) ≡ again → ltb d (2 ^ s) ≡ true → Same f g
+          → treeIn (suc f) lead whole d s ≡ treeIn (suc g) lead whole d s
       by-slice true again below fewer =
-          let facts = again-facts whole s d (and-right lead (listedAgain whole s d) again) in
+          let facts = again-facts whole s d (and-right lead (listedAgain whole d s) again) in
           rw (below, again, treeIn) (fewer (minDepth (bitLen d)) lead d (omega arith) (omega arith))
       by-slice false again below fewer = rw (below, again, treeIn)
 
-      by-degree : (below : Bool) → ltb d (2 ^ s) ≡ below → Same f g → treeIn (suc f) whole s lead d ≡ treeIn (suc g) whole s lead d
-      by-degree true below fewer = by-slice (lead && listedAgain whole s d) refl below fewer
+      by-degree : (below : Bool) → ltb d (2 ^ s) ≡ below → Same f g → treeIn (suc f) lead whole d s ≡ treeIn (suc g) lead whole d s
+      by-degree true below fewer = by-slice (lead && listedAgain whole d s) refl below fewer
       by-degree false below fewer =
           let some : 0 < d = omega (arith, ltb-false d (2 ^ s) below, pow-pos s) in
           let falls = sides-fall d some in
@@ -81,21 +81,21 @@ module _ (whole : ℕ) where
 
   module _ (s : ℕ) (lead : Bool) (d : ℕ) where
     -- a slice that is not listed again is one list
-    pub tree-leaf : d < 2 ^ s → (lead && listedAgain whole s d) ≡ false → treeOf whole s lead d ≡ leaf
+    pub tree-leaf : d < 2 ^ s → (lead && listedAgain whole d s) ≡ false → treeOf lead whole d s ≡ leaf
     unfolding treeOf treeIn
     tree-leaf below once = rw (lt-ltb d (2 ^ s) below, once, treeIn)
 
     -- a slice listed again has the tree at the smaller split
-    pub tree-again : d < 2 ^ s → (lead && listedAgain whole s d) ≡ true → treeOf whole s lead d ≡ treeOf whole (minDepth (bitLen d)) lead d
+    pub tree-again : d < 2 ^ s → (lead && listedAgain whole d s) ≡ true → treeOf lead whole d s ≡ treeOf lead whole d (minDepth (bitLen d))
     unfolding treeOf treeIn
     tree-again below again =
-        let facts = again-facts whole s d (and-right lead (listedAgain whole s d) again) in
+        let facts = again-facts whole s d (and-right lead (listedAgain whole d s) again) in
         rw (lt-ltb d (2 ^ s) below, again, treeIn)
         (steps-enough (bitLen d + s) (suc (bitLen d + minDepth (bitLen d))) (minDepth (bitLen d)) lead d (omega arith) (omega arith))
 
     -- from the base on a cut
     pub tree-cut : 2 ^ s ≤ d
-        → treeOf whole s lead d ≡ cut (topPower d) (treeOf whole s false (topPower d - 1)) (treeOf whole s lead (d - topPower d))
+        → treeOf lead whole d s ≡ cut (topPower d) (treeOf false whole (topPower d - 1) s) (treeOf lead whole (d - topPower d) s)
     unfolding treeOf treeIn
     tree-cut from =
         let falls = sides-fall d (omega (arith, pow-pos s)) in
@@ -114,27 +114,27 @@ module _ (whole : ℕ) where
       (both : (s : ℕ) (lead : Bool) (d : ℕ) (low high : Tree) → 2 ^ s ≤ d → Holds s false (topPower d - 1) low → Holds s lead (d - topPower d) high
       → Holds s lead d (cut (topPower d) low high)) where
     abbrev Below : ℕ → Type 0
-    Below steps = (s : ℕ) (lead : Bool) (d : ℕ) → bitLen d + s < steps → Holds s lead d (treeOf whole s lead d)
+    Below steps = (s : ℕ) (lead : Bool) (d : ℕ) → bitLen d + s < steps → Holds s lead d (treeOf lead whole d s)
 
     by-steps : (steps : ℕ) → Below steps
     by-steps zero s lead d h = absurd (omega arith)
     by-steps (suc steps) s lead d h = by-degree (decLt d (2 ^ s)) (by-steps steps)
       where
-        by-slice : (again : Bool) → (lead && listedAgain whole s d) ≡ again → d < 2 ^ s → Below steps → Holds s lead d (treeOf whole s lead d)
+        by-slice : (again : Bool) → (lead && listedAgain whole d s) ≡ again → d < 2 ^ s → Below steps → Holds s lead d (treeOf lead whole d s)
         by-slice true again below fewer =
-            let facts = again-facts whole s d (and-right lead (listedAgain whole s d) again) in
+            let facts = again-facts whole s d (and-right lead (listedAgain whole d s) again) in
             rw (tree-again s lead d below again)
-            (listed-again s lead d (treeOf whole (minDepth (bitLen d)) lead d) (and-left lead (listedAgain whole s d) again) facts
+            (listed-again s lead d (treeOf lead whole d (minDepth (bitLen d))) (and-left lead (listedAgain whole d s) again) facts
             (fewer (minDepth (bitLen d)) lead d (omega arith)))
         by-slice false again below fewer = rw (tree-leaf s lead d below again) (one s lead d below)
 
-        by-degree : Dec (d < 2 ^ s) → Below steps → Holds s lead d (treeOf whole s lead d)
-        by-degree (yes below) fewer = by-slice (lead && listedAgain whole s d) refl below fewer
+        by-degree : Dec (d < 2 ^ s) → Below steps → Holds s lead d (treeOf lead whole d s)
+        by-degree (yes below) fewer = by-slice (lead && listedAgain whole d s) refl below fewer
         by-degree (no above) fewer =
             let falls = sides-fall d (omega (arith, pow-pos s)) in
             rw (tree-cut s lead d (omega arith))
-            (both s lead d (treeOf whole s false (topPower d - 1)) (treeOf whole s lead (d - topPower d)) (omega arith)
+            (both s lead d (treeOf false whole (topPower d - 1) s) (treeOf lead whole (d - topPower d) s) (omega arith)
             (fewer s false (topPower d - 1) (omega arith)) (fewer s lead (d - topPower d) (omega arith)))
 
-    pub tree-holds : (s : ℕ) (lead : Bool) (d : ℕ) → Holds s lead d (treeOf whole s lead d)
+    pub tree-holds : (s : ℕ) (lead : Bool) (d : ℕ) → Holds s lead d (treeOf lead whole d s)
     tree-holds s lead d = by-steps (suc (bitLen d + s)) s lead d (omega arith)

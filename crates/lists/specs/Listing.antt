@@ -22,7 +22,7 @@ pub record Ready {A : Type 0} (whole s : ℕ) (lead : Bool) (at n : ℕ) (c : Li
   pub some : 0 < length c
   pub few : at + length c ≤ 4096
   pub ranges : Ranges whole s (length c - 1)
-  pub long : n + leavesOf (treeOf whole s lead (length c - 1)) ≤ length b
+  pub long : n + leavesOf (treeOf lead whole (length c - 1) s) ≤ length b
 
 -- left: the coefficients arranged, a boundary for each list from boundary n on, and the number of lists there are now
 pub record Left {A : Type 0} (𝓞 : Operations A) (basis : Basis) (tree : Tree) (at n : ℕ) (c : List A) (b : List ℕ) (c′ : List A) (b′ : List ℕ)
@@ -33,4 +33,4 @@ pub record Left {A : Type 0} (𝓞 : Operations A) (basis : Basis) (tree : Tree)
 
 -- the lister's contract: left by the tree of the coefficients' degree
 abbrev pub Lists : {A : Type 0} → Operations A → Basis → ℕ → ℕ → Bool → ℕ → ℕ → List A → List ℕ → List A → List ℕ → ℕ → Type 0
-Lists 𝓞 basis whole s lead at n c b c′ b′ r = Left 𝓞 basis (treeOf whole s lead (length c - 1)) at n c b c′ b′ r
+Lists 𝓞 basis whole s lead at n c b c′ b′ r = Left 𝓞 basis (treeOf lead whole (length c - 1) s) at n c b c′ b′ r

@@ -37,4 +37,4 @@ pub record Standing {A : Type 0} (𝓞 : Operations A) (basis : Basis) (tree : T
 -- so it is for every plan tree within the limit, over numbers A
 abbrev pub ListsStand : Type 0 → Type 0
 ListsStand A = (𝓞 : Operations A) (basis : Basis) (whole s : ℕ) (lead : Bool) (c : List A) → 0 < length c → length c ≤ 4096 → 1 ≤ s
-    → Standing 𝓞 basis (treeOf whole s lead (length c - 1)) c
+    → Standing 𝓞 basis (treeOf lead whole (length c - 1) s) c

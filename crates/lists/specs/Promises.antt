@@ -6,11 +6,11 @@ use mathlib.Core.List.{List, map}
 use Prim.Native.Nat.{ℕ, _-_, _≤_, _<_}
 use lib.IntN.{ℤ}
 use lib.ListN.{length}
-use Rattle.algebra.specs.Operations.{wholes}
+use Rattle.algebra.specs.Operations.{wholeOps}
 use Rattle.algebra.specs.Fold.{fold}
 use Rattle.algebra.specs.declared.Basis.{Basis}
 use Rattle.algebra.specs.declared.Parity.{Parity}
-use Rattle.number.specs.Numbers.{floats}
+use Rattle.number.specs.Numbers.{floatOps}
 use Rattle.number.specs.Exact.{num, AllTo53}
 use Rattle.number.specs.SumLimit.{sumFits}
 use Rattle.number.specs.Room.{Roomy}
@@ -21,7 +21,7 @@ use Rattle.lists.specs.ListCall.{anySum, callAnswer, callCoefficients, c
 
 -- what a listing writes at any split from 1 up, listed again or not
 abbrev pub listedAs : Basis → ℕ → ℕ → Bool → List ℤ → List ℤ
-listedAs basis whole s lead c = arranged wholes basis (treeOf whole s lead (length c - 1)) c
+listedAs basis whole s lead c = arranged wholeOps basis (treeOf lead whole (length c - 1) s) c
 
 -- from coefficients with magnitudes summing to at most 2^30
 abbrev pub ListsTo53 : Type 0
@@ -31,16 +31,16 @@ ListsTo53 = (basis : Basis) (whole s : ℕ) (lead : Bool) (c : List ℤ) → sum
 -- and from the same coefficients folded, whose magnitudes may sum above 2^30
 abbrev pub FoldedListsTo53 : Type 0
 FoldedListsTo53 = (basis : Basis) (parity : Parity) (whole s : ℕ) (lead : Bool) (c : List ℤ) → sumFits c ≡ true
-    → 0 < length (fold wholes basis parity c) → length c ≤ 4096 → 1 ≤ s → AllTo53 (listedAs basis whole s lead (fold wholes basis parity c))
+    → 0 < length (fold wholeOps basis parity c) → length c ≤ 4096 → 1 ≤ s → AllTo53 (listedAs basis whole s lead (fold wholeOps basis parity c))
 
 -- the f64 call on the same coefficients, and buffers with the same numbers: an equal answer, equal numbers, equal boundaries
 pub record CallsSame (basis : Basis) (parity : Parity) (strategy : SplitStrategy) (c out : List ℤ) (bounds : List ℕ) : Type 0 where
-  pub answer : callAnswer floats anySum basis parity strategy (map num c) (map num out) bounds
-      ≡ callAnswer wholes sumFits basis parity strategy c out bounds
-  pub coefficients : callCoefficients floats anySum basis parity strategy (map num c) (map num out) bounds
-      ≡ map num (callCoefficients wholes sumFits basis parity strategy c out bounds)
-  pub boundaries : callBoundaries floats anySum basis parity strategy (map num c) (map num out) bounds
-      ≡ callBoundaries wholes sumFits basis parity strategy c out bounds
+  pub answer : callAnswer floatOps anySum basis parity strategy (map num c) (map num out) bounds
+      ≡ callAnswer wholeOps sumFits basis parity strategy c out bounds
+  pub coefficients : callCoefficients floatOps anySum basis parity strategy (map num c) (map num out) bounds
+      ≡ map num (callCoefficients wholeOps sumFits basis parity strategy c out bounds)
+  pub boundaries : callBoundaries floatOps anySum basis parity strategy (map num c) (map num out) bounds
+      ≡ callBoundaries wholeOps sumFits basis parity strategy c out bounds
 
 abbrev pub ListsSame : Type 0
 ListsSame = (basis : Basis) (parity : Parity) (strategy : SplitStrategy) (c out : List ℤ) (bounds : List ℕ) → sumFits c ≡ true
@@ -49,4 +49,4 @@ ListsSame = (basis : Basis) (parity : Parity) (strategy : SplitStrategy) (c out 
 -- the same for the lister alone, on any coefficients with room to double
 abbrev pub ArrangedSame : Type 0
 ArrangedSame = (basis : Basis) (whole s : ℕ) (lead : Bool) (c : List ℤ) → Roomy c → 0 < length c → length c ≤ 4096 → 1 ≤ s
-    → arranged floats basis (treeOf whole s lead (length c - 1)) (map num c) ≡ map num (listedAs basis whole s lead c)
+    → arranged floatOps basis (treeOf lead whole (length c - 1) s) (map num c) ≡ map num (listedAs basis whole s lead c)

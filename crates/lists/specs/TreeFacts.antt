@@ -27,12 +27,12 @@ highCuts (cut p low high) = max (highCuts low) (suc (highCuts high))
 
 -- every plan tree within the limit is sound
 abbrev pub TreesSound : Type 0
-TreesSound = (whole s : ℕ) (lead : Bool) (d : ℕ) → 1 ≤ s → d ≤ 4095 → Sound (2 ^ s) (treeOf whole s lead d) (suc d)
+TreesSound = (whole s : ℕ) (lead : Bool) (d : ℕ) → 1 ≤ s → d ≤ 4095 → Sound (2 ^ s) (treeOf lead whole d s) (suc d)
 
 -- a list lies on the high side of at most as many cuts as the degree has binary digits
 abbrev pub HighCutsFew : Type 0
-HighCutsFew = (whole s : ℕ) (lead : Bool) (d : ℕ) → highCuts (treeOf whole s lead d) ≤ bitLen d
+HighCutsFew = (whole s : ℕ) (lead : Bool) (d : ℕ) → highCuts (treeOf lead whole d s) ≤ bitLen d
 
 -- without relisting the lists are the slices of the counts
 abbrev pub SlicesAreLeaves : Type 0
-SlicesAreLeaves = (whole s d : ℕ) → lengthsOf (treeOf whole s false d) (suc d) ≡ map suc (slicesOf s d)
+SlicesAreLeaves = (whole s d : ℕ) → lengthsOf (treeOf false whole d s) (suc d) ≡ map suc (slicesOf d s)

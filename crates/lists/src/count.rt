@@ -24,7 +24,7 @@ pub fn smaller_split(degree: usize) -> usize
 // Whether a slice is listed again at a smaller split: the leading one, near the end of the whole degree's power of two.
 pub fn listed_again(whole: usize, split: usize, lead: bool, degree: usize) -> bool
     requires { ⌜ Ranges whole split degree ⌝ }
-    ensures { λ r. ⌜ r ≡ (lead && listedAgain whole split degree) ⌝ }
+    ensures { λ r. ⌜ r ≡ (lead && listedAgain whole degree split) ⌝ }
 {
     if !lead || degree < 1 || split < 2 {
         return false;
@@ -38,7 +38,7 @@ pub fn listed_again(whole: usize, split: usize, lead: bool, degree: usize) -> bo
 // The number of lists of a part of a degree, at a split.
 pub fn count_lists(degree: usize, whole: usize, split: usize, lead: bool) -> usize
     requires { ⌜ Ranges whole split degree ⌝ }
-    ensures { λ r. ⌜ r ≡ leavesOf (treeOf whole split lead degree) ⌝ }
+    ensures { λ r. ⌜ r ≡ leavesOf (treeOf lead whole degree split) ⌝ }
 {
     let base = power_of_two(split);
     if degree < base {
@@ -53,7 +53,7 @@ pub fn count_lists(degree: usize, whole: usize, split: usize, lead: bool) -> usi
 // The number of lists of a slice: one, or those at the smaller split.
 fn count_slice(degree: usize, whole: usize, split: usize, lead: bool) -> usize
     requires { ⌜ Ranges whole split degree × (degree < 2 ^ split) ⌝ }
-    ensures { λ r. ⌜ r ≡ leavesOf (treeOf whole split lead degree) ⌝ }
+    ensures { λ r. ⌜ r ≡ leavesOf (treeOf lead whole degree split) ⌝ }
 {
     if listed_again(whole, split, lead, degree) {
         return count_lists(degree, whole, smaller_split(degree), lead);

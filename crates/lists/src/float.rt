@@ -15,14 +15,14 @@ ghost use Prim.Native.Nat.{_+_, _-_, _≤_, _<_, _^_};
 ghost use lib.ListN.{length};
 ghost use lib.Seq.{sets};
 ghost use Rattle.algebra.specs.Cut.{cutAt};
-ghost use Rattle.number.specs.Numbers.{floats};
+ghost use Rattle.number.specs.Numbers.{floatOps};
 ghost use Rattle.lists.specs.Listing.{Ready, Lists};
 ghost use Rattle.lists.specs.ListCall.{anySum, ListCall};
 
 // The coefficients cut at p.
 fn cut_coeffs_f64(basis: Basis, c: &mut [f64], p: usize)
     requires { ⌜ (p < length (now c)) × (length (now c) ≤ p + p) ⌝ }
-    ensures { λ _. ⌜ now (c .exit) ≡ cutAt floats basis p (now (c .entry)) ⌝ }
+    ensures { λ _. ⌜ now (c .exit) ≡ cutAt floatOps basis p (now (c .entry)) ⌝ }
 {
     match basis {
         Basis::Monomial => {}
@@ -43,7 +43,7 @@ pub fn list_coeffs_f64(
     n: usize,
 ) -> usize
     requires { ⌜ Ready whole split lead at n (now c) (now bounds) ⌝ }
-    ensures { λ r. ⌜ Lists floats basis whole split lead at n (now (c .entry)) (now (bounds .entry)) (now (c .exit)) (now (bounds .exit)) r ⌝ }
+    ensures { λ r. ⌜ Lists floatOps basis whole split lead at n (now (c .entry)) (now (bounds .entry)) (now (c .exit)) (now (bounds .exit)) r ⌝ }
 {
     let base = power_of_two(split);
     let degree = c.len() - 1;
@@ -68,7 +68,7 @@ fn list_slice_f64(
     n: usize,
 ) -> usize
     requires { ⌜ Ready whole split lead at n (now c) (now bounds) × (length (now c) - 1 < 2 ^ split) ⌝ }
-    ensures { λ r. ⌜ Lists floats basis whole split lead at n (now (c .entry)) (now (bounds .entry)) (now (c .exit)) (now (bounds .exit)) r ⌝ }
+    ensures { λ r. ⌜ Lists floatOps basis whole split lead at n (now (c .entry)) (now (bounds .entry)) (now (c .exit)) (now (bounds .exit)) r ⌝ }
 {
     let degree = c.len() - 1;
     if listed_again(whole, split, lead, degree) {
@@ -100,7 +100,7 @@ pub fn decompose_bsgs_f64(
     out: &mut [f64],
     bounds: &mut [u16],
 ) -> Listed
-    ensures { λ r. ⌜ ListCall floats anySum basis parity strategy (now (c .entry)) (now (out .entry)) (now (bounds .entry))
+    ensures { λ r. ⌜ ListCall floatOps anySum basis parity strategy (now (c .entry)) (now (out .entry)) (now (bounds .entry))
         (now (out .exit)) (now (bounds .exit)) r ⌝ }
 {
     let n = c.len();

@@ -15,7 +15,7 @@ ghost use mathlib.Core.Path.{_≡_};
 ghost use Prim.Native.Nat.{_+_, _-_, _≤_, _<_, _^_};
 ghost use lib.ListN.{length};
 ghost use lib.Seq.{sets};
-ghost use Rattle.algebra.specs.Operations.{wholes};
+ghost use Rattle.algebra.specs.Operations.{wholeOps};
 ghost use Rattle.algebra.specs.Cut.{cutAt};
 ghost use Rattle.number.specs.SumLimit.{sumFits};
 ghost use Rattle.number.specs.Room.{Doubles, Roomy};
@@ -25,7 +25,7 @@ ghost use Rattle.lists.specs.ListCall.{ListCall};
 // The coefficients cut at p.
 fn cut_coeffs(basis: Basis, c: &mut [i64], p: usize)
     requires { ⌜ (p < length (now c)) × ((length (now c) ≤ p + p) × Doubles (now c)) ⌝ }
-    ensures { λ _. ⌜ now (c .exit) ≡ cutAt wholes basis p (now (c .entry)) ⌝ }
+    ensures { λ _. ⌜ now (c .exit) ≡ cutAt wholeOps basis p (now (c .entry)) ⌝ }
 {
     match basis {
         Basis::Monomial => {}
@@ -46,7 +46,7 @@ pub fn list_coeffs(
     n: usize,
 ) -> usize
     requires { ⌜ Ready whole split lead at n (now c) (now bounds) × Roomy (now c) ⌝ }
-    ensures { λ r. ⌜ Lists wholes basis whole split lead at n (now (c .entry)) (now (bounds .entry)) (now (c .exit)) (now (bounds .exit)) r ⌝ }
+    ensures { λ r. ⌜ Lists wholeOps basis whole split lead at n (now (c .entry)) (now (bounds .entry)) (now (c .exit)) (now (bounds .exit)) r ⌝ }
 {
     let base = power_of_two(split);
     let degree = c.len() - 1;
@@ -71,7 +71,7 @@ fn list_slice(
     n: usize,
 ) -> usize
     requires { ⌜ Ready whole split lead at n (now c) (now bounds) × (Roomy (now c) × (length (now c) - 1 < 2 ^ split)) ⌝ }
-    ensures { λ r. ⌜ Lists wholes basis whole split lead at n (now (c .entry)) (now (bounds .entry)) (now (c .exit)) (now (bounds .exit)) r ⌝ }
+    ensures { λ r. ⌜ Lists wholeOps basis whole split lead at n (now (c .entry)) (now (bounds .entry)) (now (c .exit)) (now (bounds .exit)) r ⌝ }
 {
     let degree = c.len() - 1;
     if listed_again(whole, split, lead, degree) {
@@ -103,7 +103,7 @@ pub fn decompose_bsgs(
     out: &mut [i64],
     bounds: &mut [u16],
 ) -> Listed
-    ensures { λ r. ⌜ ListCall wholes sumFits basis parity strategy (now (c .entry)) (now (out .entry)) (now (bounds .entry))
+    ensures { λ r. ⌜ ListCall wholeOps sumFits basis parity strategy (now (c .entry)) (now (out .entry)) (now (bounds .entry))
         (now (out .exit)) (now (bounds .exit)) r ⌝ }
 {
     let n = c.len();

@@ -82,60 +82,60 @@ right-or false y is = is
 
 module _ (parity : Parity) (split degree : ℕ) where
   -- the test names the targets
-  pub target-is : (n : ℕ) → isTarget parity (topPower degree) (babyLimit split degree) n ≡ true → Target parity split degree n
+  pub target-is : (n : ℕ) → isTarget parity (topPower degree) (babyLimit degree split) n ≡ true → Target parity degree split n
   unfolding isTarget
   target-is n is = by-side (either _ _ is)
     where
-      by-side : (((eqb n (topPower degree) && leb 2 n) ≡ true) ⊎ ((leb 3 n && (ltb n (babyLimit split degree) && allows parity n)) ≡ true))
-          → Target parity split degree n
+      by-side : (((eqb n (topPower degree) && leb 2 n) ≡ true) ⊎ ((leb 3 n && (ltb n (babyLimit degree split) && allows parity n)) ≡ true))
+          → Target parity degree split n
       by-side (inl tests) =
           let two = both _ _ tests in
           top (leb-true 2 n (two .1)) (eqb-true n (topPower degree) (two .0))
       by-side (inr tests) =
           let two = both _ _ tests in
           let below = both _ _ (two .1) in
-          small (leb-true 3 n (two .0)) (ltb-true n (babyLimit split degree) (below .0)) (below .1)
+          small (leb-true 3 n (two .0)) (ltb-true n (babyLimit degree split) (below .0)) (below .1)
 
-  pub is-target : (n : ℕ) → Target parity split degree n → isTarget parity (topPower degree) (babyLimit split degree) n ≡ true
+  pub is-target : (n : ℕ) → Target parity degree split n → isTarget parity (topPower degree) (babyLimit degree split) n ≡ true
   unfolding isTarget
   is-target n (top from is) =
       let tests : (eqb n (topPower degree) && leb 2 n) ≡ true = rw (eq-eqb n (topPower degree) is) (le-leb 2 n from) in
       left-or _ _ tests
   is-target n (small from below allowed) =
-      let tests : (leb 3 n && (ltb n (babyLimit split degree) && allows parity n)) ≡ true =
-      rw (le-leb 3 n from, lt-ltb n (babyLimit split degree) below) allowed in
+      let tests : (leb 3 n && (ltb n (babyLimit degree split) && allows parity n)) ≡ true =
+      rw (le-leb 3 n from, lt-ltb n (babyLimit degree split) below) allowed in
       right-or (eqb n (topPower degree) && leb 2 n) _ tests
 
   -- no target is above the greatest, and none below 2
-  pub target-most : (n : ℕ) → Target parity split degree n → n ≤ greatestTarget split degree
+  pub target-most : (n : ℕ) → Target parity degree split n → n ≤ greatestTarget degree split
   target-most n (top from is) = omega arith
   target-most n (small from below allowed) = omega arith
 
-  pub target-from-two : (n : ℕ) → Target parity split degree n → 2 ≤ n
+  pub target-from-two : (n : ℕ) → Target parity degree split n → 2 ≤ n
   target-from-two n (top from is) = from
   target-from-two n (small from below allowed) = omega arith
 
-  pub targets-length : length (targetMarks parity split degree) ≡ greatestTarget split degree + 1
+  pub targets-length : length (targetMarks parity degree split) ≡ greatestTarget degree split + 1
   unfolding targetMarks
-  targets-length = places-length (isTarget parity (topPower degree) (babyLimit split degree)) 0 (greatestTarget split degree + 1)
+  targets-length = places-length (isTarget parity (topPower degree) (babyLimit degree split)) 0 (greatestTarget degree split + 1)
 
   -- a mark at once is a target
-  targets-marked : (n : ℕ) → Marked (targetMarks parity split degree) n ↔ Target parity split degree n
+  targets-marked : (n : ℕ) → Marked (targetMarks parity degree split) n ↔ Target parity degree split n
   unfolding targetMarks
   targets-marked n = (forth, back)
     where
       test : ℕ → Bool
-      test = isTarget parity (topPower degree) (babyLimit split degree)
+      test = isTarget parity (topPower degree) (babyLimit degree split)
 
       size : ℕ
-      size = greatestTarget split degree + 1
+      size = greatestTarget degree split + 1
 
-      forth : Marked (places test 0 size) n → Target parity split degree n
+      forth : Marked (places test 0 size) n → Target parity degree split n
       forth marked =
           let inside : n < size = omega (arith, marked-below (places test 0 size) n marked, places-length test 0 size) in
           target-is n (sym (place-at test size n inside) ∙ marked)
 
-      back : Target parity split degree n → Marked (places test 0 size) n
+      back : Target parity degree split n → Marked (places test 0 size) n
       back is =
           let inside : n < size = omega (arith, target-most n is) in
           place-at test size n inside ∙ is-target n is
@@ -167,31 +167,31 @@ two-digits degree from-two =
     omega arith)
 
 -- no target is above the degree
-pub greatest-within : (split degree : ℕ) → 0 < degree → greatestTarget split degree ≤ degree
+pub greatest-within : (split degree : ℕ) → 0 < degree → greatestTarget degree split ≤ degree
 greatest-within split degree some = let bounds = top-power degree some in omega arith
 
 module _ (parity : Parity) (basis : Basis) (split degree : ℕ) where
-  pub needed-length : length (neededMarks parity basis split degree) ≡ greatestTarget split degree + 1
+  pub needed-length : length (neededMarks parity basis degree split) ≡ greatestTarget degree split + 1
   unfolding neededMarks
-  needed-length = sweep-length basis (greatestTarget split degree) (targetMarks parity split degree) ∙ targets-length parity split degree
+  needed-length = sweep-length basis (greatestTarget degree split) (targetMarks parity degree split) ∙ targets-length parity split degree
 
   -- the marks are the needed powers, all of them and nothing else
-  pub marked-needed : (n : ℕ) → Marked (neededMarks parity basis split degree) n ↔ NeededPower parity basis split degree n
+  pub marked-needed : (n : ℕ) → Marked (neededMarks parity basis degree split) n ↔ NeededPower parity basis degree split n
   unfolding neededMarks
   marked-needed n = (
     λ marked. needed-more (λ k. targets-marked parity split degree k .0) n (swept .0 marked),
     λ needed. swept .1 (needed-more (λ k. targets-marked parity split degree k .1) n needed),
   )
     where
-      swept : Marked (neededMarks parity basis split degree) n ↔ Needed basis (Marked (targetMarks parity split degree)) n
+      swept : Marked (neededMarks parity basis degree split) n ↔ Needed basis (Marked (targetMarks parity degree split)) n
       swept =
-          sweep-least basis (greatestTarget split degree) (targetMarks parity split degree)
+          sweep-least basis (greatestTarget degree split) (targetMarks parity degree split)
           (omega (arith, targets-length parity split degree)) n
 
   -- so they are the least set that holds the targets and is closed
-  pub marks-least : Least basis (Target parity split degree) (Marked (neededMarks parity basis split degree))
+  pub marks-least : Least basis (Target parity degree split) (Marked (neededMarks parity basis degree split))
   marks-least =
-      let least = needed-least basis (Target parity split degree) in
+      let least = needed-least basis (Target parity degree split) in
       record {
         holds = λ n is. marked-needed n .1 (target is);
         closed = λ n m above marked is-part. marked-needed m .1 (part above (marked-needed n .0 marked) is-part);
@@ -199,47 +199,47 @@ module _ (parity : Parity) (basis : Basis) (split degree : ℕ) where
       }
 
   -- there are few
-  pub count-needed-most : neededCount parity basis split degree ≤ greatestTarget split degree + 1
+  pub count-needed-most : neededCount parity basis degree split ≤ greatestTarget degree split + 1
   unfolding neededCount
-  count-needed-most = omega (arith, count-most (neededMarks parity basis split degree), needed-length)
+  count-needed-most = omega (arith, count-most (neededMarks parity basis degree split), needed-length)
 
-  pub count-needed-small : Between 1 degree 4095 → neededCount parity basis split degree ≤ 4096
+  pub count-needed-small : Between 1 degree 4095 → neededCount parity basis degree split ≤ 4096
   count-needed-small range = omega (arith, count-needed-most, greatest-within split degree (range .from))
 
   -- ---- what is needed
 
   -- from 2 to the degree
-  pub needed-from-two : (n : ℕ) → NeededPower parity basis split degree n → 2 ≤ n
+  pub needed-from-two : (n : ℕ) → NeededPower parity basis degree split n → 2 ≤ n
   needed-from-two n (target is) = target-from-two parity split degree n is
   needed-from-two n (part above needed (first from is)) = from
   needed-from-two n (part above needed (second from is)) = from
   needed-from-two n (part above needed (apart in-chebyshev from is)) = from
 
-  pub needed-within : 0 < degree → (n : ℕ) → NeededPower parity basis split degree n → n ≤ degree
+  pub needed-within : 0 < degree → (n : ℕ) → NeededPower parity basis degree split n → n ≤ degree
   needed-within some n (target (top from is)) = let bounds = top-power degree some in omega arith
   needed-within some n (target (small from below allowed)) = omega arith
   needed-within some n (part {n = whole} above needed is-part) =
       omega (arith, needed-within some whole needed, part-less basis whole n (omega arith) is-part)
 
   -- degree below 2 needs none
-  pub none-below-two : degree < 2 → (n : ℕ) → NeededPower parity basis split degree n → ⊥
+  pub none-below-two : degree < 2 → (n : ℕ) → NeededPower parity basis degree split n → ⊥
   none-below-two low n (target (top from is)) = omega (arith, top-low degree low)
   none-below-two low n (target (small from below allowed)) = omega arith
   none-below-two low n (part {n = whole} above needed is-part) = none-below-two low whole needed
 
   -- all powers of two up to the top power
-  pub two-powers-needed : (k : ℕ) → 0 < k → k < bitLen degree → NeededPower parity basis split degree (2 ^ k)
+  pub two-powers-needed : (k : ℕ) → 0 < k → k < bitLen degree → NeededPower parity basis degree split (2 ^ k)
   unfolding topPower
   two-powers-needed k some below = from-top (bitLen degree - 1 - k) k some (omega arith)
     where
-      halved : (k : ℕ) → 0 < k → NeededPower parity basis split degree (2 ^ suc k) → NeededPower parity basis split degree (2 ^ k)
+      halved : (k : ℕ) → 0 < k → NeededPower parity basis degree split (2 ^ suc k) → NeededPower parity basis degree split (2 ^ k)
       halved k some needed =
           let doubles = two-pow-succ k in
           let above = one-below k some in
           part {n = 2 ^ suc k} (omega arith) needed (first above (half-is-part k))
 
       -- down from the top power by as many halvings as the first argument says
-      from-top : (halvings k : ℕ) → 0 < k → halvings + k ≡ bitLen degree - 1 → NeededPower parity basis split degree (2 ^ k)
+      from-top : (halvings k : ℕ) → 0 < k → halvings + k ≡ bitLen degree - 1 → NeededPower parity basis degree split (2 ^ k)
       from-top zero k some is =
           let exponent : k ≡ bitLen degree - 1 = omega arith in
           let above = one-below k some in
@@ -247,9 +247,9 @@ module _ (parity : Parity) (basis : Basis) (split degree : ℕ) where
       from-top (suc halvings) k some is = halved k some (from-top halvings (suc k) (omega arith) (omega arith))
 
   -- all allowed powers in the slices, from 2
-  pub allowed-needed : (n : ℕ) → 2 ≤ n → n < babyLimit split degree → allows parity n ≡ true → NeededPower parity basis split degree n
+  pub allowed-needed : (n : ℕ) → 2 ≤ n → n < babyLimit degree split → allows parity n ≡ true → NeededPower parity basis degree split n
   allowed-needed n from below allowed = by-size (eq-or-lt-of-le from)
     where
-      by-size : (2 ≡ n) ⊎ (2 < n) → NeededPower parity basis split degree n
-      by-size (inl two) = subst (NeededPower parity basis split degree) two (two-powers-needed 1 (omega arith) (two-digits degree (omega arith)))
+      by-size : (2 ≡ n) ⊎ (2 < n) → NeededPower parity basis degree split n
+      by-size (inl two) = subst (NeededPower parity basis degree split) two (two-powers-needed 1 (omega arith) (two-digits degree (omega arith)))
       by-size (inr more) = target (small more below allowed)

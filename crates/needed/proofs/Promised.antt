@@ -16,24 +16,24 @@ use Rattle.needed.proofs.ListLaws.{marked-count, listed-marked, marked-
 
 -- the list of the needed powers
 module _ (parity : Parity) (basis : Basis) (split degree : ℕ) where
-  pub needed-listed : (n : ℕ) → List·Memᴰ n (neededList parity basis split degree) ↔ NeededPower parity basis split degree n
+  pub needed-listed : (n : ℕ) → List·Memᴰ n (neededList parity basis degree split) ↔ NeededPower parity basis degree split n
   unfolding neededList
   needed-listed n =
-      let marks = neededMarks parity basis split degree in
+      let marks = neededMarks parity basis degree split in
       let marked = marked-needed parity basis split degree n in
       (λ member. marked .0 (listed-marked marks n .0 member), λ needed. listed-marked marks n .1 (marked .1 needed))
 
-  pub needed-rising : Rising (neededList parity basis split degree)
+  pub needed-rising : Rising (neededList parity basis degree split)
   unfolding neededList
-  needed-rising = marked-rising 0 (neededMarks parity basis split degree)
+  needed-rising = marked-rising 0 (neededMarks parity basis degree split)
 
-  pub needed-counted : neededCount parity basis split degree ≡ length (neededList parity basis split degree)
+  pub needed-counted : neededCount parity basis degree split ≡ length (neededList parity basis degree split)
   unfolding neededList neededCount
-  needed-counted = marked-count 0 (neededMarks parity basis split degree)
+  needed-counted = marked-count 0 (neededMarks parity basis degree split)
 
-pub needed-powers : (parity : Parity) (basis : Basis) (split degree : ℕ) → NeededPowers parity basis split degree
+pub needed-powers : (parity : Parity) (basis : Basis) (split degree : ℕ) → NeededPowers parity basis degree split
 needed-powers parity basis split degree = record {
-  least = needed-least basis (Target parity split degree);
+  least = needed-least basis (Target parity degree split);
   marks = marked-needed parity basis split degree;
   listed = needed-listed parity basis split degree;
   rising = needed-rising parity basis split degree;

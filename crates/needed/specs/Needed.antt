@@ -10,7 +10,7 @@ use Rattle.number.specs.Split.{partsOf}
 use Rattle.needed.specs.Powers.{topPower}
 
 -- the distance of two numbers
-abbrev pub distanceOf : ℕ → ℕ → ℕ
+abbrev pub distanceOf : (a b : ℕ) → ℕ
 distanceOf a b = (a - b) + (b - a)
 
 -- the distance of the two parts of n
@@ -29,17 +29,17 @@ pub data Needed (basis : Basis) (Target : ℕ → Type 0) : ℕ → Type 0 where
   part : {n m : ℕ} → 1 < n → Needed basis Target n → Part basis n m → Needed basis Target m
 
 -- min(base, degree + 1): the powers in slices are below it
-abbrev pub babyLimit : ℕ → ℕ → ℕ
-babyLimit split degree = min (2 ^ split) (degree + 1)
+abbrev pub babyLimit : (degree split : ℕ) → ℕ
+babyLimit degree split = min (2 ^ split) (degree + 1)
 
 -- what is needed at once: 2^(L−1) if that is at least 2, and the allowed powers from 3 (so `Even` from 4) below min(base, degree + 1)
-pub data Target (parity : Parity) (split degree n : ℕ) : Type 0 where
-  top : 2 ≤ n → n ≡ topPower degree → Target parity split degree n
-  small : 3 ≤ n → n < babyLimit split degree → allows parity n ≡ true → Target parity split degree n
+pub data Target (parity : Parity) (degree split n : ℕ) : Type 0 where
+  top : 2 ≤ n → n ≡ topPower degree → Target parity degree split n
+  small : 3 ≤ n → n < babyLimit degree split → allows parity n ≡ true → Target parity degree split n
 
 -- the powers that a degree needs at a split
-abbrev pub NeededPower : Parity → Basis → ℕ → ℕ → ℕ → Type 0
-NeededPower parity basis split degree = Needed basis (Target parity split degree)
+abbrev pub NeededPower : Parity → Basis → (degree split n : ℕ) → Type 0
+NeededPower parity basis degree split = Needed basis (Target parity degree split)
 
 -- with each n above 1 the set holds its parts
 abbrev pub Closed : Basis → (ℕ → Type 0) → Type 0

@@ -18,12 +18,12 @@ abbrev pub Marked : List Bool → ℕ → Type 0
 Marked marks n = getD marks n false ≡ true
 
 -- whether n is the top power and at least 2, or an allowed power from 3 below the limit
-unfoldable pub isTarget : Parity → ℕ → ℕ → ℕ → Bool
+unfoldable pub isTarget : Parity → (top limit n : ℕ) → Bool
 isTarget parity top limit n = (eqb n top && leb 2 n) || (leb 3 n && (ltb n limit && allows parity n))
 
 -- the greatest place that may be needed at once
-abbrev pub greatestTarget : ℕ → ℕ → ℕ
-greatestTarget split degree = max (topPower degree) (babyLimit split degree - 1)
+abbrev pub greatestTarget : (degree split : ℕ) → ℕ
+greatestTarget degree split = max (topPower degree) (babyLimit degree split - 1)
 
 -- f i, f (i + 1), .., as many as the last argument says
 unfoldable pub places : (ℕ → Bool) → ℕ → ℕ → List Bool
@@ -54,12 +54,12 @@ sweepFrom basis (suc zero) marks = marks
 sweepFrom basis (suc (suc n)) marks = sweepFrom basis (suc n) (sweepAt basis (suc (suc n)) marks)
 
 -- the marks of the powers needed at once, up to the greatest
-unfoldable pub targetMarks : Parity → ℕ → ℕ → List Bool
-targetMarks parity split degree = places (isTarget parity (topPower degree) (babyLimit split degree)) 0 (greatestTarget split degree + 1)
+unfoldable pub targetMarks : Parity → (degree split : ℕ) → List Bool
+targetMarks parity degree split = places (isTarget parity (topPower degree) (babyLimit degree split)) 0 (greatestTarget degree split + 1)
 
 -- the marks of all needed powers
-unfoldable pub neededMarks : Parity → Basis → ℕ → ℕ → List Bool
-neededMarks parity basis split degree = sweepFrom basis (greatestTarget split degree) (targetMarks parity split degree)
+unfoldable pub neededMarks : Parity → Basis → (degree split : ℕ) → List Bool
+neededMarks parity basis degree split = sweepFrom basis (greatestTarget degree split) (targetMarks parity degree split)
 
 -- the marked places, rising; the first argument is the place of the list's first mark
 unfoldable pub markedFrom : ℕ → List Bool → List ℕ
@@ -68,8 +68,8 @@ markedFrom i (true ∷ marks) = i ∷ markedFrom (suc i) marks
 markedFrom i (false ∷ marks) = markedFrom (suc i) marks
 
 -- the needed powers, rising
-unfoldable pub neededList : Parity → Basis → ℕ → ℕ → List ℕ
-neededList parity basis split degree = markedFrom 0 (neededMarks parity basis split degree)
+unfoldable pub neededList : Parity → Basis → (degree split : ℕ) → List ℕ
+neededList parity basis degree split = markedFrom 0 (neededMarks parity basis degree split)
 
 -- how many are marked
 unfoldable pub countMarks : List Bool → ℕ
@@ -77,8 +77,8 @@ countMarks [] = 0
 countMarks (mark ∷ marks) = cond mark 1 0 + countMarks marks
 
 -- the number of needed powers
-unfoldable pub neededCount : Parity → Basis → ℕ → ℕ → ℕ
-neededCount parity basis split degree = countMarks (neededMarks parity basis split degree)
+unfoldable pub neededCount : Parity → Basis → (degree split : ℕ) → ℕ
+neededCount parity basis degree split = countMarks (neededMarks parity basis degree split)
 
 -- a list of marks among as many places as an array has: no mark beyond the list
 unfoldable pub padded : ℕ → List Bool → List Bool

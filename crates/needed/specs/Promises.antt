@@ -19,24 +19,24 @@ pub data Rising : List ℕ → Type 0 where
   next : {n m : ℕ} {rest : List ℕ} → n < m → Rising (m ∷ rest) → Rising (n ∷ m ∷ rest)
 
 -- of the needed powers, for all parities, bases and splits
-pub record NeededPowers (parity : Parity) (basis : Basis) (split degree : ℕ) : Type 1 where
+pub record NeededPowers (parity : Parity) (basis : Basis) (degree split : ℕ) : Type 1 where
   -- the needed powers are the least set that holds the targets and is closed under parts, in Chebyshev under their distance too
-  pub least : Least basis (Target parity split degree) (NeededPower parity basis split degree)
+  pub least : Least basis (Target parity degree split) (NeededPower parity basis degree split)
   -- the marks are that set
-  pub marks : (n : ℕ) → Marked (neededMarks parity basis split degree) n ↔ NeededPower parity basis split degree n
+  pub marks : (n : ℕ) → Marked (neededMarks parity basis degree split) n ↔ NeededPower parity basis degree split n
   -- the list holds each of them, rising, and so once; their number is its length
-  pub listed : (n : ℕ) → List·Memᴰ n (neededList parity basis split degree) ↔ NeededPower parity basis split degree n
-  pub rising : Rising (neededList parity basis split degree)
-  pub counted : neededCount parity basis split degree ≡ length (neededList parity basis split degree)
+  pub listed : (n : ℕ) → List·Memᴰ n (neededList parity basis degree split) ↔ NeededPower parity basis degree split n
+  pub rising : Rising (neededList parity basis degree split)
+  pub counted : neededCount parity basis degree split ≡ length (neededList parity basis degree split)
   -- each is from 2 to the degree, so degree below 2 needs none
-  pub from-two : (n : ℕ) → NeededPower parity basis split degree n → 2 ≤ n
-  pub within : 0 < degree → (n : ℕ) → NeededPower parity basis split degree n → n ≤ degree
-  pub none-below-two : degree < 2 → (n : ℕ) → NeededPower parity basis split degree n → ⊥
+  pub from-two : (n : ℕ) → NeededPower parity basis degree split n → 2 ≤ n
+  pub within : 0 < degree → (n : ℕ) → NeededPower parity basis degree split n → n ≤ degree
+  pub none-below-two : degree < 2 → (n : ℕ) → NeededPower parity basis degree split n → ⊥
   -- a part is smaller than what it is a part of
   pub parts-smaller : (n m : ℕ) → 2 ≤ n → Part basis n m → m < n
   -- the powers of two up to 2^(L−1) are among them, and the allowed powers from 2 in the slices
-  pub two-powers : (k : ℕ) → 0 < k → k < bitLen degree → NeededPower parity basis split degree (2 ^ k)
-  pub allowed : (n : ℕ) → 2 ≤ n → n < babyLimit split degree → allows parity n ≡ true → NeededPower parity basis split degree n
+  pub two-powers : (k : ℕ) → 0 < k → k < bitLen degree → NeededPower parity basis degree split (2 ^ k)
+  pub allowed : (n : ℕ) → 2 ≤ n → n < babyLimit degree split → allows parity n ≡ true → NeededPower parity basis degree split n
 
 -- of a union of targets the needed powers are the union of the sets
 abbrev pub Union : Basis → (ℕ → Type 0) → (ℕ → Type 0) → Type 0

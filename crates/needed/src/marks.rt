@@ -32,7 +32,7 @@ pub fn is_allowed(n: usize, parity: Parity) -> bool
 // Below it the allowed powers are needed: the base, or the degree + 1.
 fn baby_limit(degree: usize, split: usize) -> usize
     requires { ⌜ Planned degree split ⌝ }
-    ensures { λ r. ⌜ r ≡ babyLimit split degree ⌝ }
+    ensures { λ r. ⌜ r ≡ babyLimit degree split ⌝ }
 {
     let base = power_of_two(split);
     if base < degree + 1 { base } else { degree + 1 }
@@ -41,7 +41,7 @@ fn baby_limit(degree: usize, split: usize) -> usize
 // The greatest place that may be needed at once.
 fn greatest_target(degree: usize, split: usize) -> usize
     requires { ⌜ Planned degree split ⌝ }
-    ensures { λ r. ⌜ r ≡ greatestTarget split degree ⌝ }
+    ensures { λ r. ⌜ r ≡ greatestTarget degree split ⌝ }
 {
     let top = top_power(degree);
     let below = baby_limit(degree, split) - 1;
@@ -123,7 +123,7 @@ fn sweep(targets: [bool; 4096], last: usize, basis: Basis) -> [bool; 4096]
 // The marks of all needed powers.
 pub fn needed_marks(degree: usize, split: usize, parity: Parity, basis: Basis) -> [bool; 4096]
     requires { ⌜ Planned degree split ⌝ }
-    ensures { λ r. ⌜ r ≡ padded 4096 (neededMarks parity basis split degree) ⌝ }
+    ensures { λ r. ⌜ r ≡ padded 4096 (neededMarks parity basis degree split) ⌝ }
 {
     let top = top_power(degree);
     let limit = baby_limit(degree, split);
@@ -151,7 +151,7 @@ fn count_marks(marks: [bool; 4096], places: usize) -> usize
 // How many powers are needed.
 pub fn count_needed(degree: usize, split: usize, parity: Parity, basis: Basis) -> usize
     requires { ⌜ Planned degree split ⌝ }
-    ensures { λ r. ⌜ r ≡ neededCount parity basis split degree ⌝ }
+    ensures { λ r. ⌜ r ≡ neededCount parity basis degree split ⌝ }
 {
     let marks = needed_marks(degree, split, parity, basis);
     count_marks(marks, greatest_target(degree, split) + 1)

@@ -6,12 +6,12 @@ use Prim.Native.Nat.{ℕ, suc, _+_, _^_}
 use native.Mathlib.Omega.{arith}
 use lib.ListN.{take, drop}
 use lib.IntN.{ℤ}
-use Rattle.algebra.specs.Operations.{wholes, double}
-use Rattle.algebra.specs.Cut.{less, doubled, lowered, cutAt}
+use Rattle.algebra.specs.Operations.{wholeOps, double}
+use Rattle.algebra.specs.Cut.{differences, doubled, lowered, cutAt}
 use Rattle.algebra.specs.declared.Basis.{Basis}
 use Rattle.algebra.specs.declared.Basis.the-variants.{Monomial, Chebyshev}
 use Rattle.algebra.proofs.Magnitudes.{abs-sub, abs-double}
-use Rattle.number.specs.Numbers.{floats}
+use Rattle.number.specs.Numbers.{floatOps}
 use Rattle.number.specs.Exact.{num, Within, AllTo53}
 use Rattle.number.specs.Room.{Doubles}
 use Rattle.number.specs.CutSame.{CutsSame}
@@ -37,61 +37,61 @@ module _ (n : ℕ) where
   within-more [] h = tt
   within-more (x ∷ c) h = (omega (arith, h .0), within-more c (h .1))
 
-  within-less : (c d : List ℤ) → Within n c → Within n d → Within (n + n) (less wholes c d)
-  unfolding less
-  within-less [] d g h = tt
-  within-less (x ∷ c) [] g h = within-more (x ∷ c) g
-  within-less (x ∷ c) (y ∷ d) g h = (omega (arith, abs-sub x y, g .0, h .0), within-less c d (g .1) (h .1))
+  within-differences : (c d : List ℤ) → Within n c → Within n d → Within (n + n) (differences wholeOps c d)
+  unfolding differences
+  within-differences [] d g h = tt
+  within-differences (x ∷ c) [] g h = within-more (x ∷ c) g
+  within-differences (x ∷ c) (y ∷ d) g h = (omega (arith, abs-sub x y, g .0, h .0), within-differences c d (g .1) (h .1))
 
-  within-double : (c : List ℤ) → Within n c → Within (n + n) (map (double wholes) c)
+  within-double : (c : List ℤ) → Within n c → Within (n + n) (map (double wholeOps) c)
   within-double [] h = tt
   within-double (x ∷ c) h = (omega (arith, abs-double x, h .0), within-double c (h .1))
 
-  within-doubled : (c : List ℤ) → Within n c → Within (n + n) (doubled wholes c)
+  within-doubled : (c : List ℤ) → Within n c → Within (n + n) (doubled wholeOps c)
   unfolding doubled
   within-doubled [] h = tt
   within-doubled (x ∷ c) h = (omega (arith, h .0), within-double c (h .1))
 
-  within-cut : (basis : Basis) (p : ℕ) (c : List ℤ) → Within n c → Within (n + n) (cutAt wholes basis p c)
+  within-cut : (basis : Basis) (p : ℕ) (c : List ℤ) → Within n c → Within (n + n) (cutAt wholeOps basis p c)
   unfolding cutAt lowered
   within-cut Monomial p c h = within-more c h
   within-cut Chebyshev p c h =
-      within-append (n + n) (lowered wholes p c) (doubled wholes (drop p c))
-      (within-reverse (n + n) (less wholes (near p c) (far p c))
-      (within-less (near p c) (far p c) (within-near p c n h) (within-drop n (suc p) c h)))
+      within-append (n + n) (lowered wholeOps p c) (doubled wholeOps (drop p c))
+      (within-reverse (n + n) (differences wholeOps (near p c) (far p c))
+      (within-differences (near p c) (far p c) (within-near p c n h) (within-drop n (suc p) c h)))
       (within-doubled (drop p c) (within-drop n p c h))
 
 -- ---- equal numbers
 
-less-num : (c d : List ℤ) → AllTo53 c → AllTo53 d → less floats (map num c) (map num d) ≡ map num (less wholes c d)
-unfolding less
-less-num [] d g h = refl
-less-num (x ∷ c) [] g h = refl
-less-num (x ∷ c) (y ∷ d) g h = ap₂ _∷_ (exact .less x y (g .0) (h .0)) (less-num c d (g .1) (h .1))
+differences-num : (c d : List ℤ) → AllTo53 c → AllTo53 d → differences floatOps (map num c) (map num d) ≡ map num (differences wholeOps c d)
+unfolding differences
+differences-num [] d g h = refl
+differences-num (x ∷ c) [] g h = refl
+differences-num (x ∷ c) (y ∷ d) g h = ap₂ _∷_ (exact .subtracted x y (g .0) (h .0)) (differences-num c d (g .1) (h .1))
 
-double-num : (c : List ℤ) → AllTo53 c → map (double floats) (map num c) ≡ map num (map (double wholes) c)
+double-num : (c : List ℤ) → AllTo53 c → map (double floatOps) (map num c) ≡ map num (map (double wholeOps) c)
 double-num [] h = refl
 double-num (x ∷ c) h = ap₂ _∷_ (exact .doubled x (h .0)) (double-num c (h .1))
 
-doubled-num : (c : List ℤ) → AllTo53 c → doubled floats (map num c) ≡ map num (doubled wholes c)
+doubled-num : (c : List ℤ) → AllTo53 c → doubled floatOps (map num c) ≡ map num (doubled wholeOps c)
 unfolding doubled
 doubled-num [] h = refl
 doubled-num (x ∷ c) h = ap (num x ∷_) (double-num c (h .1))
 
-lowered-num : (p : ℕ) (c : List ℤ) → AllTo53 c → lowered floats p (map num c) ≡ map num (lowered wholes p c)
+lowered-num : (p : ℕ) (c : List ℤ) → AllTo53 c → lowered floatOps p (map num c) ≡ map num (lowered wholeOps p c)
 unfolding lowered
 lowered-num p c h =
     ap reverse
-    (ap₂ (less floats) (ap reverse (map-take num p c) ∙ map-reverse num (take p c)) (map-drop num (suc p) c)
-    ∙ less-num (near p c) (far p c) (within-near p c (2 ^ 53) h) (within-drop (2 ^ 53) (suc p) c h))
-    ∙ map-reverse num (less wholes (near p c) (far p c))
+    (ap₂ (differences floatOps) (ap reverse (map-take num p c) ∙ map-reverse num (take p c)) (map-drop num (suc p) c)
+    ∙ differences-num (near p c) (far p c) (within-near p c (2 ^ 53) h) (within-drop (2 ^ 53) (suc p) c h))
+    ∙ map-reverse num (differences wholeOps (near p c) (far p c))
 
-cut-num : (basis : Basis) (p : ℕ) (c : List ℤ) → AllTo53 c → cutAt floats basis p (map num c) ≡ map num (cutAt wholes basis p c)
+cut-num : (basis : Basis) (p : ℕ) (c : List ℤ) → AllTo53 c → cutAt floatOps basis p (map num c) ≡ map num (cutAt wholeOps basis p c)
 unfolding cutAt
 cut-num Monomial p c h = refl
 cut-num Chebyshev p c h =
-    ap₂ _++_ (lowered-num p c h) (ap (doubled floats) (map-drop num p c) ∙ doubled-num (drop p c) (within-drop (2 ^ 53) p c h))
-    ∙ sym (map-append num (lowered wholes p c) (doubled wholes (drop p c)))
+    ap₂ _++_ (lowered-num p c h) (ap (doubled floatOps) (map-drop num p c) ∙ doubled-num (drop p c) (within-drop (2 ^ 53) p c h))
+    ∙ sym (map-append num (lowered wholeOps p c) (doubled wholeOps (drop p c)))
 
 pub cuts-same : CutsSame
 unfolding Doubles

@@ -7,9 +7,9 @@ use native.Mathlib.Omega.{arith}
 use lib.ListN.{length, take, drop, getD, set, length-reverse, length-drop, drop-of-length-le, List·getD-append, take-append-drop}
 use lib.Seq.{set-at, set-append-left, take-all, drop-cons, length-take-le, getD-drop, getD-take}
 use Rattle.algebra.specs.Operations.{Operations, double}
-use Rattle.algebra.specs.Cut.{less, doubled, lowered, cutAt}
+use Rattle.algebra.specs.Cut.{differences, doubled, lowered, cutAt}
 use Rattle.algebra.specs.declared.Basis.the-variants.{Chebyshev}
-use Rattle.algebra.proofs.CutPlaces.{length-less}
+use Rattle.algebra.proofs.CutPlaces.{length-differences}
 use Rattle.algebra.proofs.Lists.{getD-reverse, getD-right}
 
 module _ {A : Type 0} where
@@ -31,25 +31,25 @@ module _ {A : Type 0} where
   set-right (x ∷ xs) ys n (suc i) v e = ap (x ∷_) (set-right xs ys n i v (omega arith))
 
 module _ {A : Type 0} (𝓞 : Operations A) where
-  less-nil : (xs : List A) → less 𝓞 xs [] ≡ xs
-  unfolding less
-  less-nil [] = refl
-  less-nil (x ∷ xs) = refl
+  differences-nil : (xs : List A) → differences 𝓞 xs [] ≡ xs
+  unfolding differences
+  differences-nil [] = refl
+  differences-nil (x ∷ xs) = refl
 
   -- the element at m while the first m of ys are taken off: still as it was
-  less-at : (xs ys : List A) (m : ℕ) (d : A) → getD (less 𝓞 xs (take m ys)) m d ≡ getD xs m d
-  unfolding less
-  less-at [] ys m d = refl
-  less-at (x ∷ xs) ys zero d = refl
-  less-at (x ∷ xs) [] (suc m) d = refl
-  less-at (x ∷ xs) (y ∷ ys) (suc m) d = less-at xs ys m d
+  differences-at : (xs ys : List A) (m : ℕ) (d : A) → getD (differences 𝓞 xs (take m ys)) m d ≡ getD xs m d
+  unfolding differences
+  differences-at [] ys m d = refl
+  differences-at (x ∷ xs) ys zero d = refl
+  differences-at (x ∷ xs) [] (suc m) d = refl
+  differences-at (x ∷ xs) (y ∷ ys) (suc m) d = differences-at xs ys m d
 
   less-step : (xs ys : List A) (m : ℕ) (d : A) → m < length xs → m < length ys
-      → set (less 𝓞 xs (take m ys)) m (𝓞 .sub (getD xs m d) (getD ys m d)) ≡ less 𝓞 xs (take (suc m) ys)
-  unfolding less
+      → set (differences 𝓞 xs (take m ys)) m (𝓞 .sub (getD xs m d) (getD ys m d)) ≡ differences 𝓞 xs (take (suc m) ys)
+  unfolding differences
   less-step [] ys m d h k = absurd (omega arith)
   less-step (x ∷ xs) [] m d h k = absurd (omega arith)
-  less-step (x ∷ xs) (y ∷ ys) zero d h k = ap (𝓞 .sub x y ∷_) (sym (less-nil xs))
+  less-step (x ∷ xs) (y ∷ ys) zero d h k = ap (𝓞 .sub x y ∷_) (sym (differences-nil xs))
   less-step (x ∷ xs) (y ∷ ys) (suc m) d h k = ap (𝓞 .sub x y ∷_) (less-step xs ys m d (omega arith) (omega arith))
 
   -- the first m doubled, the others as they were
@@ -70,7 +70,7 @@ module _ {A : Type 0} (𝓞 : Operations A) where
   module _ (p : ℕ) (c : List A) (d : A) where
     -- the low part from its end, once it has lost m coefficients of the high part
     abbrev lost : ℕ → List A
-    lost m = less 𝓞 (reverse (take p c)) (take m (drop (suc p) c))
+    lost m = differences 𝓞 (reverse (take p c)) (take m (drop (suc p) c))
 
     -- the list after m turns
     unfoldable pub cutTo : ℕ → List A
@@ -80,7 +80,7 @@ module _ {A : Type 0} (𝓞 : Operations A) where
       pub cut-none : cutTo 0 ≡ c
       unfolding cutTo
       cut-none =
-          ap (λ (l : List A). reverse l ++ (getD c p d ∷ drop (suc p) c)) (less-nil (reverse (take p c)))
+          ap (λ (l : List A). reverse l ++ (getD c p d ∷ drop (suc p) c)) (differences-nil (reverse (take p c)))
           ∙ ap (_++ (getD c p d ∷ drop (suc p) c)) (reverse-reverse (take p c))
           ∙ ap (take p c ++_) (sym (drop-cons c p d inside))
           ∙ take-append-drop p c
@@ -100,7 +100,7 @@ module _ {A : Type 0} (𝓞 : Operations A) where
         turned-length = length-reverse (take p c) ∙ low-length
 
         lost-length : (n : ℕ) → length (lost n) ≡ p
-        lost-length n = length-less 𝓞 (reverse (take p c)) (take n (drop (suc p) c)) ∙ turned-length
+        lost-length n = length-differences 𝓞 (reverse (take p c)) (take n (drop (suc p) c)) ∙ turned-length
 
         front-length : (n : ℕ) → length (reverse (lost n)) ≡ p
         front-length n = length-reverse (lost n) ∙ lost-length n
@@ -117,7 +117,7 @@ module _ {A : Type 0} (𝓞 : Operations A) where
             let front : k < length (reverse (lost m)) = omega (arith, front-length m) in
             List·getD-append (reverse (lost m)) (getD c p d ∷ doubledTo m (drop (suc p) c)) d k front
             ∙ getD-reverse (lost m) m k d (omega (arith, lost-length m))
-            ∙ less-at (reverse (take p c)) (drop (suc p) c) m d
+            ∙ differences-at (reverse (take p c)) (drop (suc p) c) m d
             ∙ low-value
 
         high-at : getD (cutTo m) i d ≡ getD c i d

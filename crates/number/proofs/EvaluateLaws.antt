@@ -13,7 +13,7 @@ use Rattle.algebra.specs.declared.Basis.the-variants.{Monomial, Chebyshev}
 use Rattle.algebra.proofs.Solve.{_:=_, num, _:+_, _:-_, _:*_, ring, from}
 use Rattle.algebra.proofs.Sums.{dot-nil, dot-cons, dot-mul}
 use Rattle.algebra.proofs.Chebyshev.{cheb-zero, cheb-one, cheb-step}
-use Rattle.number.specs.Evaluate.{horner, pairOf, clenshaw, evaluate}
+use Rattle.number.specs.Evaluate.{horner, clenshawPair, clenshaw, evaluate}
 
 module _ {A : Type 0} (𝓡 : Ring A) (x : A) where
   open Ring 𝓡 using (ops)
@@ -39,30 +39,30 @@ module _ {A : Type 0} (𝓡 : Ring A) (x : A) where
 
   -- what Clenshaw's pair of a list stands for
   pair-sum : (t : ℕ → A) → ((n : ℕ) → t (suc (suc n)) ≡ double ops x ⊗ t (suc n) ⊖ t n) → (c : List A)
-      → dot ops (λ j. t (suc j)) c ≡ pairOf ops x c .b1 ⊗ t 1 ⊖ pairOf ops x c .b2 ⊗ t 0
-  unfolding pairOf
+      → dot ops (λ j. t (suc j)) c ≡ clenshawPair ops x c .b1 ⊗ t 1 ⊖ clenshawPair ops x c .b2 ⊗ t 0
+  unfolding clenshawPair
   pair-sum t next [] = dot-nil ops (λ j. t (suc j)) ∙ ring 𝓡 (t 1 ∷ t 0 ∷ []) (λ u v. num 0 := num 0 :* u :- num 0 :* v) refl
   pair-sum t next (c ∷ cs) =
       from 𝓡
-      (x ∷ c ∷ pairOf ops x cs .b1 ∷ pairOf ops x cs .b2 ∷ t 2 ∷ t 1 ∷ t 0 ∷ dot ops (λ j. t (suc (suc j))) cs ∷ dot ops (λ j. t (suc j)) (c ∷ cs) ∷ [])
+      (x ∷ c ∷ clenshawPair ops x cs .b1 ∷ clenshawPair ops x cs .b2 ∷ t 2 ∷ t 1 ∷ t 0 ∷ dot ops (λ j. t (suc (suc j))) cs ∷ dot ops (λ j. t (suc j)) (c ∷ cs) ∷ [])
       (λ x c p q t₂ t₁ t₀ rest all. all := (num 2 :* x :* p :- q :+ c) :* t₁ :- p :* t₀)
       (λ x c p q t₂ t₁ t₀ rest all.
       (num 1, all := c :* t₁ :+ rest) ∷ (num 1, rest := p :* t₂ :- q :* t₁) ∷ (p, t₂ := num 2 :* x :* t₁ :- t₀) ∷ [])
       refl (dot-cons 𝓡 (λ j. t (suc j)) c cs, (pair-sum (λ j. t (suc j)) (λ n. next (suc n)) cs, (next 0, tt)))
 
   -- the first coefficient, and the others by their pair
-  chebyshev-sum : (c : A) (cs : List A) → dot ops (cheb ops x) (c ∷ cs) ≡ c ⊗ 𝟙 ⊕ (pairOf ops x cs .b1 ⊗ x ⊖ pairOf ops x cs .b2 ⊗ 𝟙)
+  chebyshev-sum : (c : A) (cs : List A) → dot ops (cheb ops x) (c ∷ cs) ≡ c ⊗ 𝟙 ⊕ (clenshawPair ops x cs .b1 ⊗ x ⊖ clenshawPair ops x cs .b2 ⊗ 𝟙)
   chebyshev-sum c cs =
       dot-cons 𝓡 (cheb ops x) c cs
       ∙ rw (pair-sum (cheb ops x) (cheb-step ops x) cs, cheb-zero ops x, cheb-one ops x)
 
   -- Clenshaw's rule gives the sum of c_j·T_j
   pub clenshaw-value : (c : List A) → clenshaw ops x c ≡ value ops Chebyshev x c
-  unfolding clenshaw pairOf
+  unfolding clenshaw clenshawPair
   clenshaw-value [] = sym (dot-nil ops (cheb ops x))
   clenshaw-value (c ∷ []) = ring 𝓡 (x ∷ c ∷ []) (λ x c. c := c :* num 1 :+ (num 0 :* x :- num 0 :* num 1)) refl ∙ sym (chebyshev-sum c [])
   clenshaw-value (c ∷ d ∷ cs) =
-      let p = pairOf ops x (d ∷ cs) in
+      let p = clenshawPair ops x (d ∷ cs) in
       ring 𝓡 (x ∷ c ∷ p .b1 ∷ p .b2 ∷ []) (λ x c p q. c :+ x :* p :- q := c :* num 1 :+ (p :* x :- q :* num 1)) refl
       ∙ sym (chebyshev-sum c (d ∷ cs))
 

@@ -6,7 +6,7 @@ use native.Mathlib.Omega.{arith}
 use lib.ListN.{length, getD, drop}
 use lib.Seq.{drop-cons, drop-length}
 use Rattle.algebra.specs.Operations.{Operations}
-use Rattle.number.specs.Evaluate.{Pair, horner, nextPair, pairOf, lastTerm, clenshaw}
+use Rattle.number.specs.Evaluate.{Pair, horner, nextClenshawPair, clenshawPair, lastTerm, clenshaw}
 
 -- one place back
 drop-back : {A : Type 0} (c : List A) (i : ℕ) (d : A) → 0 < i → i ≤ length c → drop (i - 1) c ≡ getD c (i - 1) d ∷ drop i c
@@ -20,8 +20,8 @@ module _ {A : Type 0} (𝓞 : Operations A) (x : A) (c : List A) where
   unfolding horner
   horner-start = rw drop-length
 
-  pub pair-start : pairOf 𝓞 x (drop (length c) c) ≡ record { b1 = 𝓞 .zero; b2 = 𝓞 .zero }
-  unfolding pairOf
+  pub pair-start : clenshawPair 𝓞 x (drop (length c) c) ≡ record { b1 = 𝓞 .zero; b2 = 𝓞 .zero }
+  unfolding clenshawPair
   pair-start = rw drop-length
 
   module _ (i : ℕ) (d : A) (p : 0 < i) (h : i ≤ length c) where
@@ -29,9 +29,9 @@ module _ {A : Type 0} (𝓞 : Operations A) (x : A) (c : List A) where
     unfolding horner
     horner-step e = rw e (sym (ap (horner 𝓞 x) (drop-back c i d p h)))
 
-    pub pair-step : {q : Pair A} → q ≡ pairOf 𝓞 x (drop i c) → nextPair 𝓞 x (getD c (i - 1) d) q ≡ pairOf 𝓞 x (drop (i - 1) c)
-    unfolding pairOf
-    pair-step e = ap (nextPair 𝓞 x (getD c (i - 1) d)) e ∙ sym (ap (pairOf 𝓞 x) (drop-back c i d p h))
+    pub pair-step : {q : Pair A} → q ≡ clenshawPair 𝓞 x (drop i c) → nextClenshawPair 𝓞 x (getD c (i - 1) d) q ≡ clenshawPair 𝓞 x (drop (i - 1) c)
+    unfolding clenshawPair
+    pair-step e = ap (nextClenshawPair 𝓞 x (getD c (i - 1) d)) e ∙ sym (ap (clenshawPair 𝓞 x) (drop-back c i d p h))
 
 module _ {A : Type 0} (𝓞 : Operations A) (x d : A) where
   -- no coefficient, one, and more
@@ -46,7 +46,7 @@ module _ {A : Type 0} (𝓞 : Operations A) (x d : A) where
   clenshaw-one (a ∷ []) h = refl
   clenshaw-one (a ∷ b ∷ c) h = absurd (omega arith)
 
-  pub clenshaw-more : (c : List A) → 1 < length c → clenshaw 𝓞 x c ≡ lastTerm 𝓞 x (getD c 0 d) (pairOf 𝓞 x (drop 1 c))
+  pub clenshaw-more : (c : List A) → 1 < length c → clenshaw 𝓞 x c ≡ lastTerm 𝓞 x (getD c 0 d) (clenshawPair 𝓞 x (drop 1 c))
   unfolding clenshaw
   clenshaw-more [] h = absurd (omega arith)
   clenshaw-more (a ∷ []) h = absurd (omega arith)

@@ -8,7 +8,7 @@ use lib.Dec.{lit≤, lit<, le→leb, lt→ltb}
 use lib.IntN.{ℤ, pos, negsuc, natAbs, _+ℤ_, _*ℤ_}
 use lib.Ieee.{Float, fin, binary64, add, mul, toSigned, inFloat, ofInt}
 use lib.Ieee.Back.{positive-back, negative-back}
-use Rattle.number.specs.Numbers.{floats}
+use Rattle.number.specs.Numbers.{floatOps}
 use Rattle.number.specs.Exact.{num, To53, ExactTo53}
 use Rattle.number.proofs.WholeFloats.{of-int, add-int, sub-int, mul-whole, scale-int, neg-int}
 
@@ -18,20 +18,20 @@ unfolding inFloat
 read-back (pos a) h = positive-back binary64 63 a (le→leb a (2 ^ 53) h) (lt-of-le-of-lt h (lit< tt)) .1
 read-back (negsuc a) h = negative-back binary64 63 a (lt→ltb a (2 ^ 53) h) (le-trans h (lit≤ tt)) .1
 
-two-is : floats .add (floats .one) (floats .one) ≡ num (pos 2)
+two-is : floatOps .add (floatOps .one) (floatOps .one) ≡ num (pos 2)
 unfolding add ofInt
 two-is = refl
 
-plus-zero : floats .zero ≡ num (pos 0)
+plus-zero : floatOps .zero ≡ num (pos 0)
 unfolding ofInt
 plus-zero = refl
 
-plus-one : floats .one ≡ num (pos 1)
+plus-one : floatOps .one ≡ num (pos 1)
 unfolding ofInt
 plus-one = refl
 
 product-in-sum : (q c v : ℤ) → To53 q → To53 c → natAbs v ≤ 2 → To53 (c *ℤ v)
-    → floats .add (num q) (floats .mul (num c) (num v)) ≡ num (q +ℤ c *ℤ v)
+    → floatOps .add (num q) (floatOps .mul (num c) (num v)) ≡ num (q +ℤ c *ℤ v)
 product-in-sum q c v hq hc hv hp =
     let v-small : To53 v = le-trans hv (lit≤ tt) in
     add-int binary64 q (mul binary64 (num c) (num v)) (c *ℤ v) hq
@@ -55,7 +55,7 @@ exact = record {
   one-is = plus-one;
   doubled = λ a h. ap (λ (x : Float). mul binary64 x (num a)) two-is ∙ scale-int binary64 1 a (lit≤ tt) h;
   added = λ a b g h. add-int binary64 a (num b) b g (of-int binary64 b h);
-  less = λ a b g h. sub-int binary64 a (num b) b g (of-int binary64 b h);
+  subtracted = λ a b g h. sub-int binary64 a (num b) b g (of-int binary64 b h);
   added-product = product-in-sum;
   opposite = λ a h. neg-int binary64 a h;
   never-minus-zero = not-minus-zero;

@@ -16,7 +16,7 @@ use Rattle.algebra.specs.declared.Basis.{Basis}
 use Rattle.algebra.specs.declared.Parity.{Parity}
 use Rattle.algebra.specs.declared.Parity.the-variants.{Full, Even, Odd}
 use Rattle.algebra.proofs.FoldPlaces.{length-everySecond, fold-length}
-use Rattle.number.specs.Numbers.{Numbers, whole}
+use Rattle.number.specs.Numbers.{Numbers, wholeNumbers}
 use Rattle.number.specs.Refusal.{firstRefusal, unlessRefused}
 use Rattle.number.specs.Parity.{allZero}
 use Rattle.number.specs.SumLimit.{sumFits}
@@ -105,12 +105,12 @@ module _ {A : Type 0} (numbers : Numbers A) (tests : List A → List (Bool × �
   foldable en a s = record { not-full = a .not-full; room = omega (arith, ltb-false (length out) n s) }
 
 pub whole-foldable : (parity : Parity) (c out : List ℤ) (n : ℕ) → n ≡ countOf parity (length c)
-    → foldRefusal whole wholeTests parity c (ltb (length out) n) ≡ 0 → Foldable parity c out × (sumAbs c ≤ 2 ^ 30)
+    → foldRefusal wholeNumbers wholeTests parity c (ltb (length out) n) ≡ 0 → Foldable parity c out × (sumAbs c ≤ 2 ^ 30)
 whole-foldable parity c out n en e =
-    let a = accepted whole wholeTests parity c (ltb (length out) n) e in
+    let a = accepted wholeNumbers wholeTests parity c (ltb (length out) n) e in
     let above = passed (not (sumFits c)) 2 ((ltb (length out) n, 21) ∷ []) (a .rest) in
     let short = passed (ltb (length out) n) 20 [] (above .1) in
-    (foldable whole wholeTests parity c out n en a (short .0), leb-true (sumAbs c) (2 ^ 30) (not-false (sumFits c) (above .0)))
+    (foldable wholeNumbers wholeTests parity c out n en a (short .0), leb-true (sumAbs c) (2 ^ 30) (not-false (sumFits c) (above .0)))
 
 pub plain-foldable : {A : Type 0} (numbers : Numbers A) (parity : Parity) (c out : List A) (n : ℕ) → n ≡ countOf parity (length c)
     → foldRefusal numbers noTests parity c (ltb (length out) n) ≡ 0 → Foldable parity c out

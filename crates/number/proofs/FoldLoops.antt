@@ -7,7 +7,7 @@ use lib.ListN.{length, getD, drop, set, length-drop}
 use lib.Seq.{sets}
 use lib.IntN.{ℤ, pos, natAbs, _-ℤ_, _*ℤ_}
 use lib.Ieee.{Float, nan, neg}
-use Rattle.algebra.specs.Operations.{Operations, wholes}
+use Rattle.algebra.specs.Operations.{Operations, wholeOps}
 use Rattle.algebra.specs.Fold.{everySecond, coeffR, addR, fold}
 use Rattle.algebra.specs.Magnitude.{sumAbs}
 use Rattle.algebra.specs.declared.Basis.the-variants.{Chebyshev}
@@ -16,7 +16,7 @@ use Rattle.algebra.proofs.Filling as filling
 use Rattle.algebra.proofs.FoldPlaces.{length-everySecond, fold-length, getD-sumRFrom}
 use Rattle.algebra.proofs.FoldMagnitudes.{sumAbs-everySecond}
 use Rattle.algebra.proofs.Magnitudes.{sumAbs-drop}
-use Rattle.number.specs.Numbers.{floats}
+use Rattle.number.specs.Numbers.{floatOps}
 use Rattle.number.proofs.EverySecond.{everySecond-step, everySecond-end, length-odd-places, getD-everySecond-from, drop-everySecond-from}
 use Rattle.number.proofs.FillFromEnd.{filledFrom, filled-length, filled-none, filled-step}
 use Rattle.number.proofs.Rows.{next-coeff, add-more, add-end, alternating, alternating-end, alternating-more, alternating-small, column-is}
@@ -78,14 +78,14 @@ module _ {A : Type 0} (𝓞 : Operations A) (c : List A) where
 pub record Summing (c start out : List ℤ) (s : ℤ) (left : ℕ) : Type 0 where
   pub within : left ≤ length c / 2
   pub sum : s ≡ alternating (everySecond (drop (2 * left + 1) c))
-  pub so-far : out ≡ filledFrom (fold wholes Chebyshev Odd c) start left
+  pub so-far : out ≡ filledFrom (fold wholeOps Chebyshev Odd c) start left
 
 abs-alternating : (c : List ℤ) (i : ℕ) → natAbs (alternating (everySecond (drop i c))) ≤ sumAbs c
 abs-alternating c i = omega (arith, alternating-small (everySecond (drop i c)), sumAbs-everySecond (drop i c), sumAbs-drop i c)
 
 module _ (c start : List ℤ) (room : length c / 2 ≤ length start) where
-  room-odd : length (fold wholes Chebyshev Odd c) ≤ length start
-  room-odd = omega (arith, length-odd wholes c)
+  room-odd : length (fold wholeOps Chebyshev Odd c) ≤ length start
+  room-odd = omega (arith, length-odd wholeOps c)
 
   pub sum-start : Summing c start start (pos 0) (length c / 2)
   sum-start =
@@ -93,12 +93,12 @@ module _ (c start : List ℤ) (room : length c / 2 ≤ length start) where
       record {
         within = omega arith;
         sum = sym (ap alternating (everySecond-end c (2 * (length c / 2) + 1) past) ∙ alternating-end);
-        so-far = sym (filled-none (fold wholes Chebyshev Odd c) start room-odd (length c / 2) (sym (length-odd wholes c)));
+        so-far = sym (filled-none (fold wholeOps Chebyshev Odd c) start room-odd (length c / 2) (sym (length-odd wholeOps c)));
       }
 
   module _ {out : List ℤ} {s : ℤ} {left : ℕ} (t : Summing c start out s left) where
     pub sum-length : length out ≡ length start
-    sum-length = ap length (t .so-far) ∙ filled-length (fold wholes Chebyshev Odd c) start room-odd left (omega (arith, t .within))
+    sum-length = ap length (t .so-far) ∙ filled-length (fold wholeOps Chebyshev Odd c) start room-odd left (omega (arith, t .within))
 
     pub sum-abs : natAbs s ≤ sumAbs c
     sum-abs = omega (arith, ap natAbs (t .sum), abs-alternating c (2 * left + 1))
@@ -116,14 +116,14 @@ module _ (c start : List ℤ) (room : length c / 2 ≤ length start) where
       pub sum-abs-next : {s′ : ℤ} → s′ ≡ getD c (2 * i + 1) (pos 0) -ℤ s → natAbs s′ ≤ sumAbs c
       sum-abs-next e = omega (arith, ap natAbs (sum-is e), abs-alternating c (2 * i + 1))
 
-      pub sum-step : {s′ v : ℤ} → s′ ≡ getD c (2 * i + 1) (pos 0) -ℤ s → v ≡ s′ *ℤ coeffR wholes i i → Summing c start (set out i v) s′ i
+      pub sum-step : {s′ v : ℤ} → s′ ≡ getD c (2 * i + 1) (pos 0) -ℤ s → v ≡ s′ *ℤ coeffR wholeOps i i → Summing c start (set out i v) s′ i
       sum-step {s′} {v} e ev =
-          let F = fold wholes Chebyshev Odd c in
+          let F = fold wholeOps Chebyshev Odd c in
           let inside : i < length c / 2 = omega (arith, t .within) in
-          let place : i < length F = omega (arith, length-odd wholes c) in
+          let place : i < length F = omega (arith, length-odd wholeOps c) in
           let v-is : v ≡ getD F i (pos 0) =
-          ev ∙ ap (λ (z : ℤ). z *ℤ coeffR wholes i i) (sum-is e)
-          ∙ sym (odd-place wholes c i (pos 0) inside ∙ column-is i (everySecond (drop (2 * i + 1) c)))
+          ev ∙ ap (λ (z : ℤ). z *ℤ coeffR wholeOps i i) (sum-is e)
+          ∙ sym (odd-place wholeOps c i (pos 0) inside ∙ column-is i (everySecond (drop (2 * i + 1) c)))
           in
           record {
             within = omega arith;
@@ -131,8 +131,8 @@ module _ (c start : List ℤ) (room : length c / 2 ≤ length start) where
             so-far = ap (λ (l : List ℤ). set l i v) (t .so-far) ∙ filled-step F start room-odd left i (pos 0) v next place v-is;
           }
 
-    pub sum-end : left ≡ 0 → out ≡ sets start 0 (fold wholes Chebyshev Odd c)
-    sum-end e = t .so-far ∙ ap (filledFrom (fold wholes Chebyshev Odd c) start) e
+    pub sum-end : left ≡ 0 → out ≡ sets start 0 (fold wholeOps Chebyshev Odd c)
+    sum-end e = t .so-far ∙ ap (filledFrom (fold wholeOps Chebyshev Odd c) start) e
 
 -- ---- f64, place by place: the sum of a place from +0, in the source's order
 
@@ -141,34 +141,34 @@ pub record Adding (c : List Float) (i : ℕ) (sum w : Float) (j : ℕ) : Type 0 
   pub row : ℕ
   pub from : i ≤ row
   pub place : j ≡ 2 * row + 1
-  pub weight : w ≡ coeffR floats row i
-  pub rest : addR floats i row sum (everySecond (drop j c)) ≡ addR floats i i (floats .zero) (everySecond (drop (2 * i + 1) c))
+  pub weight : w ≡ coeffR floatOps row i
+  pub rest : addR floatOps i row sum (everySecond (drop j c)) ≡ addR floatOps i i (floatOps .zero) (everySecond (drop (2 * i + 1) c))
 
-pub adding-start : (c : List Float) (i : ℕ) {sum w : Float} → sum ≡ floats .zero → w ≡ coeffR floats i i → Adding c i sum w (2 * i + 1)
+pub adding-start : (c : List Float) (i : ℕ) {sum w : Float} → sum ≡ floatOps .zero → w ≡ coeffR floatOps i i → Adding c i sum w (2 * i + 1)
 adding-start c i {sum} es ew = record {
   row = i;
   from = omega arith;
   place = refl;
   weight = ew;
-  rest = ap (λ (x : Float). addR floats i i x (everySecond (drop (2 * i + 1) c))) es;
+  rest = ap (λ (x : Float). addR floatOps i i x (everySecond (drop (2 * i + 1) c))) es;
 }
 
 module _ {c : List Float} {i : ℕ} {sum w : Float} {j : ℕ} (t : Adding c i sum w j) where
-  pub adding-step : j < length c → Adding c i (floats .add sum (floats .mul (getD c j nan) w)) (neg w) (j + 2)
+  pub adding-step : j < length c → Adding c i (floatOps .add sum (floatOps .mul (getD c j nan) w)) (neg w) (j + 2)
   adding-step h = record {
     row = suc (t .row);
     from = omega (arith, t .from);
     place = omega (arith, t .place);
     weight = ap neg (t .weight) ∙ sym (next-coeff i (t .row) (t .from));
     rest =
-        ap (λ (x : Float). addR floats i (suc (t .row)) (floats .add sum (floats .mul (getD c j nan) x)) (everySecond (drop (j + 2) c))) (t .weight)
-        ∙ sym (add-more floats i (t .row) sum (getD c j nan) (everySecond (drop (j + 2) c)))
-        ∙ ap (addR floats i (t .row) sum) (sym (everySecond-step c j nan h))
+        ap (λ (x : Float). addR floatOps i (suc (t .row)) (floatOps .add sum (floatOps .mul (getD c j nan) x)) (everySecond (drop (j + 2) c))) (t .weight)
+        ∙ sym (add-more floatOps i (t .row) sum (getD c j nan) (everySecond (drop (j + 2) c)))
+        ∙ ap (addR floatOps i (t .row) sum) (sym (everySecond-step c j nan h))
         ∙ t .rest;
   }
 
-  pub adding-end : length c ≤ j → sum ≡ addR floats i i (floats .zero) (everySecond (drop (2 * i + 1) c))
-  adding-end h = sym (ap (addR floats i (t .row) sum) (everySecond-end c j h) ∙ add-end floats i (t .row) sum) ∙ t .rest
+  pub adding-end : length c ≤ j → sum ≡ addR floatOps i i (floatOps .zero) (everySecond (drop (2 * i + 1) c))
+  adding-end h = sym (ap (addR floatOps i (t .row) sum) (everySecond-end c j h) ∙ add-end floatOps i (t .row) sum) ∙ t .rest
 
 -- ---- the odd Chebyshev fold from the front: the first i places are written
 

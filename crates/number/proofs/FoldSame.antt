@@ -13,7 +13,7 @@ use lib.IntN.{ℤ, pos, natAbs}
 use lib.Ieee.{Float, nan, inf, fin, binary64, up, down, eq}
 use lib.Ieee.Exact.{HasValue}
 use lib.Ieee.Fits.{down-pos}
-use Rattle.algebra.specs.Operations.{wholes}
+use Rattle.algebra.specs.Operations.{wholeOps}
 use Rattle.algebra.specs.Fold.{everySecond, sumRFrom, fold}
 use Rattle.algebra.specs.Magnitude.{sumAbs}
 use Rattle.algebra.specs.declared.Basis.{Basis}
@@ -22,7 +22,7 @@ use Rattle.algebra.specs.declared.Parity.{Parity}
 use Rattle.algebra.specs.declared.Parity.the-variants.{Full, Even, Odd}
 use Rattle.algebra.proofs.Magnitudes.{sumAbs-drop}
 use Rattle.algebra.proofs.FoldMagnitudes.{sumAbs-everySecond, fold-magnitude}
-use Rattle.number.specs.Numbers.{whole, floats, float}
+use Rattle.number.specs.Numbers.{wholeNumbers, floatOps, floatNumbers}
 use Rattle.number.specs.Parity.{allZero}
 use Rattle.number.specs.SumLimit.{sumFits}
 use Rattle.number.specs.Exact.{num, To53}
@@ -43,13 +43,13 @@ odds-small c h = omega (arith, sumAbs-everySecond (drop 1 c), sumAbs-drop 1 c)
 odds-num : (c : List ℤ) → everySecond (drop 1 (map num c)) ≡ map num (everySecond (drop 1 c))
 odds-num c = ap everySecond (map-drop num 1 c) ∙ map-everySecond num (drop 1 c)
 
-fold-num : (basis : Basis) (parity : Parity) (c : List ℤ) → sumAbs c ≤ 2 ^ 30 → fold floats basis parity (map num c) ≡ map num (fold wholes basis parity c)
+fold-num : (basis : Basis) (parity : Parity) (c : List ℤ) → sumAbs c ≤ 2 ^ 30 → fold floatOps basis parity (map num c) ≡ map num (fold wholeOps basis parity c)
 unfolding fold
 fold-num basis Full c h = refl
 fold-num basis Even c h = map-everySecond num c
 fold-num Monomial Odd c h = odds-num c
 fold-num Chebyshev Odd c h =
-    ap (sumRFrom floats 0) (odds-num c) ∙ rows-num 0 (everySecond (drop 1 c)) (omega (arith, odds-small c h))
+    ap (sumRFrom floatOps 0) (odds-num c) ∙ rows-num 0 (everySecond (drop 1 c)) (omega (arith, odds-small c h))
 
 -- ---- the same refusals
 
@@ -80,24 +80,24 @@ eq-zero (fin t m e) s n v =
 eq-zero nan s n v = absurd v
 eq-zero (inf t) s n v = absurd v
 
-zero-num : (z : ℤ) → To53 z → float .isZero (num z) ≡ whole .isZero z
+zero-num : (z : ℤ) → To53 z → floatNumbers .isZero (num z) ≡ wholeNumbers .isZero z
 zero-num z h =
     let w = of-int binary64 z h in
     eq-zero (num z) (w .s) (w .n) (w .value) ∙ ap (λ (k : ℕ). eqb k 0) (sym (abs-signed (w .s) (w .n)) ∙ ap natAbs (w .is))
 
-zeros-num : (l : List ℤ) → sumAbs l ≤ 2 ^ 30 → allZero float (map num l) ≡ allZero whole l
+zeros-num : (l : List ℤ) → sumAbs l ≤ 2 ^ 30 → allZero floatNumbers (map num l) ≡ allZero wholeNumbers l
 unfolding allZero sumAbs
 zeros-num [] h = refl
 zeros-num (z ∷ l) h = ap₂ _&&_ (zero-num z (omega arith)) (zeros-num l (omega arith))
 
-wrong-num : (parity : Parity) (c : List ℤ) → sumAbs c ≤ 2 ^ 30 → allZero float (wrongPlaces parity (map num c)) ≡ allZero whole (wrongPlaces parity c)
+wrong-num : (parity : Parity) (c : List ℤ) → sumAbs c ≤ 2 ^ 30 → allZero floatNumbers (wrongPlaces parity (map num c)) ≡ allZero wholeNumbers (wrongPlaces parity c)
 unfolding allZero
 wrong-num Full c h = refl
-wrong-num Even c h = ap (allZero float) (odds-num c) ∙ zeros-num (everySecond (drop 1 c)) (odds-small c h)
-wrong-num Odd c h = ap (allZero float) (map-everySecond num c) ∙ zeros-num (everySecond c) (omega (arith, sumAbs-everySecond c))
+wrong-num Even c h = ap (allZero floatNumbers) (odds-num c) ∙ zeros-num (everySecond (drop 1 c)) (odds-small c h)
+wrong-num Odd c h = ap (allZero floatNumbers) (map-everySecond num c) ∙ zeros-num (everySecond c) (omega (arith, sumAbs-everySecond c))
 
 refusal-num : (parity : Parity) (c : List ℤ) (short : Bool) → sumFits c ≡ true
-    → foldRefusal float noTests parity (map num c) short ≡ foldRefusal whole wholeTests parity c short
+    → foldRefusal floatNumbers noTests parity (map num c) short ≡ foldRefusal wholeNumbers wholeTests parity c short
 unfolding foldRefusal
 refusal-num parity c short h = rw (length-map c num, wrong-num parity c (leb-true (sumAbs c) (2 ^ 30) h), h)
 
@@ -105,7 +105,7 @@ pub folds-same : FoldsSame
 folds-same basis parity c h =
     let small = leb-true (sumAbs c) (2 ^ 30) h in
     record {
-      within = within-each (2 ^ 53) (fold wholes basis parity c) (λ i. omega (arith, fold-magnitude basis parity c i));
+      within = within-each (2 ^ 53) (fold wholeOps basis parity c) (λ i. omega (arith, fold-magnitude basis parity c i));
       written = fold-num basis parity c small;
       refused = λ short. refusal-num parity c short h;
     }

@@ -4,16 +4,16 @@ use mathlib.Core.Bool.{true, false}
 use lib.IntN.{pos}
 use lib.Ieee.{Float, binary64, ofBits, ofInt, eq, ne}
 use borrow.Author.Tests.{not-true, not-false}
-use Rattle.number.specs.Numbers.{floats, float}
+use Rattle.number.specs.Numbers.{floatOps, floatNumbers}
 use Rattle.number.specs.Exact.{num}
 
 -- 0.0
-pub zero-is : ofBits binary64 0 ≡ floats .zero
+pub zero-is : ofBits binary64 0 ≡ floatOps .zero
 unfolding ofBits
 zero-is = refl
 
 -- 1.0
-pub one-is : ofBits binary64 0x3ff0_0000_0000_0000 ≡ floats .one
+pub one-is : ofBits binary64 0x3ff0_0000_0000_0000 ≡ floatOps .one
 unfolding ofBits
 one-is = refl
 
@@ -23,10 +23,10 @@ unfolding ofBits ofInt
 two-is = refl
 
 -- `x != 0.0` found true, and found false
-pub float-not-zero : (x : Float) → ne x (ofBits binary64 0) ≡ true → float .isZero x ≡ false
+pub float-not-zero : (x : Float) → ne x (ofBits binary64 0) ≡ true → floatNumbers .isZero x ≡ false
 unfolding ne
 float-not-zero x test = ap (eq x) (sym zero-is) ∙ not-true (eq x (ofBits binary64 0)) test
 
-pub float-is-zero : (x : Float) → ne x (ofBits binary64 0) ≡ false → float .isZero x ≡ true
+pub float-is-zero : (x : Float) → ne x (ofBits binary64 0) ≡ false → floatNumbers .isZero x ≡ true
 unfolding ne
 float-is-zero x test = ap (eq x) (sym zero-is) ∙ not-false (eq x (ofBits binary64 0)) test

@@ -10,7 +10,7 @@ use lib.Signed.{mag, ltZ, nonNeg}
 use mir.Syntax.{w64}
 use mir.Val.{SFits, toZ, ofZ}
 use mir.Facts.{toZ-ofZ}
-use Rattle.number.specs.Numbers.{whole}
+use Rattle.number.specs.Numbers.{wholeNumbers}
 
 -- a number that fits, read out of its bits
 pub back : {z x : ℤ} → mag z < 2 ^ 63 → z ≡ x → toZ w64 (ofZ w64 z) ≡ x
@@ -57,7 +57,7 @@ module _ {z x : ℤ} (e : z ≡ x) where
   minus-from-zero = ap (λ (y : ℤ). pos 0 -ℤ y) e ∙ +ℤ-idl (negℤ x)
 
 -- a whole number is zero exactly if its bits are
-zero-bits : (z : ℤ) → SFits w64 z → eqb (ofZ w64 z) 0 ≡ whole .isZero z
+zero-bits : (z : ℤ) → SFits w64 z → eqb (ofZ w64 z) 0 ≡ wholeNumbers .isZero z
 zero-bits (pos n) h = refl
 zero-bits (negsuc n) h =
     ne-eqb (ofZ w64 (negsuc n)) 0 (λ (e : ofZ w64 (negsuc n) ≡ 0). differ (sym (toZ-ofZ h) ∙ ap (toZ w64) e))
@@ -68,8 +68,8 @@ zero-bits (negsuc n) h =
 
 -- the machine's test of a whole number against 0, on its bits: found equal, and found other
 module _ (z : ℤ) (fits : SFits w64 z) where
-  pub whole-is-zero : ofZ w64 z ≡ 0 → whole .isZero z ≡ true
+  pub whole-is-zero : ofZ w64 z ≡ 0 → wholeNumbers .isZero z ≡ true
   whole-is-zero e = sym (zero-bits z fits) ∙ eq-eqb (ofZ w64 z) 0 e
 
-  pub whole-not-zero : (ofZ w64 z ≡ 0 → ⊥) → whole .isZero z ≡ false
+  pub whole-not-zero : (ofZ w64 z ≡ 0 → ⊥) → wholeNumbers .isZero z ≡ false
   whole-not-zero e = sym (zero-bits z fits) ∙ ne-eqb (ofZ w64 z) 0 e

@@ -16,13 +16,13 @@ module _ {A : Type 0} (𝓞 : Operations A) where
   horner x (c ∷ cs) = 𝓞 .add (𝓞 .mul (horner x cs) x) c
 
   -- b_i = 2x·b_(i+1) - b_(i+2) + c_i
-  abbrev pub nextPair : A → A → Pair A → Pair A
-  nextPair x c p = record { b1 = 𝓞 .add (𝓞 .sub (𝓞 .mul (double 𝓞 x) (p .b1)) (p .b2)) c; b2 = p .b1 }
+  abbrev pub nextClenshawPair : A → A → Pair A → Pair A
+  nextClenshawPair x c p = record { b1 = 𝓞 .add (𝓞 .sub (𝓞 .mul (double 𝓞 x) (p .b1)) (p .b2)) c; b2 = p .b1 }
 
   -- the pair at the first of these coefficients, past the last of which both numbers are zero
-  unfoldable pub pairOf : A → List A → Pair A
-  pairOf x [] = record { b1 = 𝓞 .zero; b2 = 𝓞 .zero }
-  pairOf x (c ∷ cs) = nextPair x c (pairOf x cs)
+  unfoldable pub clenshawPair : A → List A → Pair A
+  clenshawPair x [] = record { b1 = 𝓞 .zero; b2 = 𝓞 .zero }
+  clenshawPair x (c ∷ cs) = nextClenshawPair x c (clenshawPair x cs)
 
   -- c_0 + x·b_1 - b_2
   abbrev pub lastTerm : A → A → Pair A → A
@@ -32,7 +32,7 @@ module _ {A : Type 0} (𝓞 : Operations A) where
   unfoldable pub clenshaw : A → List A → A
   clenshaw x [] = 𝓞 .zero
   clenshaw x (c ∷ []) = c
-  clenshaw x (c ∷ d ∷ cs) = lastTerm x c (pairOf x (d ∷ cs))
+  clenshaw x (c ∷ d ∷ cs) = lastTerm x c (clenshawPair x (d ∷ cs))
 
   -- Horner's rule for x^j, Clenshaw's for T_j
   abbrev pub evaluate : Basis → List A → A → A

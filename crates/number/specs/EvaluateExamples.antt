@@ -7,9 +7,9 @@ use lib.Ieee.{Float, nan, fin, add, sub, mul, div, neg, eq, ofInt}
 use Rattle.algebra.specs.Fold.{everySecond}
 use Rattle.algebra.specs.declared.Basis.the-variants.{Monomial, Chebyshev}
 use Rattle.algebra.specs.declared.Parity.the-variants.{Full, Even, Odd}
-use Rattle.number.specs.Numbers.{floats, whole, float}
+use Rattle.number.specs.Numbers.{floatOps, wholeNumbers, floatNumbers}
 use Rattle.number.specs.Exact.{num}
-use Rattle.number.specs.Evaluate.{horner, pairOf, clenshaw, evaluate}
+use Rattle.number.specs.Evaluate.{horner, clenshawPair, clenshaw, evaluate}
 use Rattle.number.specs.Parity.{allZero, parityOf}
 use Rattle.number.specs.Interval.{changeOfBasis}
 
@@ -18,64 +18,64 @@ abbrev minusZero : Float
 minusZero = fin true 0 (pos 0)
 
 -- Chebyshev 1..6 at 2 is 2,787
-pub six-at-two : evaluate floats Chebyshev (map num (pos 1 ∷ pos 2 ∷ pos 3 ∷ pos 4 ∷ pos 5 ∷ pos 6 ∷ [])) (num (pos 2)) ≡ num (pos 2787)
-unfolding clenshaw pairOf ofInt add sub mul neg
+pub six-at-two : evaluate floatOps Chebyshev (map num (pos 1 ∷ pos 2 ∷ pos 3 ∷ pos 4 ∷ pos 5 ∷ pos 6 ∷ [])) (num (pos 2)) ≡ num (pos 2787)
+unfolding clenshaw clenshawPair ofInt add sub mul neg
 six-at-two = refl
 
 -- 1 + 2x + 3x² at 2 is 17
-pub three-at-two : evaluate floats Monomial (map num (pos 1 ∷ pos 2 ∷ pos 3 ∷ [])) (num (pos 2)) ≡ num (pos 17)
+pub three-at-two : evaluate floatOps Monomial (map num (pos 1 ∷ pos 2 ∷ pos 3 ∷ [])) (num (pos 2)) ≡ num (pos 17)
 unfolding horner ofInt add mul
 three-at-two = refl
 
 -- no coefficient gives zero in either basis
-pub none-monomial : evaluate floats Monomial [] nan ≡ floats .zero
+pub none-monomial : evaluate floatOps Monomial [] nan ≡ floatOps .zero
 unfolding horner
 none-monomial = refl
 
-pub none-chebyshev : evaluate floats Chebyshev [] nan ≡ floats .zero
+pub none-chebyshev : evaluate floatOps Chebyshev [] nan ≡ floatOps .zero
 unfolding clenshaw
 none-chebyshev = refl
 
 -- one coefficient: Clenshaw returns it as it is, Horner adds it to 0·x, so that its -0 depends on the sign of x
-pub one-chebyshev : evaluate floats Chebyshev (minusZero ∷ []) nan ≡ minusZero
+pub one-chebyshev : evaluate floatOps Chebyshev (minusZero ∷ []) nan ≡ minusZero
 unfolding clenshaw
 one-chebyshev = refl
 
-pub one-monomial-right : evaluate floats Monomial (minusZero ∷ []) (num (pos 1)) ≡ floats .zero
+pub one-monomial-right : evaluate floatOps Monomial (minusZero ∷ []) (num (pos 1)) ≡ floatOps .zero
 unfolding horner ofInt add mul
 one-monomial-right = refl
 
-pub one-monomial-left : evaluate floats Monomial (minusZero ∷ []) (num (negsuc 0)) ≡ minusZero
+pub one-monomial-left : evaluate floatOps Monomial (minusZero ∷ []) (num (negsuc 0)) ≡ minusZero
 unfolding horner ofInt add mul
 one-monomial-left = refl
 
 -- -0 counts as zero, a NaN does not
-pub minus-zero-even : parityOf float (num (pos 1) ∷ minusZero ∷ []) ≡ Even
+pub minus-zero-even : parityOf floatNumbers (num (pos 1) ∷ minusZero ∷ []) ≡ Even
 unfolding parityOf allZero everySecond ofInt eq
 minus-zero-even = refl
 
-pub nan-full : parityOf float (num (pos 1) ∷ nan ∷ []) ≡ Full
+pub nan-full : parityOf floatNumbers (num (pos 1) ∷ nan ∷ []) ≡ Full
 unfolding parityOf allZero everySecond ofInt eq
 nan-full = refl
 
 -- no coefficient, one, and zeros alone are Even; 0 1 0 2 is Odd; 1 2 is Full
-pub none-even : parityOf whole [] ≡ Even
+pub none-even : parityOf wholeNumbers [] ≡ Even
 unfolding parityOf allZero everySecond
 none-even = refl
 
-pub one-even : parityOf whole (pos 5 ∷ []) ≡ Even
+pub one-even : parityOf wholeNumbers (pos 5 ∷ []) ≡ Even
 unfolding parityOf allZero everySecond
 one-even = refl
 
-pub zeros-even : parityOf whole (pos 0 ∷ pos 0 ∷ []) ≡ Even
+pub zeros-even : parityOf wholeNumbers (pos 0 ∷ pos 0 ∷ []) ≡ Even
 unfolding parityOf allZero everySecond
 zeros-even = refl
 
-pub odd-places : parityOf whole (pos 0 ∷ pos 1 ∷ pos 0 ∷ pos 2 ∷ []) ≡ Odd
+pub odd-places : parityOf wholeNumbers (pos 0 ∷ pos 1 ∷ pos 0 ∷ pos 2 ∷ []) ≡ Odd
 unfolding parityOf allZero everySecond
 odd-places = refl
 
-pub both-places : parityOf whole (pos 1 ∷ negsuc 1 ∷ []) ≡ Full
+pub both-places : parityOf wholeNumbers (pos 1 ∷ negsuc 1 ∷ []) ≡ Full
 unfolding parityOf allZero everySecond
 both-places = refl
 

@@ -6,7 +6,7 @@ use Prim.Native.Nat.{ℕ, _≤_, _<_, _^_}
 use lib.IntN.{ℤ, pos, negℤ, natAbs, _+ℤ_, _-ℤ_, _*ℤ_}
 use lib.Ieee.{Float, fin, binary64, ofInt}
 use Rattle.algebra.specs.Operations.{double}
-use Rattle.number.specs.Numbers.{floats}
+use Rattle.number.specs.Numbers.{floatOps}
 
 -- the f64 of a whole number, rounded once
 abbrev pub num : ℤ → Float
@@ -28,13 +28,13 @@ AllTo53 c = Within (2 ^ 53) c
 -- of whole numbers up to 2^53 each operation gives the f64 of the exact result, which is never -0. A product by a number up to 2 stands
 -- in a sum, and an opposite is that of a nonzero number, since alone they can be -0.
 pub record ExactTo53 : Type 0 where
-  pub zero-is : floats .zero ≡ num (pos 0)
-  pub one-is : floats .one ≡ num (pos 1)
-  pub doubled : (a : ℤ) → To53 a → double floats (num a) ≡ num (pos 2 *ℤ a)
-  pub added : (a b : ℤ) → To53 a → To53 b → floats .add (num a) (num b) ≡ num (a +ℤ b)
-  pub less : (a b : ℤ) → To53 a → To53 b → floats .sub (num a) (num b) ≡ num (a -ℤ b)
+  pub zero-is : floatOps .zero ≡ num (pos 0)
+  pub one-is : floatOps .one ≡ num (pos 1)
+  pub doubled : (a : ℤ) → To53 a → double floatOps (num a) ≡ num (pos 2 *ℤ a)
+  pub added : (a b : ℤ) → To53 a → To53 b → floatOps .add (num a) (num b) ≡ num (a +ℤ b)
+  pub subtracted : (a b : ℤ) → To53 a → To53 b → floatOps .sub (num a) (num b) ≡ num (a -ℤ b)
   pub added-product : (q c v : ℤ) → To53 q → To53 c → natAbs v ≤ 2 → To53 (c *ℤ v)
-      → floats .add (num q) (floats .mul (num c) (num v)) ≡ num (q +ℤ c *ℤ v)
-  pub opposite : (a : ℤ) → 0 < natAbs a → floats .neg (num a) ≡ num (negℤ a)
+      → floatOps .add (num q) (floatOps .mul (num c) (num v)) ≡ num (q +ℤ c *ℤ v)
+  pub opposite : (a : ℤ) → 0 < natAbs a → floatOps .neg (num a) ≡ num (negℤ a)
   pub never-minus-zero : (a : ℤ) → To53 a → num a ≡ fin true 0 (pos 0) → ⊥
   pub told-apart : (a b : ℤ) → To53 a → To53 b → num a ≡ num b → a ≡ b

@@ -4,19 +4,19 @@ use lib.Dec.{eqb}
 use lib.IntN.{ℤ, pos, natAbs}
 use lib.Ieee.{Float, fin, binary64}
 use lib.Ieee as ieee
-use Rattle.algebra.specs.Operations.{Operations, wholes}
+use Rattle.algebra.specs.Operations.{Operations, wholeOps}
 
 pub record Numbers (A : Type 0) : Type 0 where
   pub ops : Operations A
   pub isZero : A → Bool
 
 -- whole numbers
-abbrev pub whole : Numbers ℤ
-whole = record { ops = wholes; isZero = λ z. eqb (natAbs z) 0 }
+abbrev pub wholeNumbers : Numbers ℤ
+wholeNumbers = record { ops = wholeOps; isZero = λ z. eqb (natAbs z) 0 }
 
 -- binary64 as Rust has it: each operation rounds once, and all NaNs are one
-abbrev pub floats : Operations Float
-floats = record {
+abbrev pub floatOps : Operations Float
+floatOps = record {
   zero = fin false 0 (pos 0);
   one = fin false 1 (pos 0);
   add = ieee.add binary64;
@@ -26,5 +26,5 @@ floats = record {
 }
 
 -- -0 counts as zero, a NaN does not
-abbrev pub float : Numbers Float
-float = record { ops = floats; isZero = λ x. ieee.eq x (fin false 0 (pos 0)) }
+abbrev pub floatNumbers : Numbers Float
+floatNumbers = record { ops = floatOps; isZero = λ x. ieee.eq x (fin false 0 (pos 0)) }

@@ -2,12 +2,12 @@
 ghost use mathlib.Core.Path.{_≡_};
 ghost use Prim.Native.Nat.{_≤_, _^_};
 ghost use lib.IntN.{natAbs, _-ℤ_};
-ghost use Rattle.algebra.specs.Operations.{wholes, double};
+ghost use Rattle.algebra.specs.Operations.{wholeOps, double};
 
 // Twice x.
 pub fn twice(x: i64) -> i64
     requires { ⌜ natAbs x ≤ 2 ^ 52 ⌝ }
-    ensures { λ r. ⌜ r ≡ double wholes x ⌝ }
+    ensures { λ r. ⌜ r ≡ double wholeOps x ⌝ }
 {
     2 * x
 }

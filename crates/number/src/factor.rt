@@ -5,16 +5,16 @@ use crate::arithmetic::twice;
 ghost use mathlib.Core.Path.{_≡_};
 ghost use Prim.Native.Nat.{_+_, _≤_, _<_};
 ghost use lib.ListN.{length};
-ghost use Rattle.algebra.specs.Operations.{wholes};
+ghost use Rattle.algebra.specs.Operations.{wholeOps};
 ghost use Rattle.algebra.specs.Cut.{cutAt};
 ghost use Rattle.algebra.specs.declared.Basis.the-variants.{Chebyshev};
-ghost use Rattle.number.specs.Numbers.{floats};
+ghost use Rattle.number.specs.Numbers.{floatOps};
 ghost use Rattle.number.specs.Room.{Doubles};
 
 // Over whole numbers.
 pub fn factorize_coeffs_chebyshev(c: &mut [i64], p: usize)
     requires { ⌜ (p < length (now c)) × ((length (now c) ≤ p + p) × Doubles (now c)) ⌝ }
-    ensures { λ _. ⌜ now (c .exit) ≡ cutAt wholes Chebyshev p (now (c .entry)) ⌝ }
+    ensures { λ _. ⌜ now (c .exit) ≡ cutAt wholeOps Chebyshev p (now (c .entry)) ⌝ }
 {
     let mut j: usize = 1;
     while j < c.len() - p {
@@ -31,7 +31,7 @@ pub fn factorize_coeffs_chebyshev(c: &mut [i64], p: usize)
 // The same over f64.
 pub fn factorize_coeffs_chebyshev_f64(c: &mut [f64], p: usize)
     requires { ⌜ (p < length (now c)) × (length (now c) ≤ p + p) ⌝ }
-    ensures { λ _. ⌜ now (c .exit) ≡ cutAt floats Chebyshev p (now (c .entry)) ⌝ }
+    ensures { λ _. ⌜ now (c .exit) ≡ cutAt floatOps Chebyshev p (now (c .entry)) ⌝ }
 {
     let two = 1.0f64 + 1.0f64;
     let mut j = 1;

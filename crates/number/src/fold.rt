@@ -12,12 +12,12 @@ ghost use Prim.Native.Nat.{_≤_, _^_};
 ghost use lib.ListN.{length, drop};
 ghost use lib.Seq.{sets};
 ghost use lib.IntN.{natAbs, _*ℤ_};
-ghost use Rattle.algebra.specs.Operations.{wholes};
+ghost use Rattle.algebra.specs.Operations.{wholeOps};
 ghost use Rattle.algebra.specs.Magnitude.{sumAbs};
 ghost use Rattle.algebra.specs.Fold.{everySecond, coeffR, fold};
 ghost use Rattle.algebra.specs.declared.Basis.the-variants.{Chebyshev};
 ghost use Rattle.algebra.specs.declared.Parity.the-variants.{Odd};
-ghost use Rattle.number.specs.Numbers.{whole};
+ghost use Rattle.number.specs.Numbers.{wholeNumbers};
 ghost use Rattle.number.specs.Parity.{allZero};
 ghost use Rattle.number.specs.FoldCall.{isFull, fewest, wrongPlaces, wholeTests, foldRefusal, FoldCall};
 ghost use Rattle.number.specs.Foldable.{countOf, Foldable};
@@ -64,7 +64,7 @@ pub fn fold_count(parity: Parity, n: usize) -> usize
 
 // Whether the coefficients at the places that the parity doesn't allow count as zero.
 fn has_parity(parity: Parity, c: &[i64]) -> bool
-    ensures { λ r. ⌜ r ≡ allZero whole (wrongPlaces parity (now (c .entry))) ⌝ }
+    ensures { λ r. ⌜ r ≡ allZero wholeNumbers (wrongPlaces parity (now (c .entry))) ⌝ }
 {
     match parity {
         Parity::Full => true,
@@ -75,7 +75,7 @@ fn has_parity(parity: Parity, c: &[i64]) -> bool
 
 // The first test that holds, or 0; `short` says that the buffer is too short.
 fn refusal_of(parity: Parity, c: &[i64], short: bool) -> u8
-    ensures { λ r. ⌜ r ≡ foldRefusal whole wholeTests parity (now (c .entry)) short ⌝ }
+    ensures { λ r. ⌜ r ≡ foldRefusal wholeNumbers wholeTests parity (now (c .entry)) short ⌝ }
 {
     let n = c.len();
     if 4096 < n {
@@ -101,7 +101,7 @@ fn refusal_of(parity: Parity, c: &[i64], short: bool) -> u8
 // s times coefficient i of R_i: once at place 0, twice elsewhere.
 fn times_lead(i: usize, s: i64) -> i64
     requires { ⌜ natAbs s ≤ 2 ^ 30 ⌝ }
-    ensures { λ r. ⌜ r ≡ s *ℤ coeffR wholes i i ⌝ }
+    ensures { λ r. ⌜ r ≡ s *ℤ coeffR wholeOps i i ⌝ }
 {
     if i == 0 { s } else { twice(s) }
 }
@@ -123,7 +123,7 @@ fn copy_second(c: &[i64], from: usize, out: &mut [i64])
 // Writes the fold of an odd Chebyshev polynomial, from the end: s is c[2i+1] - c[2i+3] + c[2i+5] - ..
 fn fold_odd(c: &[i64], out: &mut [i64])
     requires { ⌜ Foldable Odd (now c) (now out) × (sumAbs (now c) ≤ 2 ^ 30) ⌝ }
-    ensures { λ _. ⌜ now (out .exit) ≡ sets (now (out .entry)) 0 (fold wholes Chebyshev Odd (now (c .entry))) ⌝ }
+    ensures { λ _. ⌜ now (out .exit) ≡ sets (now (out .entry)) 0 (fold wholeOps Chebyshev Odd (now (c .entry))) ⌝ }
 {
     let mut s: i64 = 0;
     let mut left = c.len() / 2;
@@ -139,7 +139,7 @@ fn fold_odd(c: &[i64], out: &mut [i64])
 // Writes the fold, of whole coefficients with magnitudes summing to at most 2^30.
 pub fn fold_into(basis: Basis, parity: Parity, c: &[i64], out: &mut [i64])
     requires { ⌜ Foldable parity (now c) (now out) × (sumAbs (now c) ≤ 2 ^ 30) ⌝ }
-    ensures { λ _. ⌜ now (out .exit) ≡ sets (now (out .entry)) 0 (fold wholes basis parity (now (c .entry))) ⌝ }
+    ensures { λ _. ⌜ now (out .exit) ≡ sets (now (out .entry)) 0 (fold wholeOps basis parity (now (c .entry))) ⌝ }
 {
     match parity {
         Parity::Full => {}
@@ -153,7 +153,7 @@ pub fn fold_into(basis: Basis, parity: Parity, c: &[i64], out: &mut [i64])
 
 // Folds a whole polynomial of parity Even or Odd into one of half the degree.
 pub fn fold_parity(basis: Basis, parity: Parity, c: &[i64], out: &mut [i64]) -> Folded
-    ensures { λ r. ⌜ FoldCall whole wholeTests basis parity (now (c .entry)) (now (out .entry)) r (now (out .exit)) ⌝ }
+    ensures { λ r. ⌜ FoldCall wholeNumbers wholeTests basis parity (now (c .entry)) (now (out .entry)) r (now (out .exit)) ⌝ }
 {
     let n = fold_count(parity, c.len());
     let k = refusal_of(parity, c, out.len() < n);

@@ -15,14 +15,14 @@ ghost use lib.Seq.{sets};
 ghost use Rattle.algebra.specs.Fold.{everySecond, coeffR, addR, fold};
 ghost use Rattle.algebra.specs.declared.Basis.the-variants.{Chebyshev};
 ghost use Rattle.algebra.specs.declared.Parity.the-variants.{Odd};
-ghost use Rattle.number.specs.Numbers.{float, floats};
+ghost use Rattle.number.specs.Numbers.{floatNumbers, floatOps};
 ghost use Rattle.number.specs.Parity.{allZero};
 ghost use Rattle.number.specs.FoldCall.{wrongPlaces, noTests, foldRefusal, FoldCall};
 ghost use Rattle.number.specs.Foldable.{Foldable};
 
 // Whether the coefficients at the places that the parity doesn't allow count as zero.
 fn has_parity_f64(parity: Parity, c: &[f64]) -> bool
-    ensures { λ r. ⌜ r ≡ allZero float (wrongPlaces parity (now (c .entry))) ⌝ }
+    ensures { λ r. ⌜ r ≡ allZero floatNumbers (wrongPlaces parity (now (c .entry))) ⌝ }
 {
     match parity {
         Parity::Full => true,
@@ -33,7 +33,7 @@ fn has_parity_f64(parity: Parity, c: &[f64]) -> bool
 
 // The first test that holds, or 0; `short` says that the buffer is too short.
 fn refusal_of_f64(parity: Parity, c: &[f64], short: bool) -> u8
-    ensures { λ r. ⌜ r ≡ foldRefusal float noTests parity (now (c .entry)) short ⌝ }
+    ensures { λ r. ⌜ r ≡ foldRefusal floatNumbers noTests parity (now (c .entry)) short ⌝ }
 {
     let n = c.len();
     if 4096 < n {
@@ -55,7 +55,7 @@ fn refusal_of_f64(parity: Parity, c: &[f64], short: bool) -> u8
 
 // Coefficient i of R_i.
 fn lead_f64(i: usize) -> f64
-    ensures { λ r. ⌜ r ≡ coeffR floats i i ⌝ }
+    ensures { λ r. ⌜ r ≡ coeffR floatOps i i ⌝ }
 {
     if i == 0 { 1.0 } else { 2.0 }
 }
@@ -63,7 +63,7 @@ fn lead_f64(i: usize) -> f64
 // Place i of the fold of an odd Chebyshev polynomial: the sum from +0 of c[2k+1] times coefficient i of R_k, k rising from i.
 fn odd_place_f64(c: &[f64], i: usize) -> f64
     requires { ⌜ 2 * i + 1 < length (now c) ⌝ }
-    ensures { λ r. ⌜ r ≡ addR floats i i (floats .zero) (everySecond (drop (2 * i + 1) (now (c .entry)))) ⌝ }
+    ensures { λ r. ⌜ r ≡ addR floatOps i i (floatOps .zero) (everySecond (drop (2 * i + 1) (now (c .entry)))) ⌝ }
 {
     let mut sum = 0.0f64;
     let mut w = lead_f64(i);
@@ -93,7 +93,7 @@ fn copy_second_f64(c: &[f64], from: usize, out: &mut [f64])
 // Writes the fold of an odd Chebyshev polynomial.
 fn fold_odd_f64(c: &[f64], out: &mut [f64])
     requires { ⌜ Foldable Odd (now c) (now out) ⌝ }
-    ensures { λ _. ⌜ now (out .exit) ≡ sets (now (out .entry)) 0 (fold floats Chebyshev Odd (now (c .entry))) ⌝ }
+    ensures { λ _. ⌜ now (out .exit) ≡ sets (now (out .entry)) 0 (fold floatOps Chebyshev Odd (now (c .entry))) ⌝ }
 {
     let n = c.len() / 2;
     let mut i = 0;
@@ -106,7 +106,7 @@ fn fold_odd_f64(c: &[f64], out: &mut [f64])
 // Writes the fold.
 fn fold_into_f64(basis: Basis, parity: Parity, c: &[f64], out: &mut [f64])
     requires { ⌜ Foldable parity (now c) (now out) ⌝ }
-    ensures { λ _. ⌜ now (out .exit) ≡ sets (now (out .entry)) 0 (fold floats basis parity (now (c .entry))) ⌝ }
+    ensures { λ _. ⌜ now (out .exit) ≡ sets (now (out .entry)) 0 (fold floatOps basis parity (now (c .entry))) ⌝ }
 {
     match parity {
         Parity::Full => {}
@@ -120,7 +120,7 @@ fn fold_into_f64(basis: Basis, parity: Parity, c: &[f64], out: &mut [f64])
 
 // Folds an f64 polynomial of parity Even or Odd into one of half the degree.
 pub fn fold_parity_f64(basis: Basis, parity: Parity, c: &[f64], out: &mut [f64]) -> Folded
-    ensures { λ r. ⌜ FoldCall float noTests basis parity (now (c .entry)) (now (out .entry)) r (now (out .exit)) ⌝ }
+    ensures { λ r. ⌜ FoldCall floatNumbers noTests basis parity (now (c .entry)) (now (out .entry)) r (now (out .exit)) ⌝ }
 {
     let n = fold_count(parity, c.len());
     let k = refusal_of_f64(parity, c, out.len() < n);

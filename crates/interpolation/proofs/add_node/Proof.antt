@@ -7,7 +7,7 @@ use Prim.Native.Nat.{ℕ, _+_, _-_}
 use lib.ListN.{length, take, drop}
 use lib.Ieee.{Float, nan}
 use Rattle.algebra.specs.Power.{cheb}
-use Rattle.number.specs.Numbers.{floats}
+use Rattle.number.specs.Numbers.{floatOps}
 use Rattle.interpolation.specs.Interpolate.{addNode}
 use Rattle.number.proofs.Literals.{one-is}
 use Rattle.algebra.proofs.Chebyshev.{cheb-zero, cheb-one}
@@ -18,14 +18,14 @@ use Rattle.interpolation.proofs.add_node.Tie as tie
 
 abbrev Inv-loop : tie.InvT-loop
 Inv-loop sums₀ node value two t-prev₀ t₀ i₀ sums t-prev t i =
-    (length sums ≡ length sums₀) × (t-prev ≡ cheb floats node i) × (t ≡ cheb floats node (i + 1))
-    × (take i sums ++ addNode floats i node value (drop i sums) ≡ addNode floats 0 node value sums₀)
+    (length sums ≡ length sums₀) × (t-prev ≡ cheb floatOps node i) × (t ≡ cheb floatOps node (i + 1))
+    × (take i sums ++ addNode floatOps i node value (drop i sums) ≡ addNode floatOps 0 node value sums₀)
 
 abbrev μ-loop : tie.MeasureT-loop
 μ-loop sums₀ node value two t-prev₀ t₀ i₀ sums t-prev t i = length sums₀ - i
 
 loop-holds : tie.Need-loop-holds Inv-loop μ-loop
-loop-holds c = (refl, one-is ∙ sym (cheb-zero floats (c .args .node)), sym (cheb-one floats (c .args .node)), refl)
+loop-holds c = (refl, one-is ∙ sym (cheb-zero floatOps (c .args .node)), sym (cheb-one floatOps (c .args .node)), refl)
 
 mul-sums : tie.Need-mul-sums Inv-loop μ-loop
 mul-sums c = search needs
@@ -51,12 +51,12 @@ loop-again c =
     let node = turn .before .args .node in
     let value = turn .before .args .value in
     let i = turn .loop .i in
-    let rest : ℕ → List Float → List Float = λ j. addNode floats j node value in (
+    let rest : ℕ → List Float → List Float = λ j. addNode floatOps j node value in (
       search needs,
       turn .loop .inv .2,
-      rw (one-is, turn .loop .inv .1, turn .loop .inv .2) (cheb-next floats node i),
+      rw (one-is, turn .loop .inv .1, turn .loop .inv .2) (cheb-next floatOps node i),
       rw (turn .loop .inv .1)
-          (place-step (rest i) (rest (i + 1)) (turn .loop .sums) i _ nan (search needs) (node-cons floats i node value _ _)
+          (place-step (rest i) (rest (i + 1)) (turn .loop .sums) i _ nan (search needs) (node-cons floatOps i node value _ _)
           ∙ turn .loop .inv .3),
     )
 
@@ -67,8 +67,8 @@ returns : tie.Need-returns Inv-loop μ-loop
 returns c =
     let turn = c .before in
     let i = turn .loop .i in
-    let rest = addNode floats i (turn .before .args .node) (turn .before .args .value) in
-    sym (place-end rest (turn .loop .sums) i (search needs) (node-none floats i _ _)) ∙ turn .loop .inv .3
+    let rest = addNode floatOps i (turn .before .args .node) (turn .before .args .value) in
+    sym (place-end rest (turn .loop .sums) i (search needs) (node-none floatOps i _ _)) ∙ turn .loop .inv .3
 
 pub add-node-spec : {M : Type 1} → statement M
 add-node-spec =

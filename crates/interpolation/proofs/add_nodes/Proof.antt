@@ -5,7 +5,7 @@ use mathlib.Core.Path.{_≡_, refl, sym, ap, _∙_}
 use Prim.Native.Nat.{_+_, _-_}
 use lib.ListN.{length, drop}
 use lib.Ieee.{nan}
-use Rattle.number.specs.Numbers.{floats}
+use Rattle.number.specs.Numbers.{floatOps}
 use Rattle.interpolation.specs.Interpolate.{addNodes}
 use Rattle.interpolation.proofs.InterpolateSteps.{nodes-step, nodes-end}
 use Rattle.interpolation.proofs.add_nodes.Statement.{statement}
@@ -13,7 +13,7 @@ use Rattle.interpolation.proofs.add_nodes.Tie as tie
 
 abbrev Inv-loop : tie.InvT-loop
 Inv-loop sums₀ nodes values k₀ sums k =
-    (length sums ≡ length sums₀) × (addNodes floats (drop k nodes) (drop k values) sums ≡ addNodes floats nodes values sums₀)
+    (length sums ≡ length sums₀) × (addNodes floatOps (drop k nodes) (drop k values) sums ≡ addNodes floatOps nodes values sums₀)
 
 abbrev μ-loop : tie.MeasureT-loop
 μ-loop sums₀ nodes values k₀ sums k = length nodes - k
@@ -51,8 +51,8 @@ loop-again c =
     let nodes = args .nodes .now in
     let values = args .values .now in
     let k = turn .loop .k in
-    let step = nodes-step floats nodes values (turn .loop .sums) k nan (search needs) (search needs) in
-    (search needs, ap (addNodes floats (drop (k + 1) nodes) (drop (k + 1) values)) (called .add-node .ensures) ∙ step ∙ turn .loop .inv .1)
+    let step = nodes-step floatOps nodes values (turn .loop .sums) k nan (search needs) (search needs) in
+    (search needs, ap (addNodes floatOps (drop (k + 1) nodes) (drop (k + 1) values)) (called .add-node .ensures) ∙ step ∙ turn .loop .inv .1)
 
 same-length : tie.Need-same-length Inv-loop μ-loop
 same-length c = search needs
@@ -61,7 +61,7 @@ returns : tie.Need-returns Inv-loop μ-loop
 returns c =
     let turn = c .before in
     let args = turn .before .before .before .before .args in
-    sym (nodes-end floats (args .nodes .now) (args .values .now) (turn .loop .sums) (turn .loop .k) (search needs)) ∙ turn .loop .inv .1
+    sym (nodes-end floatOps (args .nodes .now) (args .values .now) (turn .loop .sums) (turn .loop .k) (search needs)) ∙ turn .loop .inv .1
 
 pub add-nodes-spec : {M : Type 1} → statement M
 add-nodes-spec =

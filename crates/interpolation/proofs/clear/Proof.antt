@@ -5,14 +5,14 @@ use mathlib.Core.List.{List, _++_}
 use Prim.Native.Nat.{_-_}
 use lib.ListN.{length, take, drop, replicate}
 use lib.Ieee.{Float, nan}
-use Rattle.number.specs.Numbers.{floats}
+use Rattle.number.specs.Numbers.{floatOps}
 use Rattle.number.proofs.Literals.{zero-is}
 use Rattle.algebra.proofs.Filling.{place-step, place-end}
 use Rattle.interpolation.proofs.clear.Statement.{statement}
 use Rattle.interpolation.proofs.clear.Tie as tie
 
 abbrev cleared : List Float → List Float
-cleared sums = replicate (length sums) (floats .zero)
+cleared sums = replicate (length sums) (floatOps .zero)
 
 abbrev Inv-loop : tie.InvT-loop
 Inv-loop sums₀ i₀ sums i = (length sums ≡ length sums₀) × (take i sums ++ cleared (drop i sums) ≡ cleared sums₀)

@@ -3,7 +3,7 @@ use borrow.Author.Needs.{needs}
 use mathlib.Core.Path.{ap, _∙_}
 use Prim.Native.Nat.{ℕ}
 use lib.ListN.{length, replicate}
-use Rattle.number.specs.Numbers.{floats, float}
+use Rattle.number.specs.Numbers.{floatOps, floatNumbers}
 use Rattle.number.specs.Parity.{parityOf}
 use Rattle.interpolation.specs.Interpolate.{scaled, addNodes, inverseOf}
 use Rattle.interpolation.proofs.fill.Statement.{statement}
@@ -33,10 +33,10 @@ returns c =
     let start = lent .before .before .before .before in
     let nodes = start .args .nodes .now in
     let values = start .args .values .now in
-    let zeros = clearing .clear .ensures ∙ ap (λ (n : ℕ). replicate n (floats .zero)) (start .pre .3) in
-    let sums = adding .add-nodes .ensures ∙ ap (addNodes floats nodes values) zeros in
-    let coefficients = scaling .scale .ensures ∙ ap (scaled floats (inverseOf (length nodes))) sums in
-    (c .detect-parity-f64 .ensures ∙ ap (parityOf float) coefficients, coefficients)
+    let zeros = clearing .clear .ensures ∙ ap (λ (n : ℕ). replicate n (floatOps .zero)) (start .pre .3) in
+    let sums = adding .add-nodes .ensures ∙ ap (addNodes floatOps nodes values) zeros in
+    let coefficients = scaling .scale .ensures ∙ ap (scaled floatOps (inverseOf (length nodes))) sums in
+    (c .detect-parity-f64 .ensures ∙ ap (parityOf floatNumbers) coefficients, coefficients)
 
 pub fill-spec : {M : Type 1} → statement M
 fill-spec = tie.close (tie.spec clear-requires add-nodes-requires scale-requires detect-parity-f64-requires same-length returns)

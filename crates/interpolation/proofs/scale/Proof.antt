@@ -7,7 +7,7 @@ use lib.ListN.{length, getD, set, length-set}
 use lib.IntN.{pos}
 use lib.Ieee.{nan, binary64, mul, div, ofBits, ofInt}
 use borrow.Rule.Slice.PartMut.{same-len-mid}
-use Rattle.number.specs.Numbers.{floats}
+use Rattle.number.specs.Numbers.{floatOps}
 use Rattle.interpolation.specs.Interpolate.{scaledBy}
 use Rattle.number.proofs.Literals.{one-is}
 use Rattle.interpolation.proofs.InterpolateSteps.{count-fits, head-part, scaled-parts}
@@ -51,8 +51,8 @@ returns c =
     let divided = called .before .before .before in
     let args = divided .before .before .args in
     let sums = args .sums .now in
-    head-part (scaledBy floats _) sums _ (called .scale-by .last .0) (search needs) (called .scale-by .ensures)
-    ∙ rw one-is (scaled-parts floats _ nan sums (search needs))
+    head-part (scaledBy floatOps _) sums _ (called .scale-by .last .0) (search needs) (called .scale-by .ensures)
+    ∙ rw one-is (scaled-parts floatOps _ nan sums (search needs))
 
 pub scale-spec : {M : Type 1} → statement M
 scale-spec =

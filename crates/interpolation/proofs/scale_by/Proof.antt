@@ -5,7 +5,7 @@ use mathlib.Core.List.{_++_}
 use Prim.Native.Nat.{_-_}
 use lib.ListN.{length, take, drop}
 use lib.Ieee.{nan}
-use Rattle.number.specs.Numbers.{floats}
+use Rattle.number.specs.Numbers.{floatOps}
 use Rattle.interpolation.specs.Interpolate.{scaledBy}
 use Rattle.algebra.proofs.Filling.{place-step, place-end}
 use Rattle.interpolation.proofs.scale_by.Statement.{statement}
@@ -13,7 +13,7 @@ use Rattle.interpolation.proofs.scale_by.Tie as tie
 
 abbrev Inv-loop : tie.InvT-loop
 Inv-loop sums₀ factor i₀ sums i =
-    (length sums ≡ length sums₀) × (take i sums ++ scaledBy floats factor (drop i sums) ≡ scaledBy floats factor sums₀)
+    (length sums ≡ length sums₀) × (take i sums ++ scaledBy floatOps factor (drop i sums) ≡ scaledBy floatOps factor sums₀)
 
 abbrev μ-loop : tie.MeasureT-loop
 μ-loop sums₀ factor i₀ sums i = length sums₀ - i
@@ -42,7 +42,7 @@ loop-less c = search needs
 loop-again : tie.Need-loop-again Inv-loop μ-loop
 loop-again c =
     let turn = c .before .before in
-    let rest = scaledBy floats (turn .before .args .factor) in
+    let rest = scaledBy floatOps (turn .before .args .factor) in
     (search needs, place-step rest rest (turn .loop .sums) (turn .loop .i) _ nan (search needs) refl ∙ turn .loop .inv .1)
 
 same-length : tie.Need-same-length Inv-loop μ-loop
@@ -51,7 +51,7 @@ same-length c = search needs
 returns : tie.Need-returns Inv-loop μ-loop
 returns c =
     let turn = c .before in
-    let rest = scaledBy floats (turn .before .args .factor) in
+    let rest = scaledBy floatOps (turn .before .args .factor) in
     sym (place-end rest (turn .loop .sums) (turn .loop .i) (search needs) refl) ∙ turn .loop .inv .1
 
 pub scale-by-spec : {M : Type 1} → statement M

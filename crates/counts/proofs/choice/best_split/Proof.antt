@@ -4,7 +4,7 @@ use mathlib.Core.Path.{_≡_, ap, _∙_}
 use Prim.Native.Nat.{_+_, _-_, _≤_}
 use native.Mathlib.Omega.{arith}
 use borrow.Author.Needs.{needs}
-use Rattle.counts.specs.Pair.{pairOf}
+use Rattle.counts.specs.Pair.{pairAt}
 use Rattle.counts.specs.MinMult.{bestOf}
 use Rattle.counts.proofs.MinMultLaws.{best-start, best-step}
 use Rattle.counts.proofs.choice.best_split.Statement.{statement}
@@ -12,7 +12,7 @@ use Rattle.counts.proofs.choice.best_split.Tie as tie
 
 abbrev Inv-loop : tie.InvT-loop
 Inv-loop degree length parity basis best₀ split₀ best split =
-    (2 ≤ split) × (split ≤ length + 1) × (best ≡ bestOf (pairOf parity basis degree) (split - 2))
+    (2 ≤ split) × (split ≤ length + 1) × (best ≡ bestOf (pairAt parity basis degree) (split - 2))
 
 abbrev μ-loop : tie.MeasureT-loop
 μ-loop degree length parity basis best₀ split₀ best split = length + 1 - split
@@ -23,8 +23,8 @@ estimate-op-counts-requires c κs = search needs
 loop-holds : tie.Need-loop-holds Inv-loop μ-loop
 loop-holds c =
     let args = c .before .args in
-    let pairAt = pairOf (args .parity) (args .basis) (args .degree) in
-    (omega arith, omega (arith, c .before .pre), best-start pairAt (c .estimate-op-counts .ensures))
+    let pairs = pairAt (args .parity) (args .basis) (args .degree) in
+    (omega arith, omega (arith, c .before .pre), best-start pairs (c .estimate-op-counts .ensures))
 
 estimate-op-counts-requires-2 : tie.Need-estimate-op-counts-requires-2 Inv-loop μ-loop
 estimate-op-counts-requires-2 c κs = search needs
@@ -43,8 +43,8 @@ loop-again c =
     let pair = c .before in
     let at = pair .before .before in
     let args = at .before .before .args in
-    let pairAt = pairOf (args .parity) (args .basis) (args .degree) in
-    let step = best-step pairAt (at .loop .split) (at .loop .inv .0) in
+    let pairs = pairAt (args .parity) (args .basis) (args .degree) in
+    let step = best-step pairs (at .loop .split) (at .loop .inv .0) in
     (omega arith, omega arith, c .better-of .ensures ∙ rw (pair .estimate-op-counts2 .ensures, at .loop .inv .2) step)
 
 returns : tie.Need-returns Inv-loop μ-loop
@@ -52,7 +52,7 @@ returns c =
     let at = c .before in
     let args = at .before .before .args in
     let end : at .loop .split - 2 ≡ args .length - 1 = omega arith in
-    at .loop .inv .2 ∙ ap (bestOf (pairOf (args .parity) (args .basis) (args .degree))) end
+    at .loop .inv .2 ∙ ap (bestOf (pairAt (args .parity) (args .basis) (args .degree))) end
 
 pub best-split-spec : {M : Type 1} → statement M
 best-split-spec =

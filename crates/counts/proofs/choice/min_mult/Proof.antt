@@ -5,7 +5,7 @@ use Prim.Native.Nat.{ℕ, _-_, _<_}
 use native.Mathlib.Omega.{arith}
 use borrow.Author.Needs.{needs}
 use Rattle.number.specs.Bits.{bitLen}
-use Rattle.counts.specs.Pair.{pairOf}
+use Rattle.counts.specs.Pair.{pairAt}
 use Rattle.counts.specs.MinMult.{bestOf}
 use Rattle.counts.specs.declared.choice.Best.{Best}
 use Rattle.needed.proofs.PowerLaws.{few-digits, digit-some}
@@ -39,7 +39,7 @@ returns-2 c =
     let args = length .before .args in
     let long : 1 < bitLen (args .degree) = omega (arith, length .bit-length .ensures, test .if1 .left) in
     ap (λ (best : Best). best .split) (c .best-split .ensures)
-    ∙ ap (λ (l : ℕ). bestOf (pairOf (args .parity) (args .basis) (args .degree)) (l - 1) .split) (length .bit-length .ensures)
+    ∙ ap (λ (l : ℕ). bestOf (pairAt (args .parity) (args .basis) (args .degree)) (l - 1) .split) (length .bit-length .ensures)
     ∙ sym (mult-best (args .parity) (args .basis) (args .degree) long)
 
 pub min-mult-spec : {M : Type 1} → statement M

@@ -35,7 +35,7 @@ counted : (c : tie.After-count-lists) → let tested = c .before .before .before
 counted c =
     let chosen = c .before .before in
     let d = chosen .before .before .before .args .n - 1 in
-    c .count-lists .ensures ∙ ap₂ (λ (s : ℕ) (lead : Bool). leavesOf (treeOf d s lead d)) (chosen .split-for-strategy .ensures) (c .before .leads-on .ensures)
+    c .count-lists .ensures ∙ ap₂ (λ (s : ℕ) (lead : Bool). leavesOf (treeOf lead d d s)) (chosen .split-for-strategy .ensures) (c .before .leads-on .ensures)
 
 early-refusal-requires : tie.Need-early-refusal-requires
 early-refusal-requires c κs = search needs

@@ -81,7 +81,7 @@ module _ (t : ℕ) where
       → Again (c .before .args .whole) (c .before .args .split) (c .before .args .degree)
   again c told =
       again-facts (c .before .args .whole) (c .before .args .split) (c .before .args .degree)
-      (and-right (c .before .args .lead) (listedAgain (c .before .args .whole) (c .before .args .split) (c .before .args .degree))
+      (and-right (c .before .args .lead) (listedAgain (c .before .args .whole) (c .before .args .degree) (c .before .args .split))
       (sym (c .listed-again .ensures) ∙ told))
 
   counter-power-of-two-requires : counter.Need-power-of-two-requires (counter-calls t) (counter-at t) counter-reads.Post

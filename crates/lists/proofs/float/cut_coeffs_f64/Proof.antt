@@ -3,7 +3,7 @@ use mathlib.Core.Path.{ap, sym, _∙_}
 use borrow.Author.Needs.{needs}
 use Rattle.algebra.specs.Cut.{cutAt}
 use Rattle.algebra.specs.declared.Basis.{Basis}
-use Rattle.number.specs.Numbers.{floats}
+use Rattle.number.specs.Numbers.{floatOps}
 use Rattle.lists.proofs.float.cut_coeffs_f64.Statement.{statement}
 use Rattle.lists.proofs.float.cut_coeffs_f64.Tie as tie
 
@@ -20,7 +20,7 @@ returns : tie.Need-returns
 unfolding cutAt
 returns c =
     let start = c .before .before .before in
-    sym (ap (λ (b : Basis). cutAt floats b (start .args .p) (start .args .c .now)) (c .enum-told .given .1))
+    sym (ap (λ (b : Basis). cutAt floatOps b (start .args .p) (start .args .c .now)) (c .enum-told .given .1))
 
 same-length : tie.Need-same-length
 same-length c = search needs
@@ -30,7 +30,7 @@ returns-2 c =
     let arm = c .before .before .before .before in
     let start = arm .before .before .before in
     c .before .before .factorize-coeffs-chebyshev-f64 .ensures
-    ∙ ap (λ (b : Basis). cutAt floats b (start .args .p) (start .args .c .now)) (sym (arm .enum-told2 .given .1))
+    ∙ ap (λ (b : Basis). cutAt floatOps b (start .args .p) (start .args .c .now)) (sym (arm .enum-told2 .given .1))
 
 pub cut-coeffs-f64-spec : {M : Type 1} → statement M
 cut-coeffs-f64-spec =

@@ -4,7 +4,7 @@ use mathlib.Core.Path.{_≡_, refl, ap, sym}
 use native.Mathlib.Omega.{arith}
 use borrow.Author.Needs.{needs}
 use lib.ListN.{length}
-use Rattle.number.specs.Numbers.{floats}
+use Rattle.number.specs.Numbers.{floatOps}
 use Rattle.lists.specs.ListCall.{anySum, callRefusal}
 use Rattle.lists.proofs.Calls as calls
 use Rattle.lists.proofs.Calls.{Shaped}
@@ -13,7 +13,7 @@ use Rattle.lists.proofs.float.decompose_bsgs_f64.Tie as tie
 
 -- the shape is the call's
 shaped : (c : tie.After-shape-for) → let args = c .before .before .before .before .args in
-    Shaped floats anySum (args .basis) (args .parity) (args .strategy) (args .c .now) (args .out .now) (args .bounds .now) (c .shape-for .result)
+    Shaped floatOps anySum (args .basis) (args .parity) (args .strategy) (args .c .now) (args .out .now) (args .bounds .now) (c .shape-for .result)
 unfolding callRefusal
 shaped c = record { is = c .shape-for .ensures }
 

@@ -10,7 +10,7 @@ use borrow.Fn.Kinds.{In}
 use borrow.Fn.PlainCycle.{Measures, is, falls, and}
 use lib.Pow.{pow-pos}
 use lib.ListN.{length}
-use Rattle.algebra.specs.Operations.{wholes}
+use Rattle.algebra.specs.Operations.{wholeOps}
 use Rattle.algebra.specs.Cut.{cutAt}
 use Rattle.lists.specs.Tree.{listedAgain}
 use Rattle.lists.proofs.TreeLaws.{Again, again-facts, and-right}
@@ -80,13 +80,13 @@ module _ (t : ℕ) where
 
   uncut : (top : lister.After-top-power (lister-calls t) (lister-at t) lister-reads.Post)
       → let args = start-of top .args in
-      Cutting wholes (args .basis) (args .whole) (args .split) (args .lead) (args .at) (args .n) (args .c .now) (args .bounds .now)
-      (top .top-power .result) (cutAt wholes (args .basis) (top .top-power .result) (args .c .now))
+      Cutting wholeOps (args .basis) (args .whole) (args .split) (args .lead) (args .at) (args .n) (args .c .now) (args .bounds .now)
+      (top .top-power .result) (cutAt wholeOps (args .basis) (top .top-power .result) (args .c .now))
   uncut top = record { ready = start-of top .pre .1 .0; from = omega arith; power = top .top-power .ensures; parted = refl }
 
   cutting : (k : lister.After-cut-coeffs (lister-calls t) (lister-at t) lister-reads.Post)
       → let top = k .before .before in let args = start-of top .args in
-      Cutting wholes (args .basis) (args .whole) (args .split) (args .lead) (args .at) (args .n) (args .c .now) (args .bounds .now)
+      Cutting wholeOps (args .basis) (args .whole) (args .split) (args .lead) (args .at) (args .n) (args .c .now) (args .bounds .now)
       (top .top-power .result) (k .cut-coeffs .last .1 .0)
   cutting k =
       let before = uncut (k .before .before) in
@@ -210,7 +210,7 @@ module _ (t : ℕ) where
   -- a slice that the test says is listed again
   told-again : (c : slicer.After-listed-again (slicer-calls t) (slicer-at t) slicer-reads.Post) → c .listed-again .result ≡ true
       → let start = c .before .before in
-      (start .args .lead && listedAgain (start .args .whole) (start .args .split) (length (start .args .c .now) - 1)) ≡ true
+      (start .args .lead && listedAgain (start .args .whole) (length (start .args .c .now) - 1) (start .args .split)) ≡ true
   told-again c told = sym (c .listed-again .ensures) ∙ told
 
   again : (c : slicer.After-listed-again (slicer-calls t) (slicer-at t) slicer-reads.Post) → c .listed-again .result ≡ true

@@ -3,7 +3,7 @@ use mathlib.Core.Path.{ap, sym, _∙_}
 use borrow.Author.Needs.{needs}
 use Rattle.algebra.specs.Cut.{cutAt}
 use Rattle.algebra.specs.declared.Basis.{Basis}
-use Rattle.algebra.specs.Operations.{wholes}
+use Rattle.algebra.specs.Operations.{wholeOps}
 use Rattle.lists.proofs.whole.cut_coeffs.Statement.{statement}
 use Rattle.lists.proofs.whole.cut_coeffs.Tie as tie
 
@@ -20,7 +20,7 @@ returns : tie.Need-returns
 unfolding cutAt
 returns c =
     let start = c .before .before in
-    sym (ap (λ (b : Basis). cutAt wholes b (start .args .p) (start .args .c .now)) (c .enum-told .given .1))
+    sym (ap (λ (b : Basis). cutAt wholeOps b (start .args .p) (start .args .c .now)) (c .enum-told .given .1))
 
 same-length : tie.Need-same-length
 same-length c = search needs
@@ -30,7 +30,7 @@ returns-2 c =
     let arm = c .before .before .before in
     let start = arm .before .before in
     c .before .factorize-coeffs-chebyshev .ensures
-    ∙ ap (λ (b : Basis). cutAt wholes b (start .args .p) (start .args .c .now)) (sym (arm .enum-told2 .given .1))
+    ∙ ap (λ (b : Basis). cutAt wholeOps b (start .args .p) (start .args .c .now)) (sym (arm .enum-told2 .given .1))
 
 pub cut-coeffs-spec : {M : Type 1} → statement M
 cut-coeffs-spec =

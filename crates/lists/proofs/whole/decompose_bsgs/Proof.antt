@@ -5,7 +5,7 @@ use native.Mathlib.Omega.{arith}
 use borrow.Author.Needs.{needs}
 use borrow.Author.Tests.{leb-true}
 use lib.ListN.{length}
-use Rattle.algebra.specs.Operations.{wholes}
+use Rattle.algebra.specs.Operations.{wholeOps}
 use Rattle.number.specs.SumLimit.{sumFits}
 use Rattle.lists.specs.ListCall.{callRefusal}
 use Rattle.lists.proofs.Calls as calls
@@ -15,7 +15,7 @@ use Rattle.lists.proofs.whole.decompose_bsgs.Tie as tie
 
 -- the shape is the call's
 shaped : (c : tie.After-shape-for) → let args = c .before .before .before .args in
-    Shaped wholes sumFits (args .basis) (args .parity) (args .strategy) (args .c .now) (args .out .now) (args .bounds .now) (c .shape-for .result)
+    Shaped wholeOps sumFits (args .basis) (args .parity) (args .strategy) (args .c .now) (args .out .now) (args .bounds .now) (c .shape-for .result)
 unfolding callRefusal
 shaped c = record { is = c .shape-for .ensures ∙ rw (c .before .sum-fits .ensures) }
 

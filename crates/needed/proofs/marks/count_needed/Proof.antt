@@ -34,8 +34,8 @@ returns c =
     let last = c .before in
     let marks = last .before in
     let args = marks .before .args in
-    let whole = neededMarks (args .parity) (args .basis) (args .split) (args .degree) in
-    let size = greatestTarget (args .split) (args .degree) + 1 in
+    let whole = neededMarks (args .parity) (args .basis) (args .degree) (args .split) in
+    let size = greatestTarget (args .degree) (args .split) + 1 in
     c .count-marks .ensures
     ∙ rw (marks .needed-marks .ensures, last .greatest-target .ensures)
     (ap countMarks (take-padded 4096 size whole (needed-length (args .parity) (args .basis) (args .split) (args .degree))))

@@ -41,7 +41,7 @@ returns c =
     let args = top .before .args in
     c .sweep .ensures
     ∙ rw (targets .target-marks .ensures, last .greatest-target .ensures, limit .baby-limit .ensures, top .top-power .ensures)
-    (sweep-padded (args .basis) (greatestTarget (args .split) (args .degree)) 4096 _)
+    (sweep-padded (args .basis) (greatestTarget (args .degree) (args .split)) 4096 _)
 
 pub needed-marks-spec : {M : Type 1} → statement M
 needed-marks-spec =

@@ -5,7 +5,7 @@ use mathlib.Core.Path.{_≡_, sym, ap, _∙_}
 use Prim.Native.Nat.{ℕ, _≤_}
 use lib.ListN.{length, drop}
 use lib.Ieee.{nan}
-use Rattle.number.specs.Numbers.{floats}
+use Rattle.number.specs.Numbers.{floatOps}
 use Rattle.number.specs.Evaluate as spec
 use Rattle.number.proofs.Literals.{zero-is}
 use Rattle.number.proofs.EvaluateSteps.{horner-start, horner-step}
@@ -13,13 +13,13 @@ use Rattle.number.proofs.evaluate.horner.Statement.{statement}
 use Rattle.number.proofs.evaluate.horner.Tie as tie
 
 abbrev Inv-loop : tie.InvT-loop
-Inv-loop coeffs x y₀ i₀ y i = (i ≤ length coeffs) × (y ≡ spec.horner floats x (drop i coeffs))
+Inv-loop coeffs x y₀ i₀ y i = (i ≤ length coeffs) × (y ≡ spec.horner floatOps x (drop i coeffs))
 
 abbrev μ-loop : tie.MeasureT-loop
 μ-loop coeffs x y₀ i₀ y i = i
 
 loop-holds : tie.Need-loop-holds Inv-loop μ-loop
-loop-holds c = (search needs, zero-is ∙ sym (horner-start floats (c .args .x) (c .args .coeffs .now)))
+loop-holds c = (search needs, zero-is ∙ sym (horner-start floatOps (c .args .x) (c .args .coeffs .now)))
 
 sub-i : tie.Need-sub-i Inv-loop μ-loop
 sub-i c = search needs
@@ -37,13 +37,13 @@ loop-again : tie.Need-loop-again Inv-loop μ-loop
 loop-again c =
     let turn = c .before .before in
     let args = turn .before .args in
-    (search needs, horner-step floats (args .x) (args .coeffs .now) (turn .loop .i) nan (search needs) (search needs) (turn .loop .inv .1))
+    (search needs, horner-step floatOps (args .x) (args .coeffs .now) (turn .loop .i) nan (search needs) (search needs) (turn .loop .inv .1))
 
 returns : tie.Need-returns Inv-loop μ-loop
 returns c =
     let args = c .before .before .args in
     let end : c .before .loop .i ≡ 0 = search needs in
-    c .before .loop .inv .1 ∙ ap (λ (i : ℕ). spec.horner floats (args .x) (drop i (args .coeffs .now))) end
+    c .before .loop .inv .1 ∙ ap (λ (i : ℕ). spec.horner floatOps (args .x) (drop i (args .coeffs .now))) end
 
 pub horner-spec : {M : Type 1} → statement M
 horner-spec =

@@ -11,7 +11,7 @@ use lib.IntN.{ℤ, pos, natAbs, _-ℤ_}
 use mir.Syntax.{w64}
 use mir.Val.{toZ, ofZ}
 use mir.Facts.{toZ-ofZ}
-use Rattle.algebra.specs.Operations.{wholes, double}
+use Rattle.algebra.specs.Operations.{wholeOps, double}
 use Rattle.algebra.proofs.Fits.{fits-abs}
 use Rattle.number.specs.Room.{Doubles}
 use Rattle.number.proofs.Cutting.{cutTo, cut-none, cut-all, turn-low, turn-high, turn-written}
@@ -19,7 +19,7 @@ use Rattle.number.proofs.factor.factorize_coeffs_chebyshev.Statement.{s
 use Rattle.number.proofs.factor.factorize_coeffs_chebyshev.Tie as tie
 
 abbrev Inv-loop : tie.InvT-loop
-Inv-loop c₀ p j₀ c j = record { started : 0 < j; within : j + p ≤ length c₀; long : length c ≡ length c₀; before : c ≡ cutTo wholes p c₀ (pos 0) (j - 1) }
+Inv-loop c₀ p j₀ c j = record { started : 0 < j; within : j + p ≤ length c₀; long : length c ≡ length c₀; before : c ≡ cutTo wholeOps p c₀ (pos 0) (j - 1) }
 
 abbrev μ-loop : tie.MeasureT-loop
 μ-loop c₀ p j₀ c j = length c₀ - j
@@ -45,14 +45,14 @@ module _ (turn : tie.In-loop Inv-loop μ-loop) where
   test = omega arith
 
   low : getD (turn .before .loop .c) (p - j) (pos 0) ≡ getD c₀ (p - j) (pos 0)
-  low = turn-low wholes (pos 0) p j c₀ (turn .before .loop .c) inside half (turn .before .loop .inv .started) test (turn .before .loop .inv .before)
+  low = turn-low wholeOps (pos 0) p j c₀ (turn .before .loop .c) inside half (turn .before .loop .inv .started) test (turn .before .loop .inv .before)
 
   high : getD (turn .before .loop .c) (p + j) (pos 0) ≡ getD c₀ (p + j) (pos 0)
-  high = turn-high wholes (pos 0) p j c₀ (turn .before .loop .c) inside half (turn .before .loop .inv .started) test (turn .before .loop .inv .before)
+  high = turn-high wholeOps (pos 0) p j c₀ (turn .before .loop .c) inside half (turn .before .loop .inv .started) test (turn .before .loop .inv .before)
 
-  written : (y x : ℤ) → y ≡ getD c₀ (p - j) (pos 0) -ℤ getD c₀ (p + j) (pos 0) → x ≡ double wholes (getD c₀ (p + j) (pos 0))
-      → set (set (turn .before .loop .c) (p - j) y) (p + j) x ≡ cutTo wholes p c₀ (pos 0) (j + 1 - 1)
-  written = turn-written wholes (pos 0) p j c₀ (turn .before .loop .c) inside half (turn .before .loop .inv .started) test (turn .before .loop .inv .before)
+  written : (y x : ℤ) → y ≡ getD c₀ (p - j) (pos 0) -ℤ getD c₀ (p + j) (pos 0) → x ≡ double wholeOps (getD c₀ (p + j) (pos 0))
+      → set (set (turn .before .loop .c) (p - j) y) (p + j) x ≡ cutTo wholeOps p c₀ (pos 0) (j + 1 - 1)
+  written = turn-written wholeOps (pos 0) p j c₀ (turn .before .loop .c) inside half (turn .before .loop .inv .started) test (turn .before .loop .inv .before)
 
   small : (i : ℕ) → natAbs (getD c₀ i (pos 0)) ≤ 2 ^ 52
   unfolding Doubles
@@ -70,7 +70,7 @@ loop-holds c = record {
   started = search needs;
   within = search needs;
   long = search needs;
-  before = sym (cut-none wholes (c .args .p) (c .args .c .now) (pos 0) (c .pre .0));
+  before = sym (cut-none wholeOps (c .args .p) (c .args .c .now) (pos 0) (c .pre .0));
 }
 
 sub-loop : tie.Need-sub-loop Inv-loop μ-loop
@@ -128,7 +128,7 @@ loop-again c =
       before =
           written turn _ _
           (toZ-ofZ (record { sfits = c .before .minus .ok }) ∙ c .before .minus .ensures ∙ ap₂ _-ℤ_ (read turn _ (low turn)) (read turn _ (high turn)))
-          (toZ-ofZ (record { sfits = c .twice .ok }) ∙ c .twice .ensures ∙ ap (double wholes) (read turn _ (high turn)));
+          (toZ-ofZ (record { sfits = c .twice .ok }) ∙ c .twice .ensures ∙ ap (double wholeOps) (read turn _ (high turn)));
     }
 
 same-length : tie.Need-same-length Inv-loop μ-loop
@@ -137,7 +137,7 @@ same-length c = search needs
 returns : tie.Need-returns Inv-loop μ-loop
 returns c =
     let start = c .before .before in
-    c .before .loop .inv .before ∙ cut-all wholes (start .args .p) (start .args .c .now) (pos 0) (start .pre .0) (c .before .loop .j - 1) (omega arith)
+    c .before .loop .inv .before ∙ cut-all wholeOps (start .args .p) (start .args .c .now) (pos 0) (start .pre .0) (c .before .loop .j - 1) (omega arith)
 
 pub factorize-coeffs-chebyshev-spec : {M : Type 1} → statement M
 factorize-coeffs-chebyshev-spec =

@@ -7,7 +7,7 @@ use borrow.Author.Needs.{needs}
 use lib.ListN.{length, length-set}
 use lib.Ieee.{nan, binary64, add}
 use Rattle.algebra.specs.Operations.{two}
-use Rattle.number.specs.Numbers.{floats}
+use Rattle.number.specs.Numbers.{floatOps}
 use Rattle.number.proofs.Cutting.{cutTo, cut-none, cut-all, turn-low, turn-high, turn-written}
 use Rattle.number.proofs.Literals.{one-is}
 use Rattle.number.proofs.factor.factorize_coeffs_chebyshev_f64.Statement.{statement}
@@ -15,11 +15,11 @@ use Rattle.number.proofs.factor.factorize_coeffs_chebyshev_f64.Tie as t
 
 abbrev Inv-loop : tie.InvT-loop
 Inv-loop c₀ p twofold j₀ c j = record {
-  doubles : twofold ≡ two floats;
+  doubles : twofold ≡ two floatOps;
   started : 0 < j;
   within : j + p ≤ length c₀;
   long : length c ≡ length c₀;
-  before : c ≡ cutTo floats p c₀ nan (j - 1);
+  before : c ≡ cutTo floatOps p c₀ nan (j - 1);
 }
 
 abbrev μ-loop : tie.MeasureT-loop
@@ -31,7 +31,7 @@ loop-holds c = record {
   started = search needs;
   within = search needs;
   long = search needs;
-  before = sym (cut-none floats (c .args .p) (c .args .c .now) nan (c .pre .0));
+  before = sym (cut-none floatOps (c .args .p) (c .args .c .now) nan (c .pre .0));
 }
 
 sub-loop : tie.Need-sub-loop Inv-loop μ-loop
@@ -82,15 +82,15 @@ loop-again c =
     let j = turn .loop .j in
     let inv = turn .loop .inv in
     let test : j < length c₀ - p = omega arith in
-    let low = turn-low floats nan p j c₀ (turn .loop .c) (start .pre .0) (start .pre .1) (inv .started) test (inv .before) in
-    let high = turn-high floats nan p j c₀ (turn .loop .c) (start .pre .0) (start .pre .1) (inv .started) test (inv .before) in
-    let written = turn-written floats nan p j c₀ (turn .loop .c) (start .pre .0) (start .pre .1) (inv .started) test (inv .before) in
+    let low = turn-low floatOps nan p j c₀ (turn .loop .c) (start .pre .0) (start .pre .1) (inv .started) test (inv .before) in
+    let high = turn-high floatOps nan p j c₀ (turn .loop .c) (start .pre .0) (start .pre .1) (inv .started) test (inv .before) in
+    let written = turn-written floatOps nan p j c₀ (turn .loop .c) (start .pre .0) (start .pre .1) (inv .started) test (inv .before) in
     record {
       doubles = inv .doubles;
       started = omega arith;
       within = omega arith;
       long = simp length-set (inv .long);
-      before = written _ _ (ap₂ (floats .sub) low high) (ap₂ (floats .mul) (inv .doubles) high);
+      before = written _ _ (ap₂ (floatOps .sub) low high) (ap₂ (floatOps .mul) (inv .doubles) high);
     }
 
 same-length : tie.Need-same-length Inv-loop μ-loop
@@ -99,7 +99,7 @@ same-length c = search needs
 returns : tie.Need-returns Inv-loop μ-loop
 returns c =
     let start = c .before .before in
-    c .before .loop .inv .before ∙ cut-all floats (start .args .p) (start .args .c .now) nan (start .pre .0) (c .before .loop .j - 1) (omega arith)
+    c .before .loop .inv .before ∙ cut-all floatOps (start .args .p) (start .args .c .now) nan (start .pre .0) (c .before .loop .j - 1) (omega arith)
 
 pub factorize-coeffs-chebyshev-f64-spec : {M : Type 1} → statement M
 factorize-coeffs-chebyshev-f64-spec =

@@ -2,7 +2,7 @@
 -- A refused call writes nothing.
 use mathlib.Core.Path.{sym, _∙_}
 use borrow.Author.Needs.{needs}
-use Rattle.number.specs.Numbers.{whole}
+use Rattle.number.specs.Numbers.{wholeNumbers}
 use Rattle.number.specs.FoldCall.{wholeTests}
 use Rattle.number.proofs.FoldCalls.{whole-foldable, fold-done, fold-refused}
 use Rattle.number.proofs.fold.fold_parity.Statement.{statement}
@@ -36,7 +36,7 @@ returns c =
     let r = i .before in
     let n = r .before in
     let s = n .before .args in
-    fold-done whole wholeTests (s .basis) (s .parity) (s .c .now) (s .out .now) (n .fold-count .ensures) (r .refusal-of .ensures) (i .if1 .taken)
+    fold-done wholeNumbers wholeTests (s .basis) (s .parity) (s .c .now) (s .out .now) (n .fold-count .ensures) (r .refusal-of .ensures) (i .if1 .taken)
     (c .transform-of .ensures) (w .fold-into .ensures)
 
 returns-2 : tie.Need-returns-2
@@ -44,7 +44,7 @@ returns-2 c =
     let r = c .before in
     let n = r .before in
     let s = n .before .args in
-    fold-refused whole wholeTests (s .basis) (s .parity) (s .c .now) (s .out .now) (n .fold-count .ensures) (r .refusal-of .ensures) (c .if1 .left)
+    fold-refused wholeNumbers wholeTests (s .basis) (s .parity) (s .c .now) (s .out .now) (n .fold-count .ensures) (r .refusal-of .ensures) (c .if1 .left)
 
 pub fold-parity-spec : {M : Type 1} → statement M
 fold-parity-spec =

@@ -7,7 +7,7 @@ use Prim.Native.Nat.{_≤_}
 use borrow.Author.Needs.{needs}
 use lib.Dec.{ltb}
 use lib.ListN.{length}
-use Rattle.number.specs.Numbers.{whole}
+use Rattle.number.specs.Numbers.{wholeNumbers}
 use Rattle.number.specs.Refusal.{firstRefusal}
 use Rattle.number.specs.Parity.{allZero}
 use Rattle.number.specs.FoldCall.{isFull, fewest, wrongPlaces, foldRefusal, wholeTests}
@@ -30,23 +30,23 @@ module _ (k : tie.After-has-parity) where
       → ltb (length (start .args .c .now)) (fewest (start .args .parity)) ≡ flag
   low e = ap (ltb (length (start .args .c .now))) (sym (k .before .fewest-of .ensures)) ∙ e
 
-  wrong : {flag : Bool} → not (k .has-parity .result) ≡ flag → not (allZero whole (wrongPlaces (start .args .parity) (start .args .c .now))) ≡ flag
+  wrong : {flag : Bool} → not (k .has-parity .result) ≡ flag → not (allZero wholeNumbers (wrongPlaces (start .args .parity) (start .args .c .now))) ≡ flag
   wrong e = ap not (sym (k .has-parity .ensures)) ∙ e
 
 past : (k : tie.Else4) → let s = start (k .before .before) .args in
-    foldRefusal whole wholeTests (s .parity) (s .c .now) (s .short) ≡ firstRefusal (wholeTests (s .c .now) ++ ((s .short, 21) ∷ []))
+    foldRefusal wholeNumbers wholeTests (s .parity) (s .c .now) (s .short) ≡ firstRefusal (wholeTests (s .c .now) ++ ((s .short, 21) ∷ []))
 past k =
     let asked = k .before .before in
-    past-parity whole wholeTests _ _ _ (few asked) (not-full asked) (low asked (k .before .if3 .left)) (wrong asked (k .if4 .left))
+    past-parity wholeNumbers wholeTests _ _ _ (few asked) (not-full asked) (low asked (k .before .if3 .left)) (wrong asked (k .if4 .left))
 
 returns : tie.Need-returns
-returns c = refused-high whole wholeTests _ _ _ (c .if1 .taken)
+returns c = refused-high wholeNumbers wholeTests _ _ _ (c .if1 .taken)
 
 is-full-requires : tie.Need-is-full-requires
 is-full-requires c κs = search needs
 
 returns-2 : tie.Need-returns-2
-returns-2 c = refused-full whole wholeTests _ _ _ (c .before .before .if1 .left) (sym (c .before .is-full .ensures) ∙ c .if2 .taken)
+returns-2 c = refused-full wholeNumbers wholeTests _ _ _ (c .before .before .if1 .left) (sym (c .before .is-full .ensures) ∙ c .if2 .taken)
 
 fewest-of-requires : tie.Need-fewest-of-requires
 fewest-of-requires c κs = search needs
@@ -55,12 +55,12 @@ has-parity-requires : tie.Need-has-parity-requires
 has-parity-requires c κs = search needs
 
 returns-3 : tie.Need-returns-3
-returns-3 c = let asked = c .before in refused-low whole wholeTests _ _ _ (few asked) (not-full asked) (low asked (c .if3 .taken))
+returns-3 c = let asked = c .before in refused-low wholeNumbers wholeTests _ _ _ (few asked) (not-full asked) (low asked (c .if3 .taken))
 
 returns-4 : tie.Need-returns-4
 returns-4 c =
     let asked = c .before .before in
-    refused-parity whole wholeTests _ _ _ (few asked) (not-full asked) (low asked (c .before .if3 .left)) (wrong asked (c .if4 .taken))
+    refused-parity wholeNumbers wholeTests _ _ _ (few asked) (not-full asked) (low asked (c .before .if3 .left)) (wrong asked (c .if4 .taken))
 
 sum-fits-requires : tie.Need-sum-fits-requires
 sum-fits-requires c κs = search needs

@@ -4,7 +4,7 @@ use mathlib.Core.Path.{ap, sym, _∙_}
 use native.Mathlib.Omega.{arith}
 use lib.IntN.{pos, _*ℤ_, *ℤ-comm}
 use mir.Facts.{toZ-ofZ}
-use Rattle.algebra.specs.Operations.{wholes, double}
+use Rattle.algebra.specs.Operations.{wholeOps, double}
 use Rattle.algebra.proofs.Integers.{*ℤ-idr}
 use Rattle.number.proofs.Signed.{back}
 use Rattle.number.proofs.Rows.{lead-first, lead-later}
@@ -24,7 +24,7 @@ returns-2 : tie.Need-returns-2
 returns-2 c =
     let start = c .before .before in
     let s = start .args .s in
-    back (c .twice .ok) (c .twice .ensures ∙ ap (double wholes) (toZ-ofZ (start .fits .s))) ∙ *ℤ-comm (pos 2) s
+    back (c .twice .ok) (c .twice .ensures ∙ ap (double wholeOps) (toZ-ofZ (start .fits .s))) ∙ *ℤ-comm (pos 2) s
     ∙ sym (ap (s *ℤ_) (lead-later (start .args .i) (c .before .if1 .left)))
 
 pub times-lead-spec : {M : Type 1} → statement M

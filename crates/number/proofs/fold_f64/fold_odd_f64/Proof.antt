@@ -5,14 +5,14 @@ use native.Mathlib.Omega.{arith}
 use borrow.Author.Needs.{needs}
 use lib.ListN.{length}
 use lib.Ieee.{nan}
-use Rattle.number.specs.Numbers.{floats}
+use Rattle.number.specs.Numbers.{floatOps}
 use Rattle.number.specs.Foldable.{countOf}
 use Rattle.number.proofs.FoldLoops.{Placing, placing-start, placing-length, placing-step, placing-end}
 use Rattle.number.proofs.fold_f64.fold_odd_f64.Statement.{statement}
 use Rattle.number.proofs.fold_f64.fold_odd_f64.Tie as tie
 
 abbrev Inv-loop : tie.InvT-loop
-Inv-loop c out₀ n i₀ out i = Placing floats c out₀ out i
+Inv-loop c out₀ n i₀ out i = Placing floatOps c out₀ out i
 
 abbrev μ-loop : tie.MeasureT-loop
 μ-loop c out₀ n i₀ out i = length c / 2 - i
@@ -25,7 +25,7 @@ unfolding countOf
 room k = start k .pre .room
 
 loop-holds : tie.Need-loop-holds Inv-loop μ-loop
-loop-holds c = placing-start floats (start c .args .c .now) (start c .args .out .now)
+loop-holds c = placing-start floatOps (start c .args .c .now) (start c .args .out .now)
 
 odd-place-f64-requires : tie.Need-odd-place-f64-requires Inv-loop μ-loop
 odd-place-f64-requires c κs = omega (arith, c .loop-test .taken)

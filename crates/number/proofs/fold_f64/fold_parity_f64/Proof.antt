@@ -2,7 +2,7 @@
 -- for. A refused call writes nothing.
 use mathlib.Core.Path.{sym, _∙_}
 use borrow.Author.Needs.{needs}
-use Rattle.number.specs.Numbers.{float}
+use Rattle.number.specs.Numbers.{floatNumbers}
 use Rattle.number.specs.FoldCall.{noTests}
 use Rattle.number.proofs.FoldCalls.{plain-foldable, fold-done, fold-refused}
 use Rattle.number.proofs.fold_f64.fold_parity_f64.Statement.{statement}
@@ -21,7 +21,7 @@ fold-into-f64-requires c κs =
     let n = r .before in
     let s = n .before .before .before .args in
     let passed = sym (r .refusal-of-f64 .ensures) ∙ i .if1 .taken in
-    plain-foldable float (s .parity) (s .c .now) (s .out .now) (n .fold-count .result) (n .fold-count .ensures) passed
+    plain-foldable floatNumbers (s .parity) (s .c .now) (s .out .now) (n .fold-count .result) (n .fold-count .ensures) passed
 
 transform-of-requires : tie.Need-transform-of-requires
 transform-of-requires c κs = search needs
@@ -36,7 +36,7 @@ returns c =
     let r = i .before in
     let n = r .before in
     let s = n .before .before .before .args in
-    fold-done float noTests (s .basis) (s .parity) (s .c .now) (s .out .now) (n .fold-count .ensures) (r .refusal-of-f64 .ensures) (i .if1 .taken)
+    fold-done floatNumbers noTests (s .basis) (s .parity) (s .c .now) (s .out .now) (n .fold-count .ensures) (r .refusal-of-f64 .ensures) (i .if1 .taken)
     (c .transform-of .ensures) (w .fold-into-f64 .ensures)
 
 returns-2 : tie.Need-returns-2
@@ -44,7 +44,7 @@ returns-2 c =
     let r = c .before in
     let n = r .before in
     let s = n .before .before .before .args in
-    fold-refused float noTests (s .basis) (s .parity) (s .c .now) (s .out .now) (n .fold-count .ensures) (r .refusal-of-f64 .ensures) (c .if1 .left)
+    fold-refused floatNumbers noTests (s .basis) (s .parity) (s .c .now) (s .out .now) (n .fold-count .ensures) (r .refusal-of-f64 .ensures) (c .if1 .left)
 
 pub fold-parity-f64-spec : {M : Type 1} → statement M
 fold-parity-f64-spec =

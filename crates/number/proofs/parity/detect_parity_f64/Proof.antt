@@ -2,7 +2,7 @@
 -- even ones, and each branch has the facts that decide it.
 use borrow.Author.Needs.{needs}
 use mathlib.Core.Path.{sym, _∙_}
-use Rattle.number.specs.Numbers.{float}
+use Rattle.number.specs.Numbers.{floatNumbers}
 use Rattle.number.proofs.ParitySteps.{parity-even, parity-odd, parity-full}
 use Rattle.number.proofs.parity.detect_parity_f64.Statement.{statement}
 use Rattle.number.proofs.parity.detect_parity_f64.Tie as tie
@@ -13,7 +13,7 @@ half-zero-f64-requires c κs = search needs
 returns : tie.Need-returns
 returns c =
     let odds = c .before in
-    parity-even float (odds .before .before .args .c .now) (sym (odds .half-zero-f64 .ensures) ∙ c .if1 .taken)
+    parity-even floatNumbers (odds .before .before .args .c .now) (sym (odds .half-zero-f64 .ensures) ∙ c .if1 .taken)
 
 half-zero-f64-requires-2 : tie.Need-half-zero-f64-requires-2
 half-zero-f64-requires-2 c κs = search needs
@@ -23,14 +23,14 @@ returns-2 c =
     let tested = c .before .before in
     let odds = tested .before in
     let some-odd = sym (odds .half-zero-f64 .ensures) ∙ tested .if1 .left in
-    parity-odd float (odds .before .before .args .c .now) some-odd (sym (c .before .half-zero-f642 .ensures) ∙ c .if2 .taken)
+    parity-odd floatNumbers (odds .before .before .args .c .now) some-odd (sym (c .before .half-zero-f642 .ensures) ∙ c .if2 .taken)
 
 returns-3 : tie.Need-returns-3
 returns-3 c =
     let tested = c .before .before in
     let odds = tested .before in
     let some-odd = sym (odds .half-zero-f64 .ensures) ∙ tested .if1 .left in
-    parity-full float (odds .before .before .args .c .now) some-odd (sym (c .before .half-zero-f642 .ensures) ∙ c .if2 .left)
+    parity-full floatNumbers (odds .before .before .args .c .now) some-odd (sym (c .before .half-zero-f642 .ensures) ∙ c .if2 .left)
 
 pub detect-parity-f64-spec : {M : Type 1} → statement M
 detect-parity-f64-spec = tie.close (tie.spec half-zero-f64-requires returns half-zero-f64-requires-2 returns-2 returns-3)

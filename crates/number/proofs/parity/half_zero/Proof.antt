@@ -5,7 +5,7 @@ use mathlib.Core.Path.{_≡_, refl, sym, _∙_}
 use Prim.Native.Nat.{_-_}
 use lib.ListN.{length, getD}
 use lib.IntN.{pos}
-use Rattle.number.specs.Numbers.{whole}
+use Rattle.number.specs.Numbers.{wholeNumbers}
 use Rattle.number.specs.Parity.{halfZero}
 use Rattle.number.proofs.Signed.{whole-is-zero, whole-not-zero}
 use Rattle.number.proofs.ParitySteps.{half-not, half-more, half-end}
@@ -13,7 +13,7 @@ use Rattle.number.proofs.parity.half_zero.Statement.{statement}
 use Rattle.number.proofs.parity.half_zero.Tie as tie
 
 abbrev Inv-loop : tie.InvT-loop
-Inv-loop c from i₀ i = halfZero whole i c ≡ halfZero whole from c
+Inv-loop c from i₀ i = halfZero wholeNumbers i c ≡ halfZero wholeNumbers from c
 
 abbrev μ-loop : tie.MeasureT-loop
 μ-loop c from i₀ i = length c - i
@@ -33,7 +33,7 @@ returns c =
     let coeffs = turn .before .args .c .now in
     let i = turn .loop .i in
     let found = whole-not-zero (getD coeffs i (pos 0)) (record { sfits = c .before .if12 .given }) (c .if1 .taken) in
-    sym (half-not whole coeffs i (pos 0) (search needs) found) ∙ turn .loop .inv
+    sym (half-not wholeNumbers coeffs i (pos 0) (search needs) found) ∙ turn .loop .inv
 
 add-i : tie.Need-add-i Inv-loop μ-loop
 add-i c = search needs
@@ -47,12 +47,12 @@ loop-again c =
     let coeffs = turn .before .args .c .now in
     let i = turn .loop .i in
     let found = whole-is-zero (getD coeffs i (pos 0)) (record { sfits = c .before .if12 .given }) (c .if1 .left) in
-    sym (half-more whole coeffs i (pos 0) (search needs) found) ∙ turn .loop .inv
+    sym (half-more wholeNumbers coeffs i (pos 0) (search needs) found) ∙ turn .loop .inv
 
 returns-2 : tie.Need-returns-2 Inv-loop μ-loop
 returns-2 c =
     let turn = c .before in
-    sym (half-end whole (turn .before .args .c .now) (turn .loop .i) (search needs)) ∙ turn .loop .inv
+    sym (half-end wholeNumbers (turn .before .args .c .now) (turn .loop .i) (search needs)) ∙ turn .loop .inv
 
 pub half-zero-spec : {M : Type 1} → statement M
 half-zero-spec =

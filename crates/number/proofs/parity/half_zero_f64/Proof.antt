@@ -5,7 +5,7 @@ use mathlib.Core.Path.{_≡_, refl, sym, _∙_}
 use Prim.Native.Nat.{_-_}
 use lib.ListN.{length, getD}
 use lib.Ieee.{nan}
-use Rattle.number.specs.Numbers.{float}
+use Rattle.number.specs.Numbers.{floatNumbers}
 use Rattle.number.specs.Parity.{halfZero}
 use Rattle.number.proofs.Literals.{float-not-zero, float-is-zero}
 use Rattle.number.proofs.ParitySteps.{half-not, half-more, half-end}
@@ -13,7 +13,7 @@ use Rattle.number.proofs.parity.half_zero_f64.Statement.{statement}
 use Rattle.number.proofs.parity.half_zero_f64.Tie as tie
 
 abbrev Inv-loop : tie.InvT-loop
-Inv-loop c from i₀ i = halfZero float i c ≡ halfZero float from c
+Inv-loop c from i₀ i = halfZero floatNumbers i c ≡ halfZero floatNumbers from c
 
 abbrev μ-loop : tie.MeasureT-loop
 μ-loop c from i₀ i = length c - i
@@ -32,7 +32,7 @@ returns c =
     let turn = c .before .before .before in
     let coeffs = turn .before .args .c .now in
     let i = turn .loop .i in
-    sym (half-not float coeffs i nan (search needs) (float-not-zero (getD coeffs i nan) (c .if1 .taken))) ∙ turn .loop .inv
+    sym (half-not floatNumbers coeffs i nan (search needs) (float-not-zero (getD coeffs i nan) (c .if1 .taken))) ∙ turn .loop .inv
 
 add-i : tie.Need-add-i Inv-loop μ-loop
 add-i c = search needs
@@ -45,12 +45,12 @@ loop-again c =
     let turn = c .before .before .before in
     let coeffs = turn .before .args .c .now in
     let i = turn .loop .i in
-    sym (half-more float coeffs i nan (search needs) (float-is-zero (getD coeffs i nan) (c .if1 .left))) ∙ turn .loop .inv
+    sym (half-more floatNumbers coeffs i nan (search needs) (float-is-zero (getD coeffs i nan) (c .if1 .left))) ∙ turn .loop .inv
 
 returns-2 : tie.Need-returns-2 Inv-loop μ-loop
 returns-2 c =
     let turn = c .before in
-    sym (half-end float (turn .before .args .c .now) (turn .loop .i) (search needs)) ∙ turn .loop .inv
+    sym (half-end floatNumbers (turn .before .args .c .now) (turn .loop .i) (search needs)) ∙ turn .loop .inv
 
 pub half-zero-f64-spec : {M : Type 1} → statement M
 half-zero-f64-spec =
