@@ -7,6 +7,7 @@ use native.Mathlib.Nat.{add-zero, add-suc, suc-add}
 use native.Mathlib.Numerals.{add-one}
 use native.Mathlib.Decide.{decLe}
 use native.Mathlib.Omega.{arith}
+use Rattle.algebra.specs.Distance.{distanceOf}
 use Rattle.algebra.specs.Operations.{Operations, double}
 use Rattle.algebra.specs.Power.{cheb}
 use Rattle.algebra.specs.Ring.{Ring}
@@ -66,19 +67,19 @@ module _ {A : Type 0} (𝓡 : Ring A) where
         ∷ [])
         refl (cheb-step ops x d, (one-less, (two-less, (cheb-step ops x (suc (suc (n + d + d))), (cheb-step ops x n, tt))))))
 
-    -- 2·T_a·T_b = T_(a+b) + T_|a-b|, where |a - b| is (a - b) + (b - a), one of the two being 0
-    pub cheb-product-distance : (a b : ℕ) → double ops (cheb ops x a ⊗ cheb ops x b) ≡ cheb ops x (a + b) ⊕ cheb ops x (a - b + (b - a))
+    -- 2·T_a·T_b = T_(a+b) + T_c, with c the distance of a and b
+    pub cheb-product-distance : (a b : ℕ) → double ops (cheb ops x a ⊗ cheb ops x b) ≡ cheb ops x (a + b) ⊕ cheb ops x (distanceOf a b)
     cheb-product-distance a b = by-order (decLe a b)
       where
-        by-order : Dec (a ≤ b) → double ops (T a ⊗ T b) ≡ T (a + b) ⊕ T (a - b + (b - a))
+        by-order : Dec (a ≤ b) → double ops (T a ⊗ T b) ≡ T (a + b) ⊕ T (distanceOf a b)
         by-order (yes h) =
             let back : b - a + a ≡ b = omega arith in
             let total : b + a ≡ a + b = omega arith in
-            let apart : b - a ≡ a - b + (b - a) = omega arith in
+            let apart : b - a ≡ distanceOf a b = omega arith in
             rw back at (cheb-product a (b - a)) ∙ ap₂ (λ m n. T m ⊕ T n) total apart
         by-order (no h) =
             let back : a - b + b ≡ a = omega arith in
-            let apart : a - b ≡ a - b + (b - a) = omega arith in
+            let apart : a - b ≡ distanceOf a b = omega arith in
             ap (double ops) (𝓡 .mul-comm (T a) (T b)) ∙ rw back at (cheb-product b (a - b)) ∙ ap (λ n. T (a + b) ⊕ T n) apart
 
     -- T_(p+j) = 2·T_p·T_j - T_(p-j)

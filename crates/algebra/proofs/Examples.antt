@@ -3,13 +3,15 @@ use mathlib.Core.Path.{_≡_, refl}
 use mathlib.Core.List.{[], _∷_, map}
 use lib.IntN.{pos, negsuc, _+ℤ_, _*ℤ_}
 use Rattle.algebra.specs.Cut.{differences, doubled, lowered, cutAt}
-use Rattle.algebra.specs.Fold.{everySecond, coeffR, addR, sumRFrom, fold, foldedPoint, unfolded}
+use Rattle.algebra.specs.Fold.{everySecond, coeffR, addR, sumRFrom, fold}
 use Rattle.algebra.specs.Magnitude.{sumAbs}
 use Rattle.algebra.specs.Operations.{wholeOps}
 use Rattle.algebra.specs.Power.{pow, cheb, power}
 use Rattle.algebra.specs.Remainder.{rem}
+use Rattle.algebra.specs.Transform.{inputOf, outputOf}
 use Rattle.algebra.specs.Value.{sum, dot, value}
 use Rattle.algebra.specs.declared.Basis.the-variants.{Monomial, Chebyshev}
+use Rattle.algebra.specs.declared.PolynomialInputTransform.the-variants.{ChebyshevT2TimesInput}
 use Rattle.algebra.specs.declared.Parity.the-variants.{Even, Odd}
 
 -- ---- powers and values
@@ -68,23 +70,24 @@ cut-monomial = refl
 -- ---- folds
 
 -- 1 + 3·T_2 + 5·T_4 is 1 + 3·T_1 + 5·T_2 at T_2
-even-fold : fold wholeOps Chebyshev Even (map pos (1 ∷ 0 ∷ 3 ∷ 0 ∷ 5 ∷ [])) ≡ map pos (1 ∷ 3 ∷ 5 ∷ [])
+even-fold : fold wholeOps Even Chebyshev (map pos (1 ∷ 0 ∷ 3 ∷ 0 ∷ 5 ∷ [])) ≡ map pos (1 ∷ 3 ∷ 5 ∷ [])
 unfolding fold everySecond
 even-fold = refl
 
 -- x + 2·x³ is x·(1 + 2·y) at y = x²
-odd-monomial-fold : fold wholeOps Monomial Odd (map pos (0 ∷ 1 ∷ 0 ∷ 2 ∷ [])) ≡ map pos (1 ∷ 2 ∷ [])
+odd-monomial-fold : fold wholeOps Odd Monomial (map pos (0 ∷ 1 ∷ 0 ∷ 2 ∷ [])) ≡ map pos (1 ∷ 2 ∷ [])
 unfolding fold everySecond
 odd-monomial-fold = refl
 
 -- T_1 + 2·T_3 is x·(R_0 + 2·R_1) at T_2, with R_0 = 1 and R_1 = 2·T_1 - 1
-odd-chebyshev-fold : fold wholeOps Chebyshev Odd (map pos (0 ∷ 1 ∷ 0 ∷ 2 ∷ [])) ≡ negsuc 0 ∷ pos 4 ∷ []
+odd-chebyshev-fold : fold wholeOps Odd Chebyshev (map pos (0 ∷ 1 ∷ 0 ∷ 2 ∷ [])) ≡ negsuc 0 ∷ pos 4 ∷ []
 unfolding fold everySecond sumRFrom addR coeffR
 odd-chebyshev-fold = refl
 
 -- at 3: T_2 = 17, and 3·(-1 + 4·17) = 201 = 3 + 2·99
-odd-chebyshev-at-3 : unfolded wholeOps Odd (pos 3) (value wholeOps Chebyshev (foldedPoint wholeOps Chebyshev Odd (pos 3)) (negsuc 0 ∷ pos 4 ∷ [])) ≡ pos 201
-unfolding unfolded foldedPoint dot sum cheb
+odd-chebyshev-at-3 : outputOf wholeOps ChebyshevT2TimesInput (pos 3)
+    (value wholeOps Chebyshev (inputOf wholeOps ChebyshevT2TimesInput (pos 3)) (negsuc 0 ∷ pos 4 ∷ [])) ≡ pos 201
+unfolding outputOf inputOf dot sum cheb
 odd-chebyshev-at-3 = refl
 
 -- R_2 = 2·T_2 - 2·T_1 + 1

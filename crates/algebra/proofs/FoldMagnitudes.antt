@@ -53,9 +53,9 @@ abs-sumRFrom m (o ∷ os) zero = omega (arith, abs-addR m m (pos 0) (o ∷ os))
 abs-sumRFrom m (o ∷ os) (suc i) = omega (arith, abs-sumRFrom (suc m) os i)
 
 -- each coefficient of a fold
-pub fold-magnitude : (basis : Basis) (parity : Parity) (c : List ℤ) (i : ℕ) → natAbs (getD (fold wholeOps basis parity c) i (pos 0)) ≤ 2 * sumAbs c
+pub fold-magnitude : (parity : Parity) (basis : Basis) (c : List ℤ) (i : ℕ) → natAbs (getD (fold wholeOps parity basis c) i (pos 0)) ≤ 2 * sumAbs c
 unfolding fold
-fold-magnitude basis Full c i = omega (arith, abs-getD c i)
-fold-magnitude basis Even c i = omega (arith, abs-getD (everySecond c) i, sumAbs-everySecond c)
-fold-magnitude Monomial Odd c i = omega (arith, abs-getD (everySecond (drop 1 c)) i, sumAbs-everySecond (drop 1 c), sumAbs-drop 1 c)
-fold-magnitude Chebyshev Odd c i = omega (arith, abs-sumRFrom 0 (everySecond (drop 1 c)) i, sumAbs-everySecond (drop 1 c), sumAbs-drop 1 c)
+fold-magnitude Full basis c i = omega (arith, abs-getD c i)
+fold-magnitude Even basis c i = omega (arith, abs-getD (everySecond c) i, sumAbs-everySecond c)
+fold-magnitude Odd Monomial c i = omega (arith, abs-getD (everySecond (drop 1 c)) i, sumAbs-everySecond (drop 1 c), sumAbs-drop 1 c)
+fold-magnitude Odd Chebyshev c i = omega (arith, abs-sumRFrom 0 (everySecond (drop 1 c)) i, sumAbs-everySecond (drop 1 c), sumAbs-drop 1 c)

@@ -5,7 +5,7 @@ use Prim.Native.Nat.{ℕ, zero, suc, _+_, _*_, _/_, _<_}
 use native.Mathlib.Nat.{add-zero}
 use native.Mathlib.Omega.{arith}
 use lib.ListN.{length, getD, drop}
-use Rattle.algebra.specs.Fold.{everySecond, addR, sumRFrom, fold}
+use Rattle.algebra.specs.Fold.{everySecond, foldedLength, addR, sumRFrom, fold}
 use Rattle.algebra.specs.Operations.{Operations}
 use Rattle.algebra.specs.declared.Basis.{Basis}
 use Rattle.algebra.specs.declared.Basis.the-variants.{Monomial, Chebyshev}
@@ -28,12 +28,6 @@ getD-everySecond (a ∷ []) (suc i) d = let e : 2 * suc i ≡ suc (2 * i + 1) = 
 getD-everySecond (a ∷ b ∷ c) zero d = refl
 getD-everySecond (a ∷ b ∷ c) (suc i) d = let e : 2 * suc i ≡ suc (suc (2 * i)) = omega arith in rw e (getD-everySecond c i d)
 
--- how many coefficients a fold of n has
-abbrev pub foldedLength : Parity → ℕ → ℕ
-foldedLength Full n = n
-foldedLength Even n = (n + 1) / 2
-foldedLength Odd n = n / 2
-
 module _ {A : Type 0} (𝓞 : Operations A) where
   -- Σ o_k·R_k has as many coefficients as o
   pub length-sumRFrom : (i : ℕ) (o : List A) → length (sumRFrom 𝓞 i o) ≡ length o
@@ -47,12 +41,12 @@ module _ {A : Type 0} (𝓞 : Operations A) where
   length-odd (a ∷ c) = omega (arith, length-everySecond c)
 
   -- a fold's length
-  pub fold-length : (basis : Basis) (parity : Parity) (c : List A) → length (fold 𝓞 basis parity c) ≡ foldedLength parity (length c)
-  unfolding fold
-  fold-length basis Full c = refl
-  fold-length basis Even c = length-everySecond c
-  fold-length Monomial Odd c = length-odd c
-  fold-length Chebyshev Odd c = length-sumRFrom 0 (everySecond (drop 1 c)) ∙ length-odd c
+  pub fold-length : (parity : Parity) (basis : Basis) (c : List A) → length (fold 𝓞 parity basis c) ≡ foldedLength parity (length c)
+  unfolding fold foldedLength
+  fold-length Full basis c = refl
+  fold-length Even basis c = length-everySecond c
+  fold-length Odd Monomial c = length-odd c
+  fold-length Odd Chebyshev c = length-sumRFrom 0 (everySecond (drop 1 c)) ∙ length-odd c
 
   -- place i of Σ o_k·R_k is summed from k = i on
   pub getD-sumRFrom : (m : ℕ) (o : List A) (i : ℕ) (d : A) → i < length o → getD (sumRFrom 𝓞 m o) i d ≡ addR 𝓞 (m + i) (m + i) (𝓞 .zero) (drop i o)

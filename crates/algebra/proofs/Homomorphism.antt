@@ -7,11 +7,11 @@ use lib.ListN.{length, getD, List·getD-map, length-map}
 use lib.IntN.{ℤ}
 use Rattle.algebra.specs.Operations.{Operations, double, wholeOps}
 use Rattle.algebra.specs.Power.{pow, cheb, power}
-use Rattle.algebra.specs.Remainder.{rem}
+use Rattle.algebra.specs.Remainder.{rem, remainders}
 use Rattle.algebra.specs.Value.{sum, dot, value}
 use Rattle.algebra.specs.declared.Basis.{Basis}
 use Rattle.algebra.specs.declared.Basis.the-variants.{Monomial, Chebyshev}
-use Rattle.algebra.proofs.Remainders.{rem-add, rem-sub, rem-mul, rem-neg, rem-zero, remainders, residue-eq, residue, residues}
+use Rattle.algebra.proofs.Remainders.{rem-add, rem-sub, rem-mul, rem-neg, rem-zero, residue-eq, residue, residues}
 use Rattle.algebra.proofs.Sums.{sum-ext}
 
 -- φ takes each operation of 𝓞 to that of 𝓟
@@ -87,7 +87,3 @@ residue-homomorphism m h = record {
   mul = λ a b. residue-eq (rem-mul m h a b);
   neg = λ a. residue-eq (rem-neg m h a);
 }
-
--- the value's remainder is the value modulo m of the coefficients' remainders at that of x
-pub value-mod : (m : ℕ) → 0 < m → (basis : Basis) (x : ℤ) (c : List ℤ) → rem m (value wholeOps basis x c) ≡ value (remainders m) basis (rem m x) (map (rem m) c)
-value-mod m h = hom-value (remainder-homomorphism m h)

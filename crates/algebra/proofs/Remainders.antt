@@ -10,7 +10,7 @@ use native.Mathlib.Decide.{decLt}
 use native.Mathlib.Omega.{arith}
 use lib.IntN.{ℤ, pos, negsuc, sucℤ, predℤ, negℤ, _+ℤ_, _-ℤ_, _*ℤ_, sucℤ-*ℤ, zero-*ℤ, +ℤ-idl, +ℤ-invl, sucℤ-+ℤ, predℤ-+ℤ, suc-pred}
 use Rattle.algebra.specs.Operations.{Operations}
-use Rattle.algebra.specs.Remainder.{rem}
+use Rattle.algebra.specs.Remainder.{rem, remainders}
 use Rattle.algebra.specs.Ring.{Ring}
 use Rattle.algebra.proofs.Integers.{induction}
 
@@ -153,17 +153,6 @@ module _ (m : ℕ) (h : 0 < m) where
   rem-sub a b = rem-add a (negℤ b) ∙ ap (λ r. (rem m a + r) % m) (rem-neg b) ∙ add-mod-mod (rem m a) (m - rem m b) m
 
 -- ---- the remainders with their operations
-
--- on plain numbers; a ring only on those below m
-abbrev pub remainders : ℕ → Operations ℕ
-remainders m = record {
-  zero = 0;
-  one = 1 % m;
-  add = λ a b. (a + b) % m;
-  sub = λ a b. (a + (m - b)) % m;
-  mul = λ a b. (a * b) % m;
-  neg = λ a. (m - a) % m;
-}
 
 -- a number below m
 abbrev pub Residue : ℕ → Type 0

@@ -1,6 +1,6 @@
--- Folding (document 01, "Folding"): a polynomial of one parity in x becomes one of half the degree in y = x² or y = T_2(x).
+-- Folding (document 01, "Folding"): a polynomial of one parity in x becomes one of half the degree in y = x² or y = T_2(x), of parity Full.
 use mathlib.Core.List.{List, [], _∷_}
-use Prim.Native.Nat.{ℕ, zero, suc}
+use Prim.Native.Nat.{ℕ, zero, suc, _+_, _/_}
 use lib.ListN.{drop}
 use Rattle.algebra.specs.Operations.{Operations, two, double}
 use Rattle.algebra.specs.declared.Basis.{Basis}
@@ -13,6 +13,12 @@ unfoldable pub everySecond : {A : Type 0} → List A → List A
 everySecond [] = []
 everySecond (a ∷ []) = a ∷ []
 everySecond (a ∷ b ∷ c) = a ∷ everySecond c
+
+-- how many coefficients n fold to: every second one, from the first for Even and from the second for Odd
+unfoldable pub foldedLength : Parity → (n : ℕ) → ℕ
+foldedLength Full n = n
+foldedLength Even n = (n + 1) / 2
+foldedLength Odd n = n / 2
 
 module _ {A : Type 0} (𝓞 : Operations A) where
   -- 2T_1·Σ r_i·T_i, coefficient by coefficient: T_i gives T_(i-1) and T_(i+1), and T_0 gives T_1 twice
@@ -41,22 +47,8 @@ module _ {A : Type 0} (𝓞 : Operations A) where
   sumRFrom i (o ∷ os) = addR i i (𝓞 .zero) (o ∷ os) ∷ sumRFrom (suc i) os
 
   -- the folded coefficients
-  unfoldable pub fold : Basis → Parity → List A → List A
-  fold basis Full c = c
-  fold basis Even c = everySecond c
-  fold Monomial Odd c = everySecond (drop 1 c)
-  fold Chebyshev Odd c = sumRFrom 0 (everySecond (drop 1 c))
-
-  -- the point y at which the folded polynomial is taken: x² or T_2(x) = 2x² - 1
-  unfoldable pub foldedPoint : Basis → Parity → A → A
-  foldedPoint basis Full x = x
-  foldedPoint Monomial Even x = 𝓞 .mul x x
-  foldedPoint Monomial Odd x = 𝓞 .mul x x
-  foldedPoint Chebyshev Even x = 𝓞 .sub (double 𝓞 (𝓞 .mul x x)) (𝓞 .one)
-  foldedPoint Chebyshev Odd x = 𝓞 .sub (double 𝓞 (𝓞 .mul x x)) (𝓞 .one)
-
-  -- the value from the folded one: times x where the parity is Odd
-  unfoldable pub unfolded : Parity → A → A → A
-  unfolded Full x v = v
-  unfolded Even x v = v
-  unfolded Odd x v = 𝓞 .mul x v
+  unfoldable pub fold : Parity → Basis → List A → List A
+  fold Full basis c = c
+  fold Even basis c = everySecond c
+  fold Odd Monomial c = everySecond (drop 1 c)
+  fold Odd Chebyshev c = sumRFrom 0 (everySecond (drop 1 c))

@@ -1,9 +1,16 @@
 pub mod Operations
 pub mod Ring
+pub mod EnumNumbers
 pub mod Power
 pub mod Value
 pub mod Allowed
+pub mod Distance
+pub mod ProductLaw
 pub mod Cut
+pub mod CutLaw
 pub mod Fold
+pub mod Transform
+pub mod FoldLaw
 pub mod Remainder
+pub mod RemainderLaw
 pub mod Magnitude

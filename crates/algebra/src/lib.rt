@@ -1,4 +1,4 @@
-// The two kinds by which the definitions and laws go, in the source's order.
+// The kinds by which the definitions and laws go, in the source's order.
 
 // X^n, or T_n.
 pub enum Basis {
@@ -11,4 +11,13 @@ pub enum Parity {
     Full,
     Even,
     Odd,
+}
+
+// What the input goes through before a folded polynomial is evaluated; TimesInput multiplies the result by the input.
+pub enum PolynomialInputTransform {
+    Identity,
+    Square,
+    SquareTimesInput,
+    ChebyshevT2,
+    ChebyshevT2TimesInput,
 }

@@ -8,7 +8,8 @@ use borrow.Author.Tests.{lt-ltb, le-ltb, leb-true}
 use Rattle.algebra.specs.declared.Basis.{Basis}
 use Rattle.algebra.specs.declared.Parity.{Parity}
 use Rattle.number.specs.Bits.{bitLen, isPowerOfTwo}
-use Rattle.needed.specs.Powers.{TwoTo, Between}
+use Rattle.number.specs.inside.Between.{Between}
+use Rattle.number.proofs.Bits.{PowerRange}
 use Rattle.needed.specs.NeededMarks.{neededCount}
 use Rattle.counts.specs.Pair.{Tallied, moves, pairBy, pairAt}
 use Rattle.counts.specs.MinDepth.{exceeds, minDepth}
@@ -16,7 +17,7 @@ use Rattle.counts.specs.Choice.{splitFor, countsOf}
 use Rattle.counts.specs.declared.slices.Tally.{Tally}
 use Rattle.counts.specs.declared.choice.SplitStrategy.{SplitStrategy}
 use Rattle.counts.specs.declared.choice.SplitStrategy.the-variants.{MinDepth, MinMult}
-use Rattle.needed.proofs.PowerLaws.{some-digit, few-digits}
+use Rattle.number.proofs.Bits.{some-digit, few-digits}
 use Rattle.needed.proofs.MarkLaws.{by-test}
 use Rattle.counts.proofs.MinMultLaws.{mult-range}
 
@@ -47,8 +48,8 @@ module _ {parity : Parity} (basis : Basis) {split degree needed : ℕ} {tally : 
 
 -- ---- MinDepth's choice
 
-module _ (length : ℕ) {low high low′ high′ : ℕ} (low-is : TwoTo (length / 2) low) (high-is : TwoTo (length - length / 2) high)
-    (low′-is : TwoTo (length / 2 + 1) low′) (high′-is : TwoTo (length - length / 2 - 1) high′) where
+module _ (length : ℕ) {low high low′ high′ : ℕ} (low-is : PowerRange (length / 2) low) (high-is : PowerRange (length - length / 2) high)
+    (low′-is : PowerRange (length / 2 + 1) low′) (high′-is : PowerRange (length - length / 2 - 1) high′) where
   pub min-depth-more : low′ + high′ + length - length / 2 - 4 < low + high + length - length / 2 - 3 → length / 2 + 1 ≡ minDepth length
   unfolding minDepth exceeds
   min-depth-more less = rw (lt-ltb _ _ (rw (low-is .is, high-is .is, low′-is .is, high′-is .is) at less))

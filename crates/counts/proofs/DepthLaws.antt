@@ -8,12 +8,14 @@ use lib.Dec.{leb}
 use lib.Pow.{pow-mono}
 use borrow.Author.Tests.{le-leb, lt-leb, eq-eqb, ne-eqb}
 use Rattle.number.specs.Bits.{bitLen, isPowerOfTwo}
-use Rattle.needed.specs.Powers.{topPower, TwoTo, Between}
+use Rattle.number.specs.Bits.{topPower}
+use Rattle.number.specs.inside.Between.{Between}
+use Rattle.number.proofs.Bits.{PowerRange}
 use Rattle.counts.specs.Depth.{threshold, depthOf, Deep}
 use Rattle.counts.specs.ConsumedBits.{pureChain, chainBefore, bitsOf, Chain}
 use Rattle.counts.specs.declared.choice.SplitStrategy.{SplitStrategy}
 use Rattle.counts.specs.declared.choice.SplitStrategy.the-variants.{MinDepth, MinMult}
-use Rattle.needed.proofs.PowerLaws.{digits-range}
+use Rattle.number.proofs.Bits.{digits-range}
 
 module _ (degree : ℕ) (range : Between 1 degree 4294967295) where
   least-is : (d : ℕ) → 0 < d → bitLen d ≡ depthOf MinDepth d
@@ -31,7 +33,7 @@ module _ (degree : ℕ) (range : Between 1 degree 4294967295) where
       let few = digits-range degree range in
       record { is = b-is ∙ least-is degree (range .from); range = record { from = omega arith; to = omega arith } }
 
-  module _ {b p q : ℕ} (b-is : b ≡ bitLen degree) (p-is : TwoTo b p) (q-is : TwoTo ((b - 1) / 2) q) where
+  module _ {b p q : ℕ} (b-is : b ≡ bitLen degree) (p-is : PowerRange b p) (q-is : PowerRange ((b - 1) / 2) q) where
     pub half-fits : q ≤ p
     half-fits = let grows : 2 ^ ((b - 1) / 2) ≤ 2 ^ b = pow-mono (omega arith) in omega (arith, p-is .is, q-is .is)
 

@@ -12,12 +12,12 @@ use borrow.Author.Tests.{ltb-true, ltb-false, eqb-true, eqb-false, le-leb, lt-le
 use Rattle.algebra.specs.declared.Basis.{Basis}
 use Rattle.algebra.specs.declared.Parity.{Parity}
 use Rattle.number.specs.Bits.{bitLen}
-use Rattle.needed.specs.Powers.{Between}
+use Rattle.number.specs.inside.Between.{Between}
 use Rattle.counts.specs.Pair.{pairAt}
 use Rattle.counts.specs.MinMult.{AtMost, Smallest, lessPair, better, bestOf, minMult}
 use Rattle.counts.specs.declared.pair.Pair.{Pair}
 use Rattle.counts.specs.declared.choice.Best.{Best}
-use Rattle.needed.proofs.PowerLaws.{few-digits}
+use Rattle.number.proofs.Bits.{few-digits}
 use Rattle.needed.proofs.MarkLaws.{by-test}
 
 -- ---- the order of pairs

@@ -8,9 +8,9 @@ use lib.Pow.{pow-pos}
 use lib.Dec.{ltb}
 use borrow.Author.Tests.{lt-ltb, le-ltb, ltb-false}
 use Rattle.number.specs.Bits.{bitLen}
-use Rattle.needed.specs.Powers.{topPower}
+use Rattle.number.specs.Bits.{topPower}
 use Rattle.counts.specs.Slices.{slicesIn, slicesOf}
-use Rattle.needed.proofs.PowerLaws.{some-digit, sides-fall}
+use Rattle.number.proofs.Bits.{some-digit, sides-fall}
 
 -- without digits the degree is 0
 no-digits : (degree : ℕ) {p : ℕ} → bitLen degree ≤ 0 → 0 < p → degree < p

@@ -5,7 +5,7 @@ use Rattle.algebra.specs.declared.Basis.{Basis}
 use Rattle.algebra.specs.declared.Basis.the-variants.{Monomial, Chebyshev}
 use Rattle.number.specs.Bits.{digits, bitLen, isPowerOfTwo, powerBelow}
 use Rattle.number.specs.Split.{partsOf, splitRefusal, splitOf}
-use Rattle.needed.specs.Powers.{topPower}
+use Rattle.number.specs.Bits.{topPower}
 use Rattle.counts.specs.Slices.{slicesIn, slicesOf, lastOf}
 use Rattle.counts.specs.PlainCount.{allowedTo, plainCount}
 use Rattle.needed.specs.NeededMarks.{isTarget, places, markAt, markApart, markParts, sweepAt, sweepFrom}

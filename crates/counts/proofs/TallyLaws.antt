@@ -11,12 +11,12 @@ use borrow.Author.Tests.{eqb-true, eqb-false}
 use Rattle.algebra.specs.Allowed.{allows}
 use Rattle.algebra.specs.declared.Parity.{Parity}
 use Rattle.algebra.specs.declared.Parity.the-variants.{Full, Even, Odd}
-use Rattle.needed.specs.Powers.{topPower}
+use Rattle.number.specs.Bits.{topPower}
 use Rattle.counts.specs.Slices.{slicesOf, lastOf}
 use Rattle.counts.specs.PlainCount.{allowedTo, plainCount}
 use Rattle.counts.specs.Pair.{tallyOf, Tallied}
 use Rattle.counts.specs.declared.slices.Tally.{Tally}
-use Rattle.needed.proofs.PowerLaws.{top-power}
+use Rattle.number.proofs.Bits.{top-power}
 use Rattle.counts.proofs.SliceLaws.{slices-one, slices-cut}
 
 -- ---- allowed powers

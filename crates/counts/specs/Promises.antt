@@ -3,7 +3,7 @@ use Prim.Native.Nat.{ℕ, _<_}
 use Rattle.algebra.specs.declared.Basis.{Basis}
 use Rattle.algebra.specs.declared.Parity.{Parity}
 use Rattle.number.specs.Bits.{bitLen}
-use Rattle.needed.specs.Powers.{Between}
+use Rattle.number.specs.inside.Between.{Between}
 use Rattle.counts.specs.Pair.{pairAt}
 use Rattle.counts.specs.MinMult.{Smallest, minMult}
 use Rattle.counts.specs.Choice.{splitFor}

@@ -4,7 +4,7 @@ use mathlib.Core.List.{List, [], _∷_, _++_}
 use Prim.Native.Nat.{ℕ, zero, suc, _-_, _^_}
 use lib.Dec.{ltb}
 use Rattle.number.specs.Bits.{bitLen}
-use Rattle.needed.specs.Powers.{topPower}
+use Rattle.number.specs.Bits.{topPower}
 
 -- degree below base is one slice; otherwise, with p the greatest power of two at most the degree, slice p − 1 and then degree − p.
 -- The first argument bounds the depth of the cuts.

@@ -1,7 +1,7 @@
 // The choice of the split by either strategy, and the pair at the chosen split.
 ghost use mathlib.Core.Path.{_≡_};
 ghost use Prim.Native.Nat.{_-_, _≤_};
-ghost use Rattle.needed.specs.Powers.{Between};
+ghost use Rattle.number.specs.inside.Between.{Between};
 ghost use Rattle.counts.specs.Pair.{pairAt};
 ghost use Rattle.counts.specs.MinDepth.{minDepth};
 ghost use Rattle.counts.specs.MinMult.{lessPair, better, bestOf, minMult};
@@ -11,8 +11,8 @@ use super::pair::Pair;
 use super::pair::estimate_op_counts;
 use algebra::Basis;
 use algebra::Parity;
-use needed::bit_length;
-use needed::power_of_two;
+use number::bit_len;
+use number::power_of_two;
 
 // Least depth, or fewest multiplications.
 pub enum SplitStrategy {
@@ -98,7 +98,7 @@ fn min_mult(degree: usize, parity: Parity, basis: Basis) -> usize
     requires { ⌜ degree ≤ 4095 ⌝ }
     ensures { λ r. ⌜ r ≡ minMult parity basis degree ⌝ }
 {
-    let length = bit_length(degree);
+    let length = bit_len(degree);
     if length <= 1 {
         return 1;
     }
@@ -117,7 +117,7 @@ pub fn split_for_strategy(
     ensures { λ r. ⌜ r ≡ splitFor strategy parity basis degree ⌝ }
 {
     match strategy {
-        SplitStrategy::MinDepth => min_depth(bit_length(degree)),
+        SplitStrategy::MinDepth => min_depth(bit_len(degree)),
         SplitStrategy::MinMult => min_mult(degree, parity, basis),
     }
 }
@@ -138,7 +138,7 @@ pub fn min_depth_split(degree: usize) -> SplitChoice
             split: 0,
         };
     }
-    let split = min_depth(bit_length(degree));
+    let split = min_depth(bit_len(degree));
     SplitChoice { refusal: 0, split }
 }
 

@@ -1,13 +1,13 @@
 // The bits that an evaluation consumes: its heaviest chain, by the closed form.
 ghost use mathlib.Core.Path.{_≡_};
 ghost use Prim.Native.Nat.{_≤_, max};
-ghost use Rattle.needed.specs.Powers.{Between};
+ghost use Rattle.number.specs.inside.Between.{Between};
 ghost use Rattle.counts.specs.ConsumedBits.{Chain, pureChain, chainBefore, bitsOf};
 ghost use Rattle.counts.specs.Calls.{bitsCall};
 use super::choice::SplitStrategy;
 use super::depth::depth_from_one;
-use needed::bit_length;
-use needed::top_power;
+use number::bit_len;
+use number::top_power;
 
 // The bits, or a refusal with zero.
 pub struct ConsumedBits {
@@ -20,7 +20,7 @@ fn pure_chain(degree: usize) -> usize
     requires { ⌜ Between 1 degree 4294967295 ⌝ }
     ensures { λ r. ⌜ Chain (pureChain degree) r ⌝ }
 {
-    let b = bit_length(degree);
+    let b = bit_len(degree);
     if degree == top_power(degree) {
         b - 1
     } else {

@@ -1,11 +1,11 @@
 // The depth of an evaluation.
 ghost use mathlib.Core.Path.{_≡_};
-ghost use Rattle.needed.specs.Powers.{Between};
+ghost use Rattle.number.specs.inside.Between.{Between};
 ghost use Rattle.counts.specs.Depth.{Deep};
 ghost use Rattle.counts.specs.Calls.{depthCall};
 use super::choice::SplitStrategy;
-use needed::bit_length;
-use needed::power_of_two;
+use number::bit_len;
+use number::power_of_two;
 
 // The depth, or a refusal with zero.
 pub struct EvalDepth {
@@ -18,7 +18,7 @@ pub fn depth_from_one(degree: usize, strategy: SplitStrategy) -> usize
     requires { ⌜ Between 1 degree 4294967295 ⌝ }
     ensures { λ r. ⌜ Deep strategy degree r ⌝ }
 {
-    let b = bit_length(degree);
+    let b = bit_len(degree);
     match strategy {
         SplitStrategy::MinDepth => b,
         SplitStrategy::MinMult => {

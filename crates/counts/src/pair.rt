@@ -1,12 +1,13 @@
 // The pair (ct-ct, pt-ct) of a degree at a split.
 ghost use mathlib.Core.Path.{_≡_};
-ghost use Rattle.needed.specs.Powers.{Between, Planned};
+ghost use Rattle.number.specs.inside.Between.{Between};
+ghost use Rattle.needed.specs.inside.Planned.{Planned};
 ghost use Rattle.counts.specs.Pair.{moves, pairAt};
 use super::slices::count_slices;
 use algebra::Basis;
 use algebra::Parity;
 use needed::count_needed;
-use needed::top_power;
+use number::top_power;
 
 // The numbers of ct-ct and of pt-ct multiplications.
 pub struct Pair {

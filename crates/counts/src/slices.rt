@@ -1,12 +1,12 @@
 // The slices of a degree, counted together with the plain multiplications that they take.
 ghost use Prim.Native.Nat.{_≤_};
 ghost use mathlib.Core.Path.{_≡_};
-ghost use Rattle.needed.specs.Powers.{Between};
+ghost use Rattle.number.specs.inside.Between.{Between};
 ghost use Rattle.counts.specs.PlainCount.{allowedTo};
 ghost use Rattle.counts.specs.Pair.{Tallied};
 use algebra::Parity;
-use needed::power_of_two;
-use needed::top_power;
+use number::power_of_two;
+use number::top_power;
 
 // How many slices, the pt-ct multiplications of all, and the degree of the last.
 pub struct Tally {

@@ -11,8 +11,8 @@ use Rattle.algebra.specs.Operations.{Operations}
 use Rattle.algebra.specs.Cut.{cutAt}
 use Rattle.algebra.specs.declared.Basis.{Basis}
 use Rattle.algebra.proofs.CutPlaces.{cut-length}
-use Rattle.needed.specs.Powers.{topPower}
-use Rattle.needed.proofs.PowerLaws.{top-power}
+use Rattle.number.specs.Bits.{topPower}
+use Rattle.number.proofs.Bits.{top-power}
 use Rattle.lists.specs.Tree.{Tree, leaf, cut, treeOf}
 use Rattle.lists.specs.Arrange.{arranged, leavesOf, endsOf}
 use Rattle.lists.specs.Listing.{Left}

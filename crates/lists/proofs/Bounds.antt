@@ -77,7 +77,7 @@ rows-roomy os fits few =
     le-trans (mul-le-mul {m₂ = 2048} (le-trans rows all) (rw size few)) (omega arith)
 
 -- a fold of coefficients within the limits has room to double
-pub fold-roomy : (basis : Basis) (parity : Parity) (c : List ℤ) → sumAbs c ≤ 2 ^ 30 → length c ≤ 4096 → Roomy (fold wholeOps basis parity c)
+pub fold-roomy : (basis : Basis) (parity : Parity) (c : List ℤ) → sumAbs c ≤ 2 ^ 30 → length c ≤ 4096 → Roomy (fold wholeOps parity basis c)
 unfolding fold
 fold-roomy basis Full c fits few = sum-roomy c fits few
 fold-roomy basis Even c fits few =
@@ -109,5 +109,5 @@ fold-few Odd n = omega arith
 
 pub folded-lists-to-53 : FoldedListsTo53
 folded-lists-to-53 basis parity whole s lead c fits some few from =
-    roomy-to-53 basis whole s lead (fold wholeOps basis parity c) (fold-roomy basis parity c (leb-true (sumAbs c) (2 ^ 30) fits) few) some
-    (omega (arith, fold-length wholeOps basis parity c, fold-few parity (length c))) from
+    roomy-to-53 basis whole s lead (fold wholeOps parity basis c) (fold-roomy basis parity c (leb-true (sumAbs c) (2 ^ 30) fits) few) some
+    (omega (arith, fold-length wholeOps parity basis c, fold-few parity (length c))) from

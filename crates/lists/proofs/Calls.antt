@@ -15,7 +15,7 @@ use Rattle.algebra.specs.declared.Basis.{Basis}
 use Rattle.algebra.specs.declared.Parity.{Parity}
 use Rattle.number.specs.Refusal.{unlessRefused}
 use Rattle.number.specs.Room.{Roomy}
-use Rattle.needed.specs.Powers.{Between}
+use Rattle.number.specs.inside.Between.{Between}
 use Rattle.counts.specs.Choice.{splitFor}
 use Rattle.counts.specs.declared.choice.SplitStrategy.{SplitStrategy}
 use Rattle.counts.proofs.ChoiceLaws.{split-range}

@@ -8,7 +8,7 @@ use Rattle.algebra.specs.Cut.{differences, doubled, lowered, cutAt}
 use Rattle.algebra.specs.declared.Basis.the-variants.{Chebyshev}
 use Rattle.algebra.specs.declared.Parity.the-variants.{Full}
 use Rattle.number.specs.Bits.{digits, bitLen}
-use Rattle.needed.specs.Powers.{topPower}
+use Rattle.number.specs.Bits.{topPower}
 use Rattle.counts.specs.MinDepth.{exceeds, minDepth}
 use Rattle.counts.specs.Calls.{minMultCall}
 use Rattle.counts.specs.Choice.{splitFor}

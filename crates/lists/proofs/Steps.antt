@@ -12,9 +12,9 @@ use Rattle.algebra.specs.Cut.{cutAt}
 use Rattle.algebra.specs.declared.Basis.{Basis}
 use Rattle.algebra.proofs.CutPlaces as places
 use Rattle.number.specs.Bits.{bitLen}
-use Rattle.needed.specs.Powers.{topPower}
+use Rattle.number.specs.Bits.{topPower}
 use Rattle.counts.specs.MinDepth.{minDepth}
-use Rattle.needed.proofs.PowerLaws.{top-power}
+use Rattle.number.proofs.Bits.{top-power}
 use Rattle.lists.specs.Tree.{cut, listedAgain, treeOf}
 use Rattle.lists.specs.Arrange.{leavesOf}
 use Rattle.lists.specs.Listing.{Ready, Left}

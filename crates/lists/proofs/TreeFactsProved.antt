@@ -7,11 +7,11 @@ use native.Mathlib.Nat.{lt-of-not-le}
 use native.Mathlib.Omega.{arith}
 use lib.Pow.{pow-mono, pow-pos}
 use Rattle.number.specs.Bits.{bitLen}
-use Rattle.number.proofs.BitLaws.{len-above}
-use Rattle.needed.specs.Powers.{topPower}
+use Rattle.number.proofs.Bits.{len-above}
+use Rattle.number.specs.Bits.{topPower}
 use Rattle.counts.specs.Slices.{slicesOf}
 use Rattle.counts.specs.MinDepth.{minDepth}
-use Rattle.needed.proofs.PowerLaws.{some-digit, few-digits, top-power, sides-fall}
+use Rattle.number.proofs.Bits.{some-digit, few-digits, top-power, sides-fall}
 use Rattle.counts.proofs.SliceLaws.{slices-one, slices-cut}
 use Rattle.counts.proofs.ChoiceLaws.{depth-range}
 use Rattle.lists.specs.Tree.{Tree, leaf, cut}

@@ -9,9 +9,9 @@ use borrow.Author.Tests.{lt-ltb, le-ltb, ltb-true, ltb-false}
 use lib.Dec.{ltb}
 use lib.Pow.{pow-pos}
 use Rattle.number.specs.Bits.{bitLen}
-use Rattle.needed.specs.Powers.{topPower}
+use Rattle.number.specs.Bits.{topPower}
 use Rattle.counts.specs.MinDepth.{minDepth}
-use Rattle.needed.proofs.PowerLaws.{sides-fall}
+use Rattle.number.proofs.Bits.{sides-fall}
 use Rattle.lists.specs.Tree.{Tree, leaf, cut, listedAgain, treeIn, treeOf}
 
 -- what a slice listed again fulfils

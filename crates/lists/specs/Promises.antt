@@ -31,7 +31,7 @@ ListsTo53 = (basis : Basis) (whole s : ℕ) (lead : Bool) (c : List ℤ) → sum
 -- and from the same coefficients folded, whose magnitudes may sum above 2^30
 abbrev pub FoldedListsTo53 : Type 0
 FoldedListsTo53 = (basis : Basis) (parity : Parity) (whole s : ℕ) (lead : Bool) (c : List ℤ) → sumFits c ≡ true
-    → 0 < length (fold wholeOps basis parity c) → length c ≤ 4096 → 1 ≤ s → AllTo53 (listedAs basis whole s lead (fold wholeOps basis parity c))
+    → 0 < length (fold wholeOps parity basis c) → length c ≤ 4096 → 1 ≤ s → AllTo53 (listedAs basis whole s lead (fold wholeOps parity basis c))
 
 -- the f64 call on the same coefficients, and buffers with the same numbers: an equal answer, equal numbers, equal boundaries
 pub record CallsSame (basis : Basis) (parity : Parity) (strategy : SplitStrategy) (c out : List ℤ) (bounds : List ℕ) : Type 0 where

@@ -5,7 +5,7 @@ use lib.Dec.{ltb}
 use Rattle.algebra.specs.declared.Basis.{Basis}
 use Rattle.algebra.specs.declared.Parity.{Parity}
 use Rattle.number.specs.Bits.{bitLen}
-use Rattle.needed.specs.Powers.{topPower}
+use Rattle.number.specs.Bits.{topPower}
 use Rattle.counts.specs.MinDepth.{minDepth}
 use Rattle.counts.specs.Choice.{splitFor}
 use Rattle.counts.specs.declared.choice.SplitStrategy.{SplitStrategy}

@@ -2,9 +2,9 @@
 use super::count::count_lists;
 use counts::SplitStrategy;
 use counts::split_for_strategy;
-use needed::power_of_two;
 use number::Basis;
 use number::Parity;
+use number::power_of_two;
 ghost use mathlib.Core.Path.{_≡_};
 ghost use Prim.Native.Nat.{_<_};
 ghost use Rattle.lists.specs.Tree.{leads};

@@ -1,8 +1,8 @@
 // How many lists a degree gives: the plan tree without any coefficient.
 use counts::min_depth_split;
-use needed::bit_length;
-use needed::power_of_two;
-use needed::top_power;
+use number::bit_len;
+use number::power_of_two;
+use number::top_power;
 ghost use mathlib.Core.Path.{_≡_};
 ghost use mathlib.Core.Bool.{_&&_};
 ghost use Prim.Native.Nat.{_<_, _^_};
@@ -32,7 +32,7 @@ pub fn listed_again(whole: usize, split: usize, lead: bool, degree: usize) -> bo
     if split <= smaller_split(degree) {
         return false;
     }
-    power_of_two(bit_length(whole)) < whole + power_of_two(split - 1)
+    power_of_two(bit_len(whole)) < whole + power_of_two(split - 1)
 }
 
 // The number of lists of a part of a degree, at a split.

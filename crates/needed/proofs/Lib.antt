@@ -1,4 +1,3 @@
-pub mod PowerLaws
 pub mod MarkLaws
 pub mod SweepLaws
 pub mod PlaceLaws

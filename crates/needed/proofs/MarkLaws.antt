@@ -13,7 +13,7 @@ use borrow.Author.Tests.{lt-ltb, ltb-true}
 use Rattle.algebra.specs.declared.Basis.{Basis}
 use Rattle.algebra.specs.declared.Basis.the-variants.{Monomial, Chebyshev}
 use Rattle.number.specs.Split.{partsOf}
-use Rattle.number.proofs.SplitLaws.{parted}
+use Rattle.number.proofs.SplitParts.{parted}
 use Rattle.needed.specs.Needed.{partsDistance, Part, first, second, apart}
 use Rattle.needed.specs.NeededMarks.{Marked, markAt, markApart, markParts, sweepAt}
 

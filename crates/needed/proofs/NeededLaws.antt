@@ -15,11 +15,12 @@ use Rattle.algebra.specs.declared.Basis.{Basis}
 use Rattle.algebra.specs.declared.Parity.{Parity}
 use Rattle.number.specs.Bits.{digits, bitLen}
 use Rattle.number.specs.Split.{partsOf}
-use Rattle.number.proofs.BitLaws.{len-above, is-power}
-use Rattle.needed.specs.Powers.{topPower, Between}
+use Rattle.number.proofs.Bits.{len-above, is-power}
+use Rattle.number.specs.Bits.{topPower}
+use Rattle.number.specs.inside.Between.{Between}
 use Rattle.needed.specs.Needed.{first, second, apart, Needed, target, part, babyLimit, Target, top, small, NeededPower, Closed, Least}
 use Rattle.needed.specs.NeededMarks.{Marked, isTarget, greatestTarget, places, targetMarks, neededMarks, neededCount}
-use Rattle.needed.proofs.PowerLaws.{top-power}
+use Rattle.number.proofs.Bits.{top-power}
 use Rattle.needed.proofs.MarkLaws.{marked-below, part-less}
 use Rattle.needed.proofs.SweepLaws.{sweep-least, sweep-length}
 use Rattle.needed.proofs.PlaceLaws.{places-length, place-at, count-most}

@@ -12,7 +12,7 @@ use lib.Seq.{set-append-left, set-at, take-at, take-suc}
 use Rattle.algebra.specs.declared.Basis.{Basis}
 use Rattle.algebra.specs.declared.Basis.the-variants.{Monomial, Chebyshev}
 use Rattle.number.specs.Split.{partsOf}
-use Rattle.number.proofs.SplitLaws.{parted}
+use Rattle.number.proofs.SplitParts.{parted}
 use Rattle.needed.specs.Needed.{partsDistance}
 use Rattle.needed.specs.NeededMarks.{places, padded, markAt, markApart, markParts, sweepAt, sweepFrom, countMarks}
 use Rattle.needed.proofs.MarkLaws.{by-test, mark-length, apart-length, place-marked, place-unmarked}

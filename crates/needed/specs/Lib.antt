@@ -1,4 +1,4 @@
-pub mod Powers
 pub mod Needed
 pub mod NeededMarks
 pub mod Promises
+pub mod inside

@@ -3,13 +3,13 @@ ghost use mathlib.Core.Path.{_≡_};
 ghost use Prim.Native.Nat.{_<_, _≤_, _+_};
 ghost use lib.ListN.{take};
 ghost use Rattle.algebra.specs.Allowed.{allows};
-ghost use Rattle.needed.specs.Powers.{Planned};
+ghost use Rattle.needed.specs.inside.Planned.{Planned};
 ghost use Rattle.needed.specs.Needed.{distanceOf, babyLimit};
 ghost use Rattle.needed.specs.NeededMarks.{padded, isTarget, places, markAt, markParts, sweepFrom, countMarks, greatestTarget, neededMarks, neededCount};
-use super::powers::power_of_two;
-use super::powers::top_power;
 use algebra::Basis;
 use algebra::Parity;
+use number::power_of_two;
+use number::top_power;
 
 // The distance of two numbers.
 pub fn distance(a: usize, b: usize) -> usize

@@ -8,7 +8,7 @@ use lib.Seq.{sets}
 use lib.IntN.{ℤ, pos, natAbs, _-ℤ_, _*ℤ_}
 use lib.Ieee.{Float, nan, neg}
 use Rattle.algebra.specs.Operations.{Operations, wholeOps}
-use Rattle.algebra.specs.Fold.{everySecond, coeffR, addR, fold}
+use Rattle.algebra.specs.Fold.{everySecond, foldedLength, coeffR, addR, fold}
 use Rattle.algebra.specs.Magnitude.{sumAbs}
 use Rattle.algebra.specs.declared.Basis.the-variants.{Chebyshev}
 use Rattle.algebra.specs.declared.Parity.the-variants.{Odd}
@@ -63,10 +63,11 @@ module _ {A : Type 0} {c : List A} {from : ℕ} {start out : List A} {i j : ℕ}
 -- ---- the odd Chebyshev fold, over any numbers
 
 module _ {A : Type 0} (𝓞 : Operations A) (c : List A) where
-  length-odd : length (fold 𝓞 Chebyshev Odd c) ≡ length c / 2
-  length-odd = fold-length 𝓞 Chebyshev Odd c
+  length-odd : length (fold 𝓞 Odd Chebyshev c) ≡ length c / 2
+  unfolding foldedLength
+  length-odd = fold-length 𝓞 Odd Chebyshev c
 
-  odd-place : (i : ℕ) (d : A) → i < length c / 2 → getD (fold 𝓞 Chebyshev Odd c) i d ≡ addR 𝓞 i i (𝓞 .zero) (everySecond (drop (2 * i + 1) c))
+  odd-place : (i : ℕ) (d : A) → i < length c / 2 → getD (fold 𝓞 Odd Chebyshev c) i d ≡ addR 𝓞 i i (𝓞 .zero) (everySecond (drop (2 * i + 1) c))
   unfolding fold
   odd-place i d h =
       let place : 0 + i ≡ i = omega arith in
@@ -78,13 +79,13 @@ module _ {A : Type 0} (𝓞 : Operations A) (c : List A) where
 pub record Summing (c start out : List ℤ) (s : ℤ) (left : ℕ) : Type 0 where
   pub within : left ≤ length c / 2
   pub sum : s ≡ alternating (everySecond (drop (2 * left + 1) c))
-  pub so-far : out ≡ filledFrom (fold wholeOps Chebyshev Odd c) start left
+  pub so-far : out ≡ filledFrom (fold wholeOps Odd Chebyshev c) start left
 
 abs-alternating : (c : List ℤ) (i : ℕ) → natAbs (alternating (everySecond (drop i c))) ≤ sumAbs c
 abs-alternating c i = omega (arith, alternating-small (everySecond (drop i c)), sumAbs-everySecond (drop i c), sumAbs-drop i c)
 
 module _ (c start : List ℤ) (room : length c / 2 ≤ length start) where
-  room-odd : length (fold wholeOps Chebyshev Odd c) ≤ length start
+  room-odd : length (fold wholeOps Odd Chebyshev c) ≤ length start
   room-odd = omega (arith, length-odd wholeOps c)
 
   pub sum-start : Summing c start start (pos 0) (length c / 2)
@@ -93,12 +94,12 @@ module _ (c start : List ℤ) (room : length c / 2 ≤ length start) where
       record {
         within = omega arith;
         sum = sym (ap alternating (everySecond-end c (2 * (length c / 2) + 1) past) ∙ alternating-end);
-        so-far = sym (filled-none (fold wholeOps Chebyshev Odd c) start room-odd (length c / 2) (sym (length-odd wholeOps c)));
+        so-far = sym (filled-none (fold wholeOps Odd Chebyshev c) start room-odd (length c / 2) (sym (length-odd wholeOps c)));
       }
 
   module _ {out : List ℤ} {s : ℤ} {left : ℕ} (t : Summing c start out s left) where
     pub sum-length : length out ≡ length start
-    sum-length = ap length (t .so-far) ∙ filled-length (fold wholeOps Chebyshev Odd c) start room-odd left (omega (arith, t .within))
+    sum-length = ap length (t .so-far) ∙ filled-length (fold wholeOps Odd Chebyshev c) start room-odd left (omega (arith, t .within))
 
     pub sum-abs : natAbs s ≤ sumAbs c
     sum-abs = omega (arith, ap natAbs (t .sum), abs-alternating c (2 * left + 1))
@@ -118,7 +119,7 @@ module _ (c start : List ℤ) (room : length c / 2 ≤ length start) where
 
       pub sum-step : {s′ v : ℤ} → s′ ≡ getD c (2 * i + 1) (pos 0) -ℤ s → v ≡ s′ *ℤ coeffR wholeOps i i → Summing c start (set out i v) s′ i
       sum-step {s′} {v} e ev =
-          let F = fold wholeOps Chebyshev Odd c in
+          let F = fold wholeOps Odd Chebyshev c in
           let inside : i < length c / 2 = omega (arith, t .within) in
           let place : i < length F = omega (arith, length-odd wholeOps c) in
           let v-is : v ≡ getD F i (pos 0) =
@@ -131,8 +132,8 @@ module _ (c start : List ℤ) (room : length c / 2 ≤ length start) where
             so-far = ap (λ (l : List ℤ). set l i v) (t .so-far) ∙ filled-step F start room-odd left i (pos 0) v next place v-is;
           }
 
-    pub sum-end : left ≡ 0 → out ≡ sets start 0 (fold wholeOps Chebyshev Odd c)
-    sum-end e = t .so-far ∙ ap (filledFrom (fold wholeOps Chebyshev Odd c) start) e
+    pub sum-end : left ≡ 0 → out ≡ sets start 0 (fold wholeOps Odd Chebyshev c)
+    sum-end e = t .so-far ∙ ap (filledFrom (fold wholeOps Odd Chebyshev c) start) e
 
 -- ---- f64, place by place: the sum of a place from +0, in the source's order
 
@@ -174,27 +175,27 @@ module _ {c : List Float} {i : ℕ} {sum w : Float} {j : ℕ} (t : Adding c i su
 
 pub record Placing {A : Type 0} (𝓞 : Operations A) (c start out : List A) (i : ℕ) : Type 0 where
   pub within : i ≤ length c / 2
-  pub so-far : out ≡ filling.copied (fold 𝓞 Chebyshev Odd c) start i
+  pub so-far : out ≡ filling.copied (fold 𝓞 Odd Chebyshev c) start i
 
 pub placing-start : {A : Type 0} (𝓞 : Operations A) (c start : List A) → Placing 𝓞 c start start 0
 placing-start 𝓞 c start = record { within = omega arith; so-far = refl }
 
 module _ {A : Type 0} {𝓞 : Operations A} {c start out : List A} {i : ℕ} (room : length c / 2 ≤ length start) (t : Placing 𝓞 c start out i) where
-  long : length (fold 𝓞 Chebyshev Odd c) ≤ length start
+  long : length (fold 𝓞 Odd Chebyshev c) ≤ length start
   long = omega (arith, length-odd 𝓞 c)
 
   pub placing-length : length out ≡ length start
-  placing-length = ap length (t .so-far) ∙ filling.copy-length (fold 𝓞 Chebyshev Odd c) start i (omega (arith, length-odd 𝓞 c, t .within)) long
+  placing-length = ap length (t .so-far) ∙ filling.copy-length (fold 𝓞 Odd Chebyshev c) start i (omega (arith, length-odd 𝓞 c, t .within)) long
 
   pub placing-step : {v : A} (d : A) → i < length c / 2 → v ≡ addR 𝓞 i i (𝓞 .zero) (everySecond (drop (2 * i + 1) c))
       → Placing 𝓞 c start (set out i v) (i + 1)
   placing-step {v} d h e =
-      let F = fold 𝓞 Chebyshev Odd c in
+      let F = fold 𝓞 Odd Chebyshev c in
       let place : i < length F = omega (arith, length-odd 𝓞 c) in
       record {
         within = omega arith;
         so-far = ap (λ (l : List A). set l i v) (t .so-far) ∙ filling.copy-step F start i d v place long (e ∙ sym (odd-place 𝓞 c i d h));
       }
 
-  pub placing-end : length c / 2 ≤ i → out ≡ sets start 0 (fold 𝓞 Chebyshev Odd c)
-  placing-end h = t .so-far ∙ filling.copy-end (fold 𝓞 Chebyshev Odd c) start i (omega (arith, length-odd 𝓞 c, t .within)) long
+  pub placing-end : length c / 2 ≤ i → out ≡ sets start 0 (fold 𝓞 Odd Chebyshev c)
+  placing-end h = t .so-far ∙ filling.copy-end (fold 𝓞 Odd Chebyshev c) start i (omega (arith, length-odd 𝓞 c, t .within)) long

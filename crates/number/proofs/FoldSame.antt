@@ -8,11 +8,13 @@ use native.Mathlib.Nat.{zero-mul, mul-pos}
 use native.Mathlib.Omega.{arith}
 use borrow.Author.Tests.{leb-true, ne-eqb}
 use lib.Dec.{eqb}
-use lib.ListN.{drop, length-map}
+use lib.ListN.{length, drop, length-map}
+use lib.Seq.{sets}
 use lib.IntN.{ℤ, pos, natAbs}
 use lib.Ieee.{Float, nan, inf, fin, binary64, up, down, eq}
 use lib.Ieee.Exact.{HasValue}
 use lib.Ieee.Fits.{down-pos}
+use Rattle.algebra.specs.Allowed.{allows}
 use Rattle.algebra.specs.Operations.{wholeOps}
 use Rattle.algebra.specs.Fold.{everySecond, sumRFrom, fold}
 use Rattle.algebra.specs.Magnitude.{sumAbs}
@@ -23,13 +25,14 @@ use Rattle.algebra.specs.declared.Parity.the-variants.{Full, Even, Odd}
 use Rattle.algebra.proofs.Magnitudes.{sumAbs-drop}
 use Rattle.algebra.proofs.FoldMagnitudes.{sumAbs-everySecond, fold-magnitude}
 use Rattle.number.specs.Numbers.{wholeNumbers, floatOps, floatNumbers}
-use Rattle.number.specs.Parity.{allZero}
-use Rattle.number.specs.SumLimit.{sumFits}
+use Rattle.number.specs.Limits.{sumLimit}
+use Rattle.number.specs.Parity.{hasParityFrom}
 use Rattle.number.specs.Exact.{num, To53}
-use Rattle.number.specs.FoldCall.{wrongPlaces, foldRefusal, wholeTests, noTests}
+use Rattle.number.specs.Refusal.{unlessRefused}
+use Rattle.number.specs.FoldCall.{foldRefusal, foldAnswer, foldBuffer}
 use Rattle.number.specs.FoldSame.{FoldsSame}
 use Rattle.number.proofs.Within.{within-each}
-use Rattle.number.proofs.Maps.{map-drop}
+use Rattle.number.proofs.Maps.{map-drop, map-sets}
 use Rattle.number.proofs.EverySecond.{map-everySecond}
 use Rattle.number.proofs.WholeFloats.{of-int, abs-signed}
 use Rattle.number.proofs.Rows.{rows-num}
@@ -43,12 +46,12 @@ odds-small c h = omega (arith, sumAbs-everySecond (drop 1 c), sumAbs-drop 1 c)
 odds-num : (c : List ℤ) → everySecond (drop 1 (map num c)) ≡ map num (everySecond (drop 1 c))
 odds-num c = ap everySecond (map-drop num 1 c) ∙ map-everySecond num (drop 1 c)
 
-fold-num : (basis : Basis) (parity : Parity) (c : List ℤ) → sumAbs c ≤ 2 ^ 30 → fold floatOps basis parity (map num c) ≡ map num (fold wholeOps basis parity c)
+fold-num : (parity : Parity) (basis : Basis) (c : List ℤ) → sumAbs c ≤ 2 ^ 30 → fold floatOps parity basis (map num c) ≡ map num (fold wholeOps parity basis c)
 unfolding fold
-fold-num basis Full c h = refl
-fold-num basis Even c h = map-everySecond num c
-fold-num Monomial Odd c h = odds-num c
-fold-num Chebyshev Odd c h =
+fold-num Full basis c h = refl
+fold-num Even basis c h = map-everySecond num c
+fold-num Odd Monomial c h = odds-num c
+fold-num Odd Chebyshev c h =
     ap (sumRFrom floatOps 0) (odds-num c) ∙ rows-num 0 (everySecond (drop 1 c)) (omega (arith, odds-small c h))
 
 -- ---- the same refusals
@@ -85,27 +88,46 @@ zero-num z h =
     let w = of-int binary64 z h in
     eq-zero (num z) (w .s) (w .n) (w .value) ∙ ap (λ (k : ℕ). eqb k 0) (sym (abs-signed (w .s) (w .n)) ∙ ap natAbs (w .is))
 
-zeros-num : (l : List ℤ) → sumAbs l ≤ 2 ^ 30 → allZero floatNumbers (map num l) ≡ allZero wholeNumbers l
-unfolding allZero sumAbs
-zeros-num [] h = refl
-zeros-num (z ∷ l) h = ap₂ _&&_ (zero-num z (omega arith)) (zeros-num l (omega arith))
+-- the test of a parity from place j on
+test-num : (parity : Parity) (j : ℕ) (c : List ℤ) → sumAbs c ≤ sumLimit
+    → hasParityFrom floatNumbers parity j (map num c) ≡ hasParityFrom wholeNumbers parity j c
+unfolding hasParityFrom sumAbs
+test-num parity j [] h = refl
+test-num parity j (z ∷ c) h =
+    ap₂ _&&_ (ap (allows parity j ||_) (zero-num z (omega arith))) (test-num parity (suc j) c (omega arith))
 
-wrong-num : (parity : Parity) (c : List ℤ) → sumAbs c ≤ 2 ^ 30 → allZero floatNumbers (wrongPlaces parity (map num c)) ≡ allZero wholeNumbers (wrongPlaces parity c)
-unfolding allZero
-wrong-num Full c h = refl
-wrong-num Even c h = ap (allZero floatNumbers) (odds-num c) ∙ zeros-num (everySecond (drop 1 c)) (odds-small c h)
-wrong-num Odd c h = ap (allZero floatNumbers) (map-everySecond num c) ∙ zeros-num (everySecond c) (omega (arith, sumAbs-everySecond c))
+module _ (parity : Parity) (basis : Basis) (c : List ℤ) (small : wholeNumbers .small c ≡ true) where
+  sum-small : sumAbs c ≤ sumLimit
+  sum-small = leb-true (sumAbs c) sumLimit small
 
-refusal-num : (parity : Parity) (c : List ℤ) (short : Bool) → sumFits c ≡ true
-    → foldRefusal floatNumbers noTests parity (map num c) short ≡ foldRefusal wholeNumbers wholeTests parity c short
-unfolding foldRefusal
-refusal-num parity c short h = rw (length-map c num, wrong-num parity c (leb-true (sumAbs c) (2 ^ 30) h), h)
+  folded-num : fold floatOps parity basis (map num c) ≡ map num (fold wholeOps parity basis c)
+  folded-num = fold-num parity basis c sum-small
+
+  length-num : length (fold floatOps parity basis (map num c)) ≡ length (fold wholeOps parity basis c)
+  length-num = ap length folded-num ∙ length-map (fold wholeOps parity basis c) num
+
+  refusal-num : (out : List ℤ) → foldRefusal floatNumbers parity basis (map num c) (map num out) ≡ foldRefusal wholeNumbers parity basis c out
+  unfolding foldRefusal
+  refusal-num out = rw (length-num, length-map c num, length-map out num, test-num parity 0 c sum-small, small)
+
+  answer-num : (out : List ℤ) → foldAnswer floatNumbers parity basis (map num c) (map num out) ≡ foldAnswer wholeNumbers parity basis c out
+  unfolding foldAnswer
+  answer-num out = rw (refusal-num out, length-num)
+
+  buffer-num : (out : List ℤ) → foldBuffer floatNumbers parity basis (map num c) (map num out) ≡ map num (foldBuffer wholeNumbers parity basis c out)
+  unfolding foldBuffer unlessRefused
+  buffer-num out = rw (refusal-num out) (by-refusal (foldRefusal wholeNumbers parity basis c out))
+    where
+      by-refusal : (k : ℕ) → unlessRefused k (sets (map num out) 0 (fold floatOps parity basis (map num c))) (map num out)
+          ≡ map num (unlessRefused k (sets out 0 (fold wholeOps parity basis c)) out)
+      by-refusal zero = rw folded-num (map-sets num (fold wholeOps parity basis c) out 0)
+      by-refusal (suc k) = refl
 
 pub folds-same : FoldsSame
-folds-same basis parity c h =
-    let small = leb-true (sumAbs c) (2 ^ 30) h in
-    record {
-      within = within-each (2 ^ 53) (fold wholeOps basis parity c) (λ i. omega (arith, fold-magnitude basis parity c i));
-      written = fold-num basis parity c small;
-      refused = λ short. refusal-num parity c short h;
-    }
+folds-same parity basis c small = record {
+  within =
+      within-each (2 ^ 53) (fold wholeOps parity basis c) (λ i. omega (arith, fold-magnitude parity basis c i, sum-small parity basis c small));
+  written = folded-num parity basis c small;
+  answer = answer-num parity basis c small;
+  buffer = buffer-num parity basis c small;
+}

@@ -1,21 +1,21 @@
 pub mod Literals
 pub mod Signed
-pub mod Refusals
+pub mod Refusal
 pub mod Maps
 pub mod Within
 mod WholeFloats
 pub mod Exact
-pub mod BitLaws
-pub mod SplitLaws
+pub mod Bits
+pub mod SplitParts
 mod Cutting
 pub mod CutSame
 mod EverySecond
-mod ParitySteps
+mod ParityLoops
 mod FillFromEnd
 mod Rows
 mod FoldLoops
-pub mod FoldCalls
+pub mod FoldCall
 pub mod FoldSame
-pub mod Transforms
-mod EvaluateSteps
-pub mod EvaluateLaws
+mod EvaluateLoops
+pub mod EvaluateLaw
+pub mod ParityTold

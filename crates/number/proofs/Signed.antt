@@ -57,7 +57,7 @@ module _ {z x : ℤ} (e : z ≡ x) where
   minus-from-zero = ap (λ (y : ℤ). pos 0 -ℤ y) e ∙ +ℤ-idl (negℤ x)
 
 -- a whole number is zero exactly if its bits are
-zero-bits : (z : ℤ) → SFits w64 z → eqb (ofZ w64 z) 0 ≡ wholeNumbers .isZero z
+pub zero-bits : (z : ℤ) → SFits w64 z → eqb (ofZ w64 z) 0 ≡ wholeNumbers .isZero z
 zero-bits (pos n) h = refl
 zero-bits (negsuc n) h =
     ne-eqb (ofZ w64 (negsuc n)) 0 (λ (e : ofZ w64 (negsuc n) ≡ 0). differ (sym (toZ-ofZ h) ∙ ap (toZ w64) e))

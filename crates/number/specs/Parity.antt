@@ -1,23 +1,30 @@
--- The parity that a coefficient list has (`Polynomial::new`), for whole numbers and for floats.
-use mathlib.Core.Bool.{Bool, true, _&&_, cond}
+-- Whether coefficients have a parity, and the parity that they have (`Polynomial::new`): one rule for whole numbers and f64.
+use mathlib.Core.Path.{_≡_}
+use mathlib.Core.Bool.{Bool, true, _&&_, _||_, cond}
 use mathlib.Core.List.{List, [], _∷_}
-use Prim.Native.Nat.{ℕ}
-use lib.ListN.{drop}
-use Rattle.algebra.specs.Fold.{everySecond}
+use mathlib.Core.Logic.{_↔_}
+use Prim.Native.Nat.{ℕ, suc}
+use lib.IntN.{ℤ}
+use Rattle.algebra.specs.Operations.{wholeOps}
+use Rattle.algebra.specs.Allowed.{allows, HasParity}
 use Rattle.algebra.specs.declared.Parity.{Parity}
 use Rattle.algebra.specs.declared.Parity.the-variants.{Full, Even, Odd}
-use Rattle.number.specs.Numbers.{Numbers}
+use Rattle.number.specs.Numbers.{Numbers, wholeNumbers}
 
 module _ {A : Type 0} (numbers : Numbers A) where
-  -- each of these counts as zero
-  unfoldable pub allZero : List A → Bool
-  allZero [] = true
-  allZero (c ∷ cs) = numbers .isZero c && allZero cs
+  -- from place j on, every coefficient at a place that the parity doesn't allow counts as zero
+  unfoldable pub hasParityFrom : Parity → (j : ℕ) → List A → Bool
+  hasParityFrom parity j [] = true
+  hasParityFrom parity j (c ∷ cs) = (allows parity j || numbers .isZero c) && hasParityFrom parity (suc j) cs
 
-  -- every second coefficient from a place on counts as zero
-  abbrev pub halfZero : ℕ → List A → Bool
-  halfZero from c = allZero (everySecond (drop from c))
+  -- the coefficients have the parity
+  abbrev pub hasParity : Parity → List A → Bool
+  hasParity parity c = hasParityFrom parity 0 c
 
-  -- Even if every odd place is zero; else Odd if every even place is; else Full
+  -- Even if they have that parity; else Odd if they have that; else Full
   unfoldable pub parityOf : List A → Parity
-  parityOf c = cond (halfZero 1 c) Even (cond (halfZero 0 c) Odd Full)
+  parityOf c = cond (hasParity Even c) Even (cond (hasParity Odd c) Odd Full)
+
+-- the test on whole coefficients is what the fold law asks for
+abbrev pub ParityTold : Type 0
+ParityTold = (parity : Parity) (c : List ℤ) → (hasParity wholeNumbers parity c ≡ true) ↔ HasParity wholeOps parity c

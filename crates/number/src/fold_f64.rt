@@ -1,11 +1,9 @@
 // Folding of f64 polynomials of one parity, in the source's order of operations.
 use crate::fold::Folded;
-use crate::fold::fewest_of;
+use crate::fold::fold_answer;
 use crate::fold::fold_count;
-use crate::fold::is_full;
-use crate::parity::half_zero_f64;
-use crate::transform::PolynomialInputTransform;
-use crate::transform::transform_of;
+use crate::fold::fold_refusal;
+use crate::parity::has_parity_f64;
 use algebra::Basis;
 use algebra::Parity;
 ghost use mathlib.Core.Path.{_≡_};
@@ -15,43 +13,9 @@ ghost use lib.Seq.{sets};
 ghost use Rattle.algebra.specs.Fold.{everySecond, coeffR, addR, fold};
 ghost use Rattle.algebra.specs.declared.Basis.the-variants.{Chebyshev};
 ghost use Rattle.algebra.specs.declared.Parity.the-variants.{Odd};
-ghost use Rattle.number.specs.Numbers.{floatNumbers, floatOps};
-ghost use Rattle.number.specs.Parity.{allZero};
-ghost use Rattle.number.specs.FoldCall.{wrongPlaces, noTests, foldRefusal, FoldCall};
-ghost use Rattle.number.specs.Foldable.{Foldable};
-
-// Whether the coefficients at the places that the parity doesn't allow count as zero.
-fn has_parity_f64(parity: Parity, c: &[f64]) -> bool
-    ensures { λ r. ⌜ r ≡ allZero floatNumbers (wrongPlaces parity (now (c .entry))) ⌝ }
-{
-    match parity {
-        Parity::Full => true,
-        Parity::Even => half_zero_f64(c, 1),
-        Parity::Odd => half_zero_f64(c, 0),
-    }
-}
-
-// The first test that holds, or 0; `short` says that the buffer is too short.
-fn refusal_of_f64(parity: Parity, c: &[f64], short: bool) -> u8
-    ensures { λ r. ⌜ r ≡ foldRefusal floatNumbers noTests parity (now (c .entry)) short ⌝ }
-{
-    let n = c.len();
-    if 4096 < n {
-        return 2;
-    }
-    if is_full(parity) {
-        return 5;
-    }
-    let low = n < fewest_of(parity);
-    let wrong = !has_parity_f64(parity, c);
-    if low {
-        return 6;
-    }
-    if wrong {
-        return 4;
-    }
-    if short { 21 } else { 0 }
-}
+ghost use Rattle.number.specs.Numbers.{floatOps, floatNumbers};
+ghost use Rattle.number.specs.FoldCall.{FoldCall};
+ghost use Rattle.number.specs.inside.Folding.{Foldable};
 
 // Coefficient i of R_i.
 fn lead_f64(i: usize) -> f64
@@ -93,7 +57,7 @@ fn copy_second_f64(c: &[f64], from: usize, out: &mut [f64])
 // Writes the fold of an odd Chebyshev polynomial.
 fn fold_odd_f64(c: &[f64], out: &mut [f64])
     requires { ⌜ Foldable Odd (now c) (now out) ⌝ }
-    ensures { λ _. ⌜ now (out .exit) ≡ sets (now (out .entry)) 0 (fold floatOps Chebyshev Odd (now (c .entry))) ⌝ }
+    ensures { λ _. ⌜ now (out .exit) ≡ sets (now (out .entry)) 0 (fold floatOps Odd Chebyshev (now (c .entry))) ⌝ }
 {
     let n = c.len() / 2;
     let mut i = 0;
@@ -104,9 +68,9 @@ fn fold_odd_f64(c: &[f64], out: &mut [f64])
 }
 
 // Writes the fold.
-fn fold_into_f64(basis: Basis, parity: Parity, c: &[f64], out: &mut [f64])
+fn fold_into_f64(parity: Parity, basis: Basis, c: &[f64], out: &mut [f64])
     requires { ⌜ Foldable parity (now c) (now out) ⌝ }
-    ensures { λ _. ⌜ now (out .exit) ≡ sets (now (out .entry)) 0 (fold floatOps basis parity (now (c .entry))) ⌝ }
+    ensures { λ _. ⌜ now (out .exit) ≡ sets (now (out .entry)) 0 (fold floatOps parity basis (now (c .entry))) ⌝ }
 {
     match parity {
         Parity::Full => {}
@@ -119,24 +83,16 @@ fn fold_into_f64(basis: Basis, parity: Parity, c: &[f64], out: &mut [f64])
 }
 
 // Folds an f64 polynomial of parity Even or Odd into one of half the degree.
-pub fn fold_parity_f64(basis: Basis, parity: Parity, c: &[f64], out: &mut [f64]) -> Folded
-    ensures { λ r. ⌜ FoldCall floatNumbers noTests basis parity (now (c .entry)) (now (out .entry)) r (now (out .exit)) ⌝ }
+pub fn fold_parity_f64(parity: Parity, basis: Basis, c: &[f64], out: &mut [f64]) -> Folded
+    ensures { λ r. ⌜ FoldCall floatNumbers parity basis (now (c .entry)) (now (out .entry)) r (now (out .exit)) ⌝ }
 {
-    let n = fold_count(parity, c.len());
-    let k = refusal_of_f64(parity, c, out.len() < n);
-    if k == 0 {
-        fold_into_f64(basis, parity, c, out);
-        let t = transform_of(basis, parity);
-        Folded {
-            refusal: 0,
-            transform: t,
-            count: n,
-        }
-    } else {
-        Folded {
-            refusal: k,
-            transform: PolynomialInputTransform::Identity,
-            count: 0,
-        }
+    let n = c.len();
+    let count = fold_count(parity, n);
+    let fits = has_parity_f64(parity, c);
+    let refusal = fold_refusal(parity, n, fits, true, out.len() < count);
+    if 0 < refusal {
+        return fold_answer(refusal, parity, basis, count);
     }
+    fold_into_f64(parity, basis, c, out);
+    fold_answer(0, parity, basis, count)
 }

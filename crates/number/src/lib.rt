@@ -1,32 +1,47 @@
 // The number layer: index splitting, factorisation, folding, evaluation.
 pub mod arithmetic;
+pub mod degree;
 pub mod evaluate;
 pub mod factor;
 pub mod fold;
 pub mod fold_f64;
 pub mod interval;
+pub mod kind;
+pub mod limits;
 pub mod magnitude;
 pub mod parity;
+pub mod powers;
 pub mod split;
 pub mod transform;
 
 pub use algebra::Basis;
 pub use algebra::Parity;
+pub use algebra::PolynomialInputTransform;
+pub use degree::degree_of;
 pub use evaluate::evaluate_coeffs;
-pub use factor::factorize_coeffs_chebyshev;
-pub use factor::factorize_coeffs_chebyshev_f64;
 pub use fold::Folded;
-// fold_into and the factorisations serve planning, which calls them within their ranges.
-pub use fold::fold_into;
 pub use fold::fold_parity;
 pub use fold_f64::fold_parity_f64;
 pub use interval::Interval;
 pub use interval::change_of_basis;
 pub use interval::no_interval;
+pub use kind::basis_number;
+pub use kind::parity_number;
+pub use kind::transform_number;
+pub use limits::COUNT_LIMIT;
+pub use limits::DEGREE_LIMIT;
+pub use limits::PLAN_LIMIT;
+pub use limits::SCALE_LIMIT;
 pub use magnitude::sum_fits;
 pub use parity::detect_parity;
 pub use parity::detect_parity_f64;
+pub use parity::is_allowed;
+pub use powers::bit_len;
 pub use split::Parts;
-pub use split::bit_len;
 pub use split::split_degree;
-pub use transform::PolynomialInputTransform;
+// What serves planning, which calls it within its ranges.
+pub use factor::factorize_coeffs_chebyshev;
+pub use factor::factorize_coeffs_chebyshev_f64;
+pub use fold::fold_into;
+pub use powers::power_of_two;
+pub use powers::top_power;

@@ -1,46 +1,80 @@
-// Parity detection on whole and on f64 coefficients.
+// Whether coefficients have a parity, and the parity that they have, for whole and f64 coefficients.
 use algebra::Parity;
 ghost use mathlib.Core.Path.{_≡_};
+ghost use mathlib.Core.Bool.{_||_};
+ghost use Rattle.algebra.specs.Allowed.{allows};
 ghost use Rattle.number.specs.Numbers.{wholeNumbers, floatNumbers};
-ghost use Rattle.number.specs.Parity.{halfZero, parityOf};
+ghost use Rattle.number.specs.Parity.{hasParity, parityOf};
 
-// Whether every second coefficient from place `from` on counts as zero.
-pub fn half_zero(c: &[i64], from: usize) -> bool
-    ensures { λ r. ⌜ r ≡ halfZero wholeNumbers from (now (c .entry)) ⌝ }
+// Whether the parity allows power or place j.
+pub fn is_allowed(parity: Parity, j: usize) -> bool
+    ensures { λ r. ⌜ r ≡ allows parity j ⌝ }
 {
-    let mut i = from;
-    while i < c.len() {
-        if c[i] != 0 {
+    match parity {
+        Parity::Full => true,
+        Parity::Even => j % 2 == 0,
+        Parity::Odd => j % 2 == 1,
+    }
+}
+
+// Whether x may stand at place j.
+fn fits_at(parity: Parity, j: usize, x: i64) -> bool
+    ensures { λ r. ⌜ r ≡ (allows parity j || wholeNumbers .isZero x) ⌝ }
+{
+    if is_allowed(parity, j) {
+        return true;
+    }
+    x == 0
+}
+
+// The same of an f64: -0 counts as zero, a NaN does not.
+fn fits_at_f64(parity: Parity, j: usize, x: f64) -> bool
+    ensures { λ r. ⌜ r ≡ (allows parity j || floatNumbers .isZero x) ⌝ }
+{
+    if is_allowed(parity, j) {
+        return true;
+    }
+    x == 0.0
+}
+
+// Whether every coefficient at a place that the parity doesn't allow is zero.
+pub fn has_parity(parity: Parity, c: &[i64]) -> bool
+    ensures { λ r. ⌜ r ≡ hasParity wholeNumbers parity (now (c .entry)) ⌝ }
+{
+    let mut j = 0;
+    while j < c.len() {
+        let fits = fits_at(parity, j, c[j]);
+        if !fits {
             return false;
         }
-        i += 2;
+        j += 1;
     }
     true
 }
 
-// The same of f64 coefficients: -0 counts as zero, a NaN does not.
-pub fn half_zero_f64(c: &[f64], from: usize) -> bool
-    ensures { λ r. ⌜ r ≡ halfZero floatNumbers from (now (c .entry)) ⌝ }
+// The same of f64 coefficients.
+pub fn has_parity_f64(parity: Parity, c: &[f64]) -> bool
+    ensures { λ r. ⌜ r ≡ hasParity floatNumbers parity (now (c .entry)) ⌝ }
 {
-    let mut i = from;
-    while i < c.len() {
-        let x = c[i];
-        if x != 0.0 {
+    let mut j = 0;
+    while j < c.len() {
+        let fits = fits_at_f64(parity, j, c[j]);
+        if !fits {
             return false;
         }
-        i += 2;
+        j += 1;
     }
     true
 }
 
-// Even, Odd or Full, by the places that hold zero.
+// Even if the coefficients have that parity, else Odd if they have that, else Full.
 pub fn detect_parity(c: &[i64]) -> Parity
     ensures { λ r. ⌜ r ≡ parityOf wholeNumbers (now (c .entry)) ⌝ }
 {
-    if half_zero(c, 1) {
+    if has_parity(Parity::Even, c) {
         return Parity::Even;
     }
-    if half_zero(c, 0) {
+    if has_parity(Parity::Odd, c) {
         return Parity::Odd;
     }
     Parity::Full
@@ -50,10 +84,10 @@ pub fn detect_parity(c: &[i64]) -> Parity
 pub fn detect_parity_f64(c: &[f64]) -> Parity
     ensures { λ r. ⌜ r ≡ parityOf floatNumbers (now (c .entry)) ⌝ }
 {
-    if half_zero_f64(c, 1) {
+    if has_parity_f64(Parity::Even, c) {
         return Parity::Even;
     }
-    if half_zero_f64(c, 0) {
+    if has_parity_f64(Parity::Odd, c) {
         return Parity::Odd;
     }
     Parity::Full

@@ -1,7 +1,7 @@
 // Splitting an index into the two powers that make it.
+use crate::limits::DEGREE_LIMIT;
+use crate::powers::power_below;
 ghost use mathlib.Core.Path.{_≡_};
-ghost use Prim.Native.Nat.{_≤_};
-ghost use Rattle.number.specs.Bits.{bitLen, powerBelow};
 ghost use Rattle.number.specs.Split.{splitOf};
 
 // The two parts of an index, or a refusal with zeros.
@@ -11,30 +11,11 @@ pub struct Parts {
     pub b: usize,
 }
 
-// The number of binary digits of n.
-pub fn bit_len(n: usize) -> u32
-    ensures { λ r. ⌜ r ≡ bitLen n ⌝ }
-{
-    64 - usize::leading_zeros(n)
-}
-
-// The greatest power of two below n, by doubling: p doubles while 2p is still below n.
-fn power_below(n: usize) -> usize
-    requires { ⌜ 2 ≤ n ⌝ }
-    ensures { λ r. ⌜ r ≡ powerBelow n ⌝ }
-{
-    let mut p = 1;
-    while p < n - p {
-        p = p + p;
-    }
-    p
-}
-
 // The two parts of n: refusal 9 below 2 and above 4,294,967,295.
 pub fn split_degree(n: usize) -> Parts
     ensures { λ r. ⌜ r ≡ splitOf n ⌝ }
 {
-    if n < 2 || 4294967295 < n {
+    if n < 2 || DEGREE_LIMIT < n {
         return Parts {
             refusal: 9,
             a: 0,

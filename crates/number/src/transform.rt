@@ -1,21 +1,13 @@
-// The transforms of a folded polynomial.
+// The transform of a folded polynomial.
 use algebra::Basis;
 use algebra::Parity;
+use algebra::PolynomialInputTransform;
 ghost use mathlib.Core.Path.{_≡_};
-ghost use Rattle.number.specs.Transform.{transformOf};
-
-// What the input goes through before a folded polynomial is evaluated; TimesInput multiplies the result by the input.
-pub enum PolynomialInputTransform {
-    Identity,
-    Square,
-    SquareTimesInput,
-    ChebyshevT2,
-    ChebyshevT2TimesInput,
-}
+ghost use Rattle.algebra.specs.Transform.{transformOf};
 
 // The transform that goes with a fold.
-pub fn transform_of(basis: Basis, parity: Parity) -> PolynomialInputTransform
-    ensures { λ r. ⌜ r ≡ transformOf basis parity ⌝ }
+pub fn transform_of(parity: Parity, basis: Basis) -> PolynomialInputTransform
+    ensures { λ r. ⌜ r ≡ transformOf parity basis ⌝ }
 {
     match parity {
         Parity::Full => PolynomialInputTransform::Identity,

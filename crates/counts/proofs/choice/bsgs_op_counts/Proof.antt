@@ -2,7 +2,7 @@
 -- Any other degree has the pair at its chosen split, which is from 1 to 12.
 use native.Mathlib.Omega.{arith}
 use borrow.Author.Tests.{lt-ltb, le-ltb}
-use Rattle.needed.specs.Powers.{Between}
+use Rattle.number.specs.inside.Between.{Between}
 use Rattle.counts.specs.Choice.{countsOf}
 use Rattle.counts.specs.Calls.{countsCall}
 use Rattle.counts.proofs.ChoiceLaws.{split-range, counts-some}

@@ -4,7 +4,7 @@ use native.Mathlib.Omega.{arith}
 use borrow.Author.Needs.{needs}
 use borrow.Author.Tests.{lt-ltb, le-ltb, eq-eqb, ne-eqb}
 use Rattle.counts.specs.Calls.{minDepthCall}
-use Rattle.needed.proofs.PowerLaws.{digits-range}
+use Rattle.number.proofs.Bits.{digits-range}
 use Rattle.counts.proofs.choice.min_depth_split.Statement.{statement}
 use Rattle.counts.proofs.choice.min_depth_split.Tie as tie
 
@@ -16,21 +16,21 @@ returns-2 : tie.Need-returns-2
 unfolding minDepthCall
 returns-2 c = rw (le-ltb _ _ (c .before .if1 .left), eq-eqb _ _ (c .if2 .taken))
 
-bit-length-requires : tie.Need-bit-length-requires
-bit-length-requires c κs = search needs
+bit-len-requires : tie.Need-bit-len-requires
+bit-len-requires c κs = search needs
 
 min-depth-requires : tie.Need-min-depth-requires
 min-depth-requires c κs =
     let tests = c .before in
     let range = digits-range (tests .before .before .args .degree) (record { from = omega (arith, tests .if2 .left); to = tests .before .if1 .left }) in
-    record { from = omega (arith, c .bit-length .ensures); to = omega (arith, c .bit-length .ensures) }
+    record { from = omega (arith, c .bit-len .ensures); to = omega (arith, c .bit-len .ensures) }
 
 returns-3 : tie.Need-returns-3
 unfolding minDepthCall
 returns-3 c =
     let tests = c .before .before in
-    rw (le-ltb _ _ (tests .before .if1 .left), ne-eqb _ _ (tests .if2 .left), c .min-depth .ensures, c .before .bit-length .ensures)
+    rw (le-ltb _ _ (tests .before .if1 .left), ne-eqb _ _ (tests .if2 .left), c .min-depth .ensures, c .before .bit-len .ensures)
 
 pub min-depth-split-spec : {M : Type 1} → statement M
 min-depth-split-spec =
-    tie.close (tie.spec returns returns-2 bit-length-requires min-depth-requires returns-3)
+    tie.close (tie.spec returns returns-2 bit-len-requires min-depth-requires returns-3)

@@ -8,28 +8,28 @@ use Rattle.number.specs.Bits.{bitLen}
 use Rattle.counts.specs.Pair.{pairAt}
 use Rattle.counts.specs.MinMult.{bestOf}
 use Rattle.counts.specs.declared.choice.Best.{Best}
-use Rattle.needed.proofs.PowerLaws.{few-digits, digit-some}
+use Rattle.number.proofs.Bits.{few-digits, digit-some}
 use Rattle.counts.proofs.MinMultLaws.{mult-low, mult-best}
 use Rattle.counts.proofs.choice.min_mult.Statement.{statement}
 use Rattle.counts.proofs.choice.min_mult.Tie as tie
 
-bit-length-requires : tie.Need-bit-length-requires
-bit-length-requires c κs = search needs
+bit-len-requires : tie.Need-bit-len-requires
+bit-len-requires c κs = search needs
 
 returns : tie.Need-returns
 returns c =
     let length = c .before in
     let args = length .before .args in
-    sym (mult-low (args .parity) (args .basis) (args .degree) (omega (arith, length .bit-length .ensures, c .if1 .taken)))
+    sym (mult-low (args .parity) (args .basis) (args .degree) (omega (arith, length .bit-len .ensures, c .if1 .taken)))
 
 best-split-requires : tie.Need-best-split-requires
 best-split-requires c κs =
     let length = c .before in
     let start = length .before in
     let few = few-digits (start .args .degree) (start .pre) in
-    let some = digit-some (start .args .degree) (omega (arith, length .bit-length .ensures, c .if1 .left)) in (
+    let some = digit-some (start .args .degree) (omega (arith, length .bit-len .ensures, c .if1 .left)) in (
       record { from = some; to = start .pre },
-      record { from = omega (arith, c .if1 .left); to = omega (arith, length .bit-length .ensures) },
+      record { from = omega (arith, c .if1 .left); to = omega (arith, length .bit-len .ensures) },
     )
 
 returns-2 : tie.Need-returns-2
@@ -37,10 +37,10 @@ returns-2 c =
     let test = c .before in
     let length = test .before in
     let args = length .before .args in
-    let long : 1 < bitLen (args .degree) = omega (arith, length .bit-length .ensures, test .if1 .left) in
+    let long : 1 < bitLen (args .degree) = omega (arith, length .bit-len .ensures, test .if1 .left) in
     ap (λ (best : Best). best .split) (c .best-split .ensures)
-    ∙ ap (λ (l : ℕ). bestOf (pairAt (args .parity) (args .basis) (args .degree)) (l - 1) .split) (length .bit-length .ensures)
+    ∙ ap (λ (l : ℕ). bestOf (pairAt (args .parity) (args .basis) (args .degree)) (l - 1) .split) (length .bit-len .ensures)
     ∙ sym (mult-best (args .parity) (args .basis) (args .degree) long)
 
 pub min-mult-spec : {M : Type 1} → statement M
-min-mult-spec = tie.close (tie.spec bit-length-requires returns best-split-requires returns-2)
+min-mult-spec = tie.close (tie.spec bit-len-requires returns best-split-requires returns-2)

@@ -5,22 +5,22 @@ use native.Mathlib.Omega.{arith}
 use borrow.Author.Needs.{needs}
 use Rattle.counts.specs.MinDepth.{minDepth}
 use Rattle.counts.specs.Choice.{splitFor}
-use Rattle.needed.proofs.PowerLaws.{some-digit, few-digits}
+use Rattle.number.proofs.Bits.{some-digit, few-digits}
 use Rattle.counts.proofs.choice.split_for_strategy.Statement.{statement}
 use Rattle.counts.proofs.choice.split_for_strategy.Tie as tie
 
 enum-told : tie.Need-enum-told
 enum-told c = search needs
 
-bit-length-requires : tie.Need-bit-length-requires
-bit-length-requires c κs = search needs
+bit-len-requires : tie.Need-bit-len-requires
+bit-len-requires c κs = search needs
 
 min-depth-requires : tie.Need-min-depth-requires
 min-depth-requires c κs =
     let start = c .before .before .before in
     let some = some-digit (start .args .degree) (start .pre .from) in
     let few = few-digits (start .args .degree) (start .pre .to) in
-    record { from = omega (arith, c .bit-length .ensures); to = omega (arith, c .bit-length .ensures) }
+    record { from = omega (arith, c .bit-len .ensures); to = omega (arith, c .bit-len .ensures) }
 
 enum-told-2 : tie.Need-enum-told-2
 enum-told-2 c = search needs
@@ -30,7 +30,7 @@ min-mult-requires c κs = search needs
 
 returns : tie.Need-returns
 unfolding splitFor
-returns c = rw (c .before .before .enum-told .given .1) (c .min-depth .ensures ∙ ap minDepth (c .before .bit-length .ensures))
+returns c = rw (c .before .before .enum-told .given .1) (c .min-depth .ensures ∙ ap minDepth (c .before .bit-len .ensures))
 
 returns-2 : tie.Need-returns-2
 unfolding splitFor
@@ -41,7 +41,7 @@ split-for-strategy-spec =
     tie.close
     (tie.spec
     enum-told
-    bit-length-requires
+    bit-len-requires
     min-depth-requires
     enum-told-2
     min-mult-requires

@@ -2,13 +2,13 @@
 -- It has at least one binary digit, so one less is a number.
 use native.Mathlib.Omega.{arith}
 use borrow.Author.Needs.{needs}
-use Rattle.needed.proofs.PowerLaws.{digits-range}
+use Rattle.number.proofs.Bits.{digits-range}
 use Rattle.counts.proofs.DepthLaws.{pure-less, pure-whole}
 use Rattle.counts.proofs.consumed.pure_chain.Statement.{statement}
 use Rattle.counts.proofs.consumed.pure_chain.Tie as tie
 
-bit-length-requires : tie.Need-bit-length-requires
-bit-length-requires c κs = search needs
+bit-len-requires : tie.Need-bit-len-requires
+bit-len-requires c κs = search needs
 
 top-power-requires : tie.Need-top-power-requires
 top-power-requires c κs = search needs
@@ -16,18 +16,18 @@ top-power-requires c κs = search needs
 sub-result : tie.Need-sub-result
 sub-result c =
     let length = c .before .before in
-    omega (arith, length .bit-length .ensures, digits-range (length .before .args .degree) (length .before .pre))
+    omega (arith, length .bit-len .ensures, digits-range (length .before .args .degree) (length .before .pre))
 
 returns : tie.Need-returns
 returns c =
     let length = c .before .before in
-    pure-less (length .before .args .degree) (length .before .pre) (length .bit-length .ensures) (c .before .top-power .ensures) (c .if1 .taken)
+    pure-less (length .before .args .degree) (length .before .pre) (length .bit-len .ensures) (c .before .top-power .ensures) (c .if1 .taken)
 
 returns-2 : tie.Need-returns-2
 returns-2 c =
     let length = c .before .before in
-    pure-whole (length .before .args .degree) (length .before .pre) (length .bit-length .ensures) (c .before .top-power .ensures) (c .if1 .left)
+    pure-whole (length .before .args .degree) (length .before .pre) (length .bit-len .ensures) (c .before .top-power .ensures) (c .if1 .left)
 
 pub pure-chain-spec : {M : Type 1} → statement M
 pure-chain-spec =
-    tie.close (tie.spec bit-length-requires top-power-requires sub-result returns returns-2)
+    tie.close (tie.spec bit-len-requires top-power-requires sub-result returns returns-2)

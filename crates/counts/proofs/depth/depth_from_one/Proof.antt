@@ -2,13 +2,13 @@
 -- The test against the threshold is the definition's.
 use native.Mathlib.Omega.{arith}
 use borrow.Author.Needs.{needs}
-use Rattle.needed.proofs.PowerLaws.{digits-range}
+use Rattle.number.proofs.Bits.{digits-range}
 use Rattle.counts.proofs.DepthLaws.{depth-least, half-fits, depth-more, depth-same}
 use Rattle.counts.proofs.depth.depth_from_one.Statement.{statement}
 use Rattle.counts.proofs.depth.depth_from_one.Tie as tie
 
-bit-length-requires : tie.Need-bit-length-requires
-bit-length-requires c κs = search needs
+bit-len-requires : tie.Need-bit-len-requires
+bit-len-requires c κs = search needs
 
 enum-told : tie.Need-enum-told
 enum-told c = search needs
@@ -19,22 +19,22 @@ enum-told-2 c = search needs
 power-of-two-requires : tie.Need-power-of-two-requires
 power-of-two-requires c κs =
     let length = c .before .before in
-    omega (arith, length .bit-length .ensures, digits-range (length .before .args .degree) (length .before .pre))
+    omega (arith, length .bit-len .ensures, digits-range (length .before .args .degree) (length .before .pre))
 
 sub-power-of-two : tie.Need-sub-power-of-two
 sub-power-of-two c =
     let length = c .before .before .before in
-    omega (arith, length .bit-length .ensures, digits-range (length .before .args .degree) (length .before .pre))
+    omega (arith, length .bit-len .ensures, digits-range (length .before .args .degree) (length .before .pre))
 
 power-of-two-requires-2 : tie.Need-power-of-two-requires-2
 power-of-two-requires-2 c κs =
     let length = c .before .before .before in
-    omega (arith, length .bit-length .ensures, digits-range (length .before .args .degree) (length .before .pre))
+    omega (arith, length .bit-len .ensures, digits-range (length .before .args .degree) (length .before .pre))
 
 sub-threshold : tie.Need-sub-threshold
 sub-threshold c =
     let length = c .before .before .before .before in
-    half-fits (length .before .args .degree) (length .before .pre) (length .bit-length .ensures)
+    half-fits (length .before .args .degree) (length .before .pre) (length .bit-len .ensures)
     (c .before .power-of-two .ensures) (c .power-of-two2 .ensures)
 
 add-threshold : tie.Need-add-threshold
@@ -44,12 +44,12 @@ add-result : tie.Need-add-result
 add-result c =
     let powers = c .before in
     let length = powers .before .before .before .before in
-    omega (arith, length .bit-length .ensures, digits-range (length .before .args .degree) (length .before .pre))
+    omega (arith, length .bit-len .ensures, digits-range (length .before .args .degree) (length .before .pre))
 
 returns : tie.Need-returns
 returns c =
     let length = c .before .before in
-    rw (c .enum-told .given .1) (depth-least (length .before .args .degree) (length .before .pre) (length .bit-length .ensures))
+    rw (c .enum-told .given .1) (depth-least (length .before .args .degree) (length .before .pre) (length .bit-len .ensures))
 
 returns-2 : tie.Need-returns-2
 returns-2 c =
@@ -57,7 +57,7 @@ returns-2 c =
     let arm = powers .before .before in
     let length = arm .before .before in
     rw (arm .enum-told2 .given .1)
-    (depth-more (length .before .args .degree) (length .before .pre) (length .bit-length .ensures)
+    (depth-more (length .before .args .degree) (length .before .pre) (length .bit-len .ensures)
     (powers .before .power-of-two .ensures) (powers .power-of-two2 .ensures) (c .if1 .taken))
 
 returns-3 : tie.Need-returns-3
@@ -66,14 +66,14 @@ returns-3 c =
     let arm = powers .before .before in
     let length = arm .before .before in
     rw (arm .enum-told2 .given .1)
-    (depth-same (length .before .args .degree) (length .before .pre) (length .bit-length .ensures)
+    (depth-same (length .before .args .degree) (length .before .pre) (length .bit-len .ensures)
     (powers .before .power-of-two .ensures) (powers .power-of-two2 .ensures) (c .if1 .left))
 
 pub depth-from-one-spec : {M : Type 1} → statement M
 depth-from-one-spec =
     tie.close
     (tie.spec
-    bit-length-requires
+    bit-len-requires
     enum-told
     enum-told-2
     power-of-two-requires

@@ -5,7 +5,7 @@ use native.Mathlib.Omega.{arith}
 use borrow.Author.Needs.{needs}
 use borrow.Author.Tests.{le-leb, lt-leb, eq-eqb, ne-eqb}
 use Rattle.number.specs.Bits.{isPowerOfTwo}
-use Rattle.needed.specs.Powers.{topPower}
+use Rattle.number.specs.Bits.{topPower}
 use Rattle.counts.specs.Pair.{moves}
 use Rattle.counts.proofs.pair.is_moved.Statement.{statement}
 use Rattle.counts.proofs.pair.is_moved.Tie as tie

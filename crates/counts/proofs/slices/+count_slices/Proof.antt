@@ -6,7 +6,7 @@ use borrow.Author.Needs.{needs}
 use borrow.Fn.Kinds.{In}
 use borrow.Fn.PlainCycle.{Measures, is, falls, and}
 use Rattle.number.specs.Bits.{bitLen}
-use Rattle.needed.proofs.PowerLaws.{from-base, cut-at}
+use Rattle.number.proofs.Bits.{from-base, cut-at}
 use Rattle.counts.proofs.TallyLaws.{tallied-one, tallied-cut}
 use Rattle.counts.proofs.slices.count_slices.Reads as count-slices
 use Rattle.counts.proofs.slices.count_slices.Kinds as count-slices-kinds

@@ -5,7 +5,7 @@ use mathlib.Core.Bool.{Bool}
 use Prim.Native.Nat.{ℕ, _-_}
 use native.Mathlib.Omega.{arith}
 use borrow.Author.Needs.{needs}
-use Rattle.needed.specs.Powers.{Between}
+use Rattle.number.specs.inside.Between.{Between}
 use Rattle.counts.specs.Choice.{splitFor}
 use Rattle.counts.proofs.ChoiceLaws.{split-range}
 use Rattle.lists.specs.Tree.{treeOf, planTree}

@@ -8,8 +8,8 @@ use borrow.Author.Needs.{needs}
 use borrow.Fn.Kinds.{In}
 use borrow.Fn.PlainCycle.{Measures, is, falls, and}
 use lib.Pow.{pow-pos}
-use Rattle.needed.specs.Powers.{topPower}
-use Rattle.needed.proofs.PowerLaws.{Top, top-power}
+use Rattle.number.specs.Bits.{topPower}
+use Rattle.number.proofs.Bits.{Top, top-power}
 use Rattle.lists.specs.Tree.{listedAgain}
 use Rattle.lists.proofs.TreeLaws.{Again, again-facts, and-right}
 use Rattle.lists.proofs.Arranging.{leaves-most}

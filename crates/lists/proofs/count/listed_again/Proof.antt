@@ -9,7 +9,7 @@ use borrow.Author.Needs.{needs}
 use borrow.Author.Tests.{ltb-true, ltb-false}
 use lib.Dec.{ltb}
 use Rattle.number.specs.Bits.{bitLen}
-use Rattle.number.proofs.BitLaws.{len-max}
+use Rattle.number.proofs.Bits.{len-max}
 use Rattle.lists.proofs.Relisting.{not-leading, constant, least-split, none-smaller, by-whole}
 use Rattle.lists.proofs.count.listed_again.Statement.{statement}
 use Rattle.lists.proofs.count.listed_again.Tie as tie
@@ -45,8 +45,8 @@ returns-2 c =
     let asked = c .before .smaller-split in
     sym (none-smaller (start .args .whole) (start .args .split) (start .args .lead) (start .args .degree) (omega arith))
 
-bit-length-requires : tie.Need-bit-length-requires
-bit-length-requires c κs = search needs
+bit-len-requires : tie.Need-bit-len-requires
+bit-len-requires c κs = search needs
 
 power-of-two-requires : tie.Need-power-of-two-requires
 power-of-two-requires c κs =
@@ -71,7 +71,7 @@ returns-3 c =
     let whole = start .args .whole in
     let split = start .args .split in
     let above : c .before .power-of-two .result ≡ 2 ^ bitLen whole =
-    c .before .power-of-two .ensures .is ∙ ap (λ (k : ℕ). 2 ^ k) (c .before .before .bit-length .ensures) in
+    c .before .power-of-two .ensures .is ∙ ap (λ (k : ℕ). 2 ^ k) (c .before .before .bit-len .ensures) in
     let asked = test .before .smaller-split in
     let leading : start .args .lead ≡ true = not-false (start .args .lead) (tests .before .before .if1 .left) in
     let some : 0 < start .args .degree = omega (arith, ltb-false) in
@@ -86,7 +86,7 @@ listed-again-spec =
     returns
     smaller-split-requires
     returns-2
-    bit-length-requires
+    bit-len-requires
     power-of-two-requires
     sub-power-of-two
     power-of-two-requires-2

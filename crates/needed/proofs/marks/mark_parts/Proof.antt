@@ -8,7 +8,7 @@ use borrow.Author.Needs.{needs}
 use denote.Ref.{now}
 use Rattle.number.specs.Split.{splitOf, partsOf}
 use Rattle.number.specs.declared.split.Parts.{Parts}
-use Rattle.number.proofs.SplitLaws.{Parted, split-accepted, parted}
+use Rattle.number.proofs.SplitParts.{Parted, split-accepted, parted}
 use Rattle.needed.specs.Needed.{distanceOf}
 use Rattle.needed.specs.NeededMarks.{markAt, markApart, markParts}
 use Rattle.needed.proofs.MarkLaws.{apart-monomial, apart-chebyshev}

@@ -10,7 +10,7 @@ use Rattle.needed.proofs.marks.needed_marks.Statement.{statement}
 use Rattle.needed.proofs.marks.needed_marks.Tie as tie
 
 top-power-requires : tie.Need-top-power-requires
-top-power-requires c κs = record { from = omega arith; to = omega arith }
+top-power-requires c κs = omega arith
 
 baby-limit-requires : tie.Need-baby-limit-requires
 baby-limit-requires c κs = search needs

@@ -8,7 +8,7 @@ use lib.Ieee.{nan}
 use Rattle.number.specs.Numbers.{floatOps}
 use Rattle.number.specs.Evaluate.{clenshawPair, lastTerm}
 use Rattle.number.proofs.Literals.{zero-is, one-is}
-use Rattle.number.proofs.EvaluateSteps.{pair-start, pair-step, clenshaw-none, clenshaw-one, clenshaw-more}
+use Rattle.number.proofs.EvaluateLoops.{pair-start, pair-step, clenshaw-none, clenshaw-one, clenshaw-more}
 use Rattle.number.proofs.evaluate.clenshaw.Statement.{statement}
 use Rattle.number.proofs.evaluate.clenshaw.Tie as tie
 

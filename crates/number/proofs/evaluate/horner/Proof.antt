@@ -8,7 +8,7 @@ use lib.Ieee.{nan}
 use Rattle.number.specs.Numbers.{floatOps}
 use Rattle.number.specs.Evaluate as spec
 use Rattle.number.proofs.Literals.{zero-is}
-use Rattle.number.proofs.EvaluateSteps.{horner-start, horner-step}
+use Rattle.number.proofs.EvaluateLoops.{horner-start, horner-step}
 use Rattle.number.proofs.evaluate.horner.Statement.{statement}
 use Rattle.number.proofs.evaluate.horner.Tie as tie
 

@@ -1,8 +1,8 @@
--- `number::fold::fold_count` meets its contract: each arm is the clause of `countOf` for that parity. n - n / 2 cannot go below zero, and is
+-- `number::fold::fold_count` meets its contract: each arm is the clause of `foldedLength` for that parity. n - n / 2 cannot go below zero, and is
 -- (n + 1) / 2 without a sum that could pass the end of usize.
 use native.Mathlib.Omega.{arith}
 use borrow.Author.Needs.{needs}
-use Rattle.number.specs.Foldable.{countOf}
+use Rattle.algebra.specs.Fold.{foldedLength}
 use Rattle.number.proofs.fold.fold_count.Statement.{statement}
 use Rattle.number.proofs.fold.fold_count.Tie as tie
 
@@ -19,15 +19,15 @@ enum-told-3 : tie.Need-enum-told-3
 enum-told-3 c = search needs
 
 returns : tie.Need-returns
-unfolding countOf
+unfolding foldedLength
 returns c = rw (c .enum-told .given .1)
 
 returns-2 : tie.Need-returns-2
-unfolding countOf
+unfolding foldedLength
 returns-2 c = rw (c .enum-told2 .given .1) (omega arith)
 
 returns-3 : tie.Need-returns-3
-unfolding countOf
+unfolding foldedLength
 returns-3 c = rw (c .enum-told3 .given .1)
 
 pub fold-count-spec : {M : Type 1} → statement M

@@ -4,8 +4,8 @@ use mathlib.Core.Path.{ap, sym, _∙_}
 use mathlib.Core.Bool.{true≢false}
 use borrow.Author.Needs.{needs}
 use Rattle.algebra.specs.Fold.{fold}
-use Rattle.number.specs.FoldCall.{isFull}
-use Rattle.number.proofs.FoldCalls.{even-room, odd-room}
+use Rattle.number.specs.Tests.{isFull}
+use Rattle.number.proofs.FoldCall.{even-room, odd-room}
 use Rattle.number.proofs.fold.fold_into.Statement.{statement}
 use Rattle.number.proofs.fold.fold_into.Tie as tie
 

@@ -9,7 +9,7 @@ use lib.IntN.{pos, _-ℤ_}
 use mir.Syntax.{w64}
 use mir.Val.{toZ, ofZ}
 use Rattle.algebra.proofs.Magnitudes.{abs-getD}
-use Rattle.number.specs.Foldable.{countOf}
+use Rattle.algebra.specs.Fold.{foldedLength}
 use Rattle.number.proofs.Signed.{back}
 use Rattle.number.proofs.FoldLoops.{Summing, sum-start, sum-length, sum-abs, sum-abs-next, sum-step, sum-end}
 use Rattle.number.proofs.fold.fold_odd.Statement.{statement}
@@ -22,7 +22,7 @@ abbrev μ-loop : tie.MeasureT-loop
 μ-loop c out₀ s₀ left₀ out s left = left
 
 room : (k : tie.Start Inv-loop μ-loop) → length (k .args .c .now) / 2 ≤ length (k .args .out .now)
-unfolding countOf
+unfolding foldedLength
 room k = k .pre .0 .room
 
 -- s comes from the coefficient and the s before

@@ -6,7 +6,7 @@ use borrow.Author.Needs.{needs}
 use lib.ListN.{length}
 use lib.Ieee.{nan}
 use Rattle.number.specs.Numbers.{floatOps}
-use Rattle.number.specs.Foldable.{countOf}
+use Rattle.algebra.specs.Fold.{foldedLength}
 use Rattle.number.proofs.FoldLoops.{Placing, placing-start, placing-length, placing-step, placing-end}
 use Rattle.number.proofs.fold_f64.fold_odd_f64.Statement.{statement}
 use Rattle.number.proofs.fold_f64.fold_odd_f64.Tie as tie
@@ -21,7 +21,7 @@ abbrev start : tie.After-slice-known Inv-loop μ-loop → tie.Start Inv-loop μ-
 start k = k .before .before
 
 room : (k : tie.After-slice-known Inv-loop μ-loop) → length (start k .args .c .now) / 2 ≤ length (start k .args .out .now)
-unfolding countOf
+unfolding foldedLength
 room k = start k .pre .room
 
 loop-holds : tie.Need-loop-holds Inv-loop μ-loop

@@ -3,6 +3,7 @@
 use mathlib.Core.Path.{_≡_}
 use Prim.Native.Nat.{_≤_}
 use native.Mathlib.Omega.{arith}
+use borrow.Author.Needs.{needs}
 use lib.IntN.{pos, negℤ, natAbs, _-ℤ_}
 use mir.Syntax.{w64}
 use mir.Val.{toZ, ofZ}
@@ -28,8 +29,14 @@ opposite k =
     let start = k .before .before .before in
     rw (minus-from-zero (read start)) (toZ-ofZ (fits-abs _ (omega (arith, abs-neg (start .args .x), small (k .before)))))
 
+add-result : tie.Need-add-result
+add-result c = search needs
+
 returns : tie.Need-returns
 returns c = omega (arith, under-least (read (c .before)) 1073741823 (c .if1 .taken))
+
+add-result-2 : tie.Need-add-result-2
+add-result-2 c = search needs
 
 returns-2 : tie.Need-returns-2
 returns-2 c = omega (arith, over-most (read (c .before .before)) 1073741824 (c .if2 .taken))
@@ -56,4 +63,4 @@ returns-4 : tie.Need-returns-4
 returns-4 c = rw (read (c .before .before .before)) (omega (arith, small (c .before)))
 
 pub magnitude-spec : {M : Type 1} → statement M
-magnitude-spec = tie.close (tie.spec returns returns-2 sub-result cast-result cast-result-2 returns-3 returns-4)
+magnitude-spec = tie.close (tie.spec add-result returns add-result-2 returns-2 sub-result cast-result cast-result-2 returns-3 returns-4)

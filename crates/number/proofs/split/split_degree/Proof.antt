@@ -5,8 +5,8 @@ use mathlib.Core.Logic.{⊎-elim}
 use native.Mathlib.Omega.{arith}
 use borrow.Author.Needs.{needs}
 use borrow.Author.Tests.{ltb-true, ltb-false}
-use Rattle.number.proofs.BitLaws.{power-below}
-use Rattle.number.proofs.SplitLaws.{split-accepted, split-below, split-above, parts-doubled, parts-other}
+use Rattle.number.proofs.Bits.{power-below}
+use Rattle.number.proofs.SplitParts.{split-accepted, split-below, split-above, parts-doubled, parts-other}
 use Rattle.number.proofs.split.split_degree.Statement.{statement}
 use Rattle.number.proofs.split.split_degree.Tie as tie
 

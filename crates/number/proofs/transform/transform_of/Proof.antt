@@ -1,6 +1,6 @@
 -- `number::transform::transform_of` meets its contract. Each arm of the two matches is the clause of `transformOf` for that basis and parity.
 use borrow.Author.Needs.{needs}
-use Rattle.number.specs.Transform.{transformOf}
+use Rattle.algebra.specs.Transform.{transformOf}
 use Rattle.number.proofs.transform.transform_of.Statement.{statement}
 use Rattle.number.proofs.transform.transform_of.Tie as tie
 

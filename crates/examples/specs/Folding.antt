@@ -1,0 +1,80 @@
+-- Worked examples of the folds and their refusals.
+use mathlib.Core.Path.{_≡_, refl}
+use mathlib.Core.Bool.{true, false}
+use mathlib.Core.List.{[], _∷_}
+use lib.IntN.{pos, negsuc}
+use lib.Ieee.{fin, nan, eq, add, mul}
+use Rattle.algebra.specs.Operations.{wholeOps}
+use Rattle.algebra.specs.Fold.{everySecond, coeffR, addR, sumRFrom, fold}
+use Rattle.algebra.specs.Magnitude.{sumAbs}
+use Rattle.algebra.specs.declared.Basis.the-variants.{Monomial, Chebyshev}
+use Rattle.algebra.specs.declared.Parity.the-variants.{Full, Even, Odd}
+use Rattle.number.specs.Numbers.{wholeNumbers, floatOps, floatNumbers}
+use Rattle.number.specs.Parity.{allZero}
+use Rattle.number.specs.FoldCall.{wholeTests, noTests, foldRefusal}
+
+-- odd Chebyshev 0 1 0 2 folds to -1 4
+pub odd-fold : fold wholeOps Odd Chebyshev (pos 0 ∷ pos 1 ∷ pos 0 ∷ pos 2 ∷ []) ≡ negsuc 0 ∷ pos 4 ∷ []
+unfolding fold everySecond sumRFrom addR coeffR
+odd-fold = refl
+
+-- a fold may sum above 2^30 where its polynomial doesn't
+pub large-fold : fold wholeOps Odd Chebyshev (pos 0 ∷ pos 0 ∷ pos 0 ∷ pos 536870912 ∷ []) ≡ negsuc 536870911 ∷ pos 1073741824 ∷ []
+unfolding fold everySecond sumRFrom addR coeffR
+large-fold = refl
+
+-- R_2 = 2T_2 - 2T_1 + 1
+pub third-fold : fold wholeOps Odd Chebyshev (pos 0 ∷ pos 0 ∷ pos 0 ∷ pos 0 ∷ pos 0 ∷ pos 1 ∷ []) ≡ pos 1 ∷ negsuc 1 ∷ pos 2 ∷ []
+unfolding fold everySecond sumRFrom addR coeffR
+third-fold = refl
+
+pub even-fold : fold wholeOps Even Chebyshev (pos 1 ∷ pos 0 ∷ pos 2 ∷ pos 0 ∷ []) ≡ pos 1 ∷ pos 2 ∷ []
+unfolding fold everySecond
+even-fold = refl
+
+pub odd-monomial : fold wholeOps Odd Monomial (pos 0 ∷ pos 1 ∷ pos 0 ∷ pos 2 ∷ []) ≡ pos 1 ∷ pos 2 ∷ []
+unfolding fold everySecond
+odd-monomial = refl
+
+-- Full is 5, whatever else holds
+pub full-refused : foldRefusal wholeNumbers wholeTests Full [] true ≡ 5
+unfolding foldRefusal
+full-refused = refl
+
+-- Odd at degree 2 is 6, ahead of the 1 at a wrong place
+pub low-refused : foldRefusal wholeNumbers wholeTests Odd (pos 1 ∷ pos 2 ∷ pos 3 ∷ []) true ≡ 6
+unfolding foldRefusal
+low-refused = refl
+
+-- a wrong place is 4, ahead of magnitudes above 2^30
+pub wrong-refused : foldRefusal wholeNumbers wholeTests Even (pos 1073741824 ∷ pos 2 ∷ pos 3 ∷ []) true ≡ 4
+unfolding foldRefusal everySecond allZero
+wrong-refused = refl
+
+-- which are 3, ahead of a short buffer
+pub above-refused : foldRefusal wholeNumbers wholeTests Even (pos 1073741824 ∷ pos 0 ∷ negsuc 0 ∷ []) true ≡ 3
+unfolding foldRefusal everySecond allZero sumAbs
+above-refused = refl
+
+-- magnitudes of just 2^30 are taken
+pub limit-taken : foldRefusal wholeNumbers wholeTests Even (pos 1073741823 ∷ pos 0 ∷ negsuc 0 ∷ []) false ≡ 0
+unfolding foldRefusal everySecond allZero sumAbs
+limit-taken = refl
+
+-- -0 counts as zero, a NaN doesn't
+pub minus-zero-taken : foldRefusal floatNumbers noTests Even (fin false 1 (pos 0) ∷ fin true 0 (pos 0) ∷ fin false 1 (pos 0) ∷ []) false ≡ 0
+unfolding foldRefusal everySecond allZero eq
+minus-zero-taken = refl
+
+pub nan-refused : foldRefusal floatNumbers noTests Even (fin false 1 (pos 0) ∷ nan ∷ fin false 1 (pos 0) ∷ []) false ≡ 4
+unfolding foldRefusal everySecond allZero eq
+nan-refused = refl
+
+-- a first -0 of the odd fold becomes +0, a copied one stays
+pub minus-zero-summed : fold floatOps Odd Chebyshev (fin false 0 (pos 0) ∷ fin true 0 (pos 0) ∷ []) ≡ fin false 0 (pos 0) ∷ []
+unfolding fold everySecond sumRFrom addR coeffR add mul
+minus-zero-summed = refl
+
+pub minus-zero-copied : fold floatOps Odd Monomial (fin false 0 (pos 0) ∷ fin true 0 (pos 0) ∷ []) ≡ fin true 0 (pos 0) ∷ []
+unfolding fold everySecond
+minus-zero-copied = refl

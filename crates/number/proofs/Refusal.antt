@@ -1,0 +1,32 @@
+-- What a refusal says, for every list of tests, and what a refused and an accepted call leave. By recursion on the tests.
+use mathlib.Core.Path.{_≡_, refl}
+use mathlib.Core.Bool.{Bool, true, false}
+use mathlib.Core.List.{List, [], _∷_}
+use Prim.Native.Nat.{ℕ, zero, suc, _<_}
+use native.Mathlib.Omega.{arith}
+use Rattle.number.specs.Refusal.{Test, firstRefusal, unlessRefused, Numbered, NoneHolds, FirstHolds, here, later, RefusalsSay}
+
+-- 0: no test holds
+pub none-holds : (tests : List Test) → Numbered tests → firstRefusal tests ≡ 0 → NoneHolds tests
+none-holds [] numbered none = tt
+none-holds ((true, k) ∷ tests) numbered none = absurd (omega (arith, numbered .0))
+none-holds ((false, k) ∷ tests) numbered none = (refl, none-holds tests (numbered .1) none)
+
+-- any other number: the first test's that holds
+first-holds : (tests : List Test) → Numbered tests → 0 < firstRefusal tests → FirstHolds (firstRefusal tests) tests
+first-holds [] numbered some = absurd (omega arith)
+first-holds ((true, k) ∷ tests) numbered some = here
+first-holds ((false, k) ∷ tests) numbered some = later (first-holds tests (numbered .1) some)
+
+pub refusals-say : RefusalsSay
+refusals-say tests numbered = record { accepted = none-holds tests numbered; refused = first-holds tests numbered }
+
+-- what a refused call answers or leaves, and what an accepted one does
+pub when-refused : {X : Type 0} (k : ℕ) (accepted refused : X) → 0 < k → refused ≡ unlessRefused k accepted refused
+unfolding unlessRefused
+when-refused zero accepted refused some = absurd (omega arith)
+when-refused (suc k) accepted refused some = refl
+
+pub when-accepted : {X : Type 0} {k : ℕ} (accepted refused : X) → k ≡ 0 → accepted ≡ unlessRefused k accepted refused
+unfolding unlessRefused
+when-accepted accepted refused none = rw none
