@@ -1,20 +1,17 @@
 -- The needed powers (document 01, "Choosing the split"), as the least set of their rule.
 use mathlib.Core.Path.{_≡_}
 use mathlib.Core.Bool.{true}
-use Prim.Native.Nat.{ℕ, _+_, _-_, _^_, _≤_, _<_, min}
+use Prim.Native.Nat.{ℕ, _+_, _^_, _≤_, _<_, min}
 use Rattle.algebra.specs.Allowed.{allows}
+use Rattle.algebra.specs.Distance.{distanceOf}
 use Rattle.algebra.specs.declared.Basis.{Basis}
 use Rattle.algebra.specs.declared.Basis.the-variants.{Chebyshev}
 use Rattle.algebra.specs.declared.Parity.{Parity}
 use Rattle.number.specs.Split.{partsOf}
 use Rattle.number.specs.Bits.{topPower}
 
--- the distance of two numbers
-abbrev pub distanceOf : (a b : ℕ) → ℕ
-distanceOf a b = (a - b) + (b - a)
-
 -- the distance of the two parts of n
-abbrev pub partsDistance : ℕ → ℕ
+abbrev pub partsDistance : (n : ℕ) → ℕ
 partsDistance n = distanceOf (partsOf n .a) (partsOf n .b)
 
 -- m is one of those parts of the split of n that are above 1, or in Chebyshev their distance if that is at least 2

@@ -2,32 +2,20 @@
 ghost use mathlib.Core.Path.{_≡_};
 ghost use Prim.Native.Nat.{_<_, _≤_, _+_};
 ghost use lib.ListN.{take};
-ghost use Rattle.algebra.specs.Allowed.{allows};
 ghost use Rattle.needed.specs.inside.Planned.{Planned};
-ghost use Rattle.needed.specs.Needed.{distanceOf, babyLimit};
+ghost use Rattle.needed.specs.Needed.{babyLimit};
 ghost use Rattle.needed.specs.NeededMarks.{padded, isTarget, places, markAt, markParts, sweepFrom, countMarks, greatestTarget, neededMarks, neededCount};
 use algebra::Basis;
 use algebra::Parity;
+use number::PLAN_LIMIT;
+use number::distance;
+use number::is_allowed;
 use number::power_of_two;
+use number::split_degree;
 use number::top_power;
 
-// The distance of two numbers.
-pub fn distance(a: usize, b: usize) -> usize
-    ensures { λ r. ⌜ r ≡ distanceOf a b ⌝ }
-{
-    if a < b { b - a } else { a - b }
-}
-
-// Whether the parity allows power n.
-pub fn is_allowed(n: usize, parity: Parity) -> bool
-    ensures { λ r. ⌜ r ≡ allows parity n ⌝ }
-{
-    match parity {
-        Parity::Full => true,
-        Parity::Even => n % 2 == 0,
-        Parity::Odd => n % 2 == 1,
-    }
-}
+// A mark for each power from 0 to the greatest degree.
+pub const MARKS: usize = PLAN_LIMIT + 1;
 
 // Below it the allowed powers are needed: the base, or the degree + 1.
 fn baby_limit(degree: usize, split: usize) -> usize
@@ -49,7 +37,7 @@ fn greatest_target(degree: usize, split: usize) -> usize
 }
 
 // Whether power n is needed at once: the top power, or an allowed power from 3 below the limit.
-fn is_target(n: usize, top: usize, limit: usize, parity: Parity) -> bool
+fn is_target(parity: Parity, top: usize, limit: usize, n: usize) -> bool
     ensures { λ r. ⌜ r ≡ isTarget parity top limit n ⌝ }
 {
     if n == top {
@@ -61,25 +49,25 @@ fn is_target(n: usize, top: usize, limit: usize, parity: Parity) -> bool
     if limit <= n {
         return false;
     }
-    is_allowed(n, parity)
+    is_allowed(parity, n)
 }
 
 // The marks of the powers that are needed at once, none of them above the last.
-fn target_marks(top: usize, limit: usize, last: usize, parity: Parity) -> [bool; 4096]
+fn target_marks(parity: Parity, top: usize, limit: usize, last: usize) -> [bool; MARKS]
     requires { ⌜ last < 4096 ⌝ }
     ensures { λ r. ⌜ r ≡ padded 4096 (places (isTarget parity top limit) 0 (last + 1)) ⌝ }
 {
-    let mut marks = [false; 4096];
+    let mut marks = [false; MARKS];
     let mut n = 0;
     while n <= last {
-        marks[n] = is_target(n, top, limit, parity);
+        marks[n] = is_target(parity, top, limit, n);
         n += 1;
     }
     marks
 }
 
 // A mark at n, if n is above 1.
-fn mark(marks: &mut [bool; 4096], n: usize)
+fn mark(marks: &mut [bool; MARKS], n: usize)
     requires { ⌜ n < 4096 ⌝ }
     ensures { λ _. ⌜ now (marks .exit) ≡ markAt n (now (marks .entry)) ⌝ }
 {
@@ -89,11 +77,11 @@ fn mark(marks: &mut [bool; 4096], n: usize)
 }
 
 // Marks at the parts of n, and in Chebyshev at their distance.
-fn mark_parts(marks: &mut [bool; 4096], n: usize, basis: Basis)
+fn mark_parts(marks: &mut [bool; MARKS], basis: Basis, n: usize)
     requires { ⌜ (2 ≤ n) × (n < 4096) ⌝ }
     ensures { λ _. ⌜ now (marks .exit) ≡ markParts basis n (now (marks .entry)) ⌝ }
 {
-    let parts = number::split_degree(n);
+    let parts = split_degree(n);
     let a = parts.a;
     let b = parts.b;
     match basis {
@@ -105,7 +93,7 @@ fn mark_parts(marks: &mut [bool; 4096], n: usize, basis: Basis)
 }
 
 // All that the marked powers need, swept from the last place down.
-fn sweep(targets: [bool; 4096], last: usize, basis: Basis) -> [bool; 4096]
+fn sweep(targets: [bool; MARKS], basis: Basis, last: usize) -> [bool; MARKS]
     requires { ⌜ last < 4096 ⌝ }
     ensures { λ r. ⌜ r ≡ sweepFrom basis last targets ⌝ }
 {
@@ -113,7 +101,7 @@ fn sweep(targets: [bool; 4096], last: usize, basis: Basis) -> [bool; 4096]
     let mut n = last;
     while 1 < n {
         if marks[n] {
-            mark_parts(&mut marks, n, basis);
+            mark_parts(&mut marks, basis, n);
         }
         n -= 1;
     }
@@ -121,19 +109,19 @@ fn sweep(targets: [bool; 4096], last: usize, basis: Basis) -> [bool; 4096]
 }
 
 // The marks of all needed powers.
-pub fn needed_marks(degree: usize, split: usize, parity: Parity, basis: Basis) -> [bool; 4096]
+pub fn needed_marks(parity: Parity, basis: Basis, degree: usize, split: usize) -> [bool; MARKS]
     requires { ⌜ Planned degree split ⌝ }
     ensures { λ r. ⌜ r ≡ padded 4096 (neededMarks parity basis degree split) ⌝ }
 {
     let top = top_power(degree);
     let limit = baby_limit(degree, split);
     let last = greatest_target(degree, split);
-    let targets = target_marks(top, limit, last, parity);
-    sweep(targets, last, basis)
+    let targets = target_marks(parity, top, limit, last);
+    sweep(targets, basis, last)
 }
 
 // How many of the first places are marked.
-fn count_marks(marks: [bool; 4096], places: usize) -> usize
+fn count_marks(marks: [bool; MARKS], places: usize) -> usize
     requires { ⌜ places ≤ 4096 ⌝ }
     ensures { λ r. ⌜ r ≡ countMarks (take places marks) ⌝ }
 {
@@ -149,10 +137,10 @@ fn count_marks(marks: [bool; 4096], places: usize) -> usize
 }
 
 // How many powers are needed.
-pub fn count_needed(degree: usize, split: usize, parity: Parity, basis: Basis) -> usize
+pub fn count_needed(parity: Parity, basis: Basis, degree: usize, split: usize) -> usize
     requires { ⌜ Planned degree split ⌝ }
     ensures { λ r. ⌜ r ≡ neededCount parity basis degree split ⌝ }
 {
-    let marks = needed_marks(degree, split, parity, basis);
+    let marks = needed_marks(parity, basis, degree, split);
     count_marks(marks, greatest_target(degree, split) + 1)
 }

@@ -2,6 +2,7 @@
 use crate::limits::DEGREE_LIMIT;
 use crate::powers::power_below;
 ghost use mathlib.Core.Path.{_≡_};
+ghost use Rattle.algebra.specs.Distance.{distanceOf};
 ghost use Rattle.number.specs.Split.{splitOf};
 
 // The two parts of an index, or a refusal with zeros.
@@ -35,4 +36,11 @@ pub fn split_degree(n: usize) -> Parts
         a: p - 1,
         b: n + 1 - p,
     }
+}
+
+// The distance of two numbers.
+pub fn distance(a: usize, b: usize) -> usize
+    ensures { λ r. ⌜ r ≡ distanceOf a b ⌝ }
+{
+    if a < b { b - a } else { a - b }
 }

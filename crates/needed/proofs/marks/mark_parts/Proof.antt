@@ -9,7 +9,7 @@ use denote.Ref.{now}
 use Rattle.number.specs.Split.{splitOf, partsOf}
 use Rattle.number.specs.declared.split.Parts.{Parts}
 use Rattle.number.proofs.SplitParts.{Parted, split-accepted, parted}
-use Rattle.needed.specs.Needed.{distanceOf}
+use Rattle.algebra.specs.Distance.{distanceOf}
 use Rattle.needed.specs.NeededMarks.{markAt, markApart, markParts}
 use Rattle.needed.proofs.MarkLaws.{apart-monomial, apart-chebyshev}
 use Rattle.needed.proofs.marks.mark_parts.Statement.{statement}

@@ -12,10 +12,10 @@ use Rattle.needed.proofs.marks.sweep.Statement.{statement}
 use Rattle.needed.proofs.marks.sweep.Tie as tie
 
 abbrev Inv-loop : tie.InvT-loop
-Inv-loop last basis marks₀ n₀ marks n = (n < 4096) × (sweepFrom basis n marks ≡ sweepFrom basis last marks₀)
+Inv-loop basis last marks₀ n₀ marks n = (n < 4096) × (sweepFrom basis n marks ≡ sweepFrom basis last marks₀)
 
 abbrev μ-loop : tie.MeasureT-loop
-μ-loop last basis marks₀ n₀ marks n = n
+μ-loop basis last marks₀ n₀ marks n = n
 
 loop-holds : tie.Need-loop-holds Inv-loop μ-loop
 loop-holds c = (omega arith, refl)

@@ -13,10 +13,10 @@ use Rattle.needed.proofs.marks.target_marks.Statement.{statement}
 use Rattle.needed.proofs.marks.target_marks.Tie as tie
 
 abbrev Inv-loop : tie.InvT-loop
-Inv-loop top limit last parity marks₀ n₀ marks n = (n ≤ last + 1) × (marks ≡ filled (isTarget parity top limit) 4096 n)
+Inv-loop parity top limit last marks₀ n₀ marks n = (n ≤ last + 1) × (marks ≡ filled (isTarget parity top limit) 4096 n)
 
 abbrev μ-loop : tie.MeasureT-loop
-μ-loop top limit last parity marks₀ n₀ marks n = last + 1 - n
+μ-loop parity top limit last marks₀ n₀ marks n = last + 1 - n
 
 loop-holds : tie.Need-loop-holds Inv-loop μ-loop
 loop-holds c = (omega arith, fill-start _ 4096)
