@@ -22,7 +22,7 @@ use Rattle.algebra.proofs.FoldMagnitudes.{abs-addR, sumAbs-everySecond}
 use Rattle.algebra.proofs.Magnitudes.{sumAbs-drop}
 use Rattle.number.specs.Exact.{AllTo53}
 use Rattle.number.specs.Room.{Roomy}
-use Rattle.number.proofs.Within.{within-append}
+use Rattle.number.proofs.Within.{within-append, within-sum}
 use Rattle.lists.specs.Tree.{Tree, leaf, cut, treeOf}
 use Rattle.lists.specs.Arrange.{arranged}
 use Rattle.lists.specs.TreeFacts.{Sound}
@@ -34,12 +34,6 @@ use Rattle.lists.proofs.Calls.{sum-roomy}
 
 -- ---- through the cuts
 
--- from the sum of the magnitudes
-pub all-of-sum : (l : List ℤ) → sumAbs l ≤ 2 ^ 53 → AllTo53 l
-unfolding sumAbs
-all-of-sum [] small = tt
-all-of-sum (x ∷ l) small = (omega arith, all-of-sum l (omega arith))
-
 -- the sum of a list with room
 pub roomy-sum : (l : List ℤ) → Roomy l → sumAbs l ≤ 2 ^ 53
 unfolding Roomy sumAbs
@@ -48,7 +42,7 @@ roomy-sum (x ∷ l) room = le-trans (le-mul-of-pos-right {m = suc (length l)} (s
 
 pub arranged-to-53 : (basis : Basis) (base : ℕ) (tree : Tree) (c : List ℤ) → Sound base tree (length c) → Roomy c → AllTo53 (arranged wholeOps basis tree c)
 unfolding arranged
-arranged-to-53 basis base leaf c sound room = all-of-sum c (roomy-sum c room)
+arranged-to-53 basis base leaf c sound room = within-sum (2 ^ 53) c (roomy-sum c room)
 arranged-to-53 basis base (cut p low high) c sound room =
     let c₁ = cutAt wholeOps basis p c in
     let under : p < length c = sound .under in

@@ -11,19 +11,19 @@ use Rattle.algebra.specs.Operations.{wholeOps}
 use Rattle.algebra.specs.Cut.{cutAt}
 use Rattle.algebra.specs.Magnitude.{sumAbs}
 use Rattle.algebra.specs.declared.Basis.{Basis}
-use Rattle.algebra.proofs.Magnitudes.{abs-getD}
 use Rattle.algebra.proofs.CutPlaces.{cut-length}
 use Rattle.algebra.proofs.CutMagnitudes.{low-magnitude, high-magnitude}
-use Rattle.number.specs.Room.{Doubles, Roomy}
+use Rattle.number.specs.Exact.{AllTo52}
+use Rattle.number.specs.Room.{Roomy}
+use Rattle.number.proofs.Within.{within-sum}
 
 -- with two coefficients or more the sum itself can be doubled
 pub roomy-half : (c : List ℤ) → 2 ≤ length c → Roomy c → sumAbs c ≤ 2 ^ 52
 unfolding Roomy
 roomy-half c two room = let twice : sumAbs c * 2 ≤ sumAbs c * length c = mul-le-mul-left (sumAbs c) two in omega (arith, room)
 
-pub roomy-doubles : (c : List ℤ) → 2 ≤ length c → Roomy c → Doubles c
-unfolding Doubles
-roomy-doubles c two room i = omega (arith, abs-getD c i, roomy-half c two room)
+pub roomy-to-52 : (c : List ℤ) → 2 ≤ length c → Roomy c → AllTo52 c
+roomy-to-52 c two room = within-sum (2 ^ 52) c (roomy-half c two room)
 
 twice-on-half : {bound a : ℕ} (m S n : ℕ) → a ≤ 2 * S → m + m ≤ n → S * n ≤ bound → a * m ≤ bound
 twice-on-half m S n sum short room =

@@ -20,6 +20,7 @@ use Rattle.number.specs.Numbers.{floatOps}
 use Rattle.number.specs.Refusal.{unlessRefused}
 use Rattle.number.specs.Room.{Roomy}
 use Rattle.number.proofs.CutSame.{cuts-same}
+use Rattle.number.proofs.Within.{within-sum}
 use Rattle.number.proofs.Maps.{map-take, map-drop, map-sets}
 use Rattle.counts.specs.Choice.{splitFor}
 use Rattle.counts.specs.declared.choice.SplitStrategy.{SplitStrategy}
@@ -29,10 +30,10 @@ use Rattle.lists.specs.Arrange.{arranged, leavesOf}
 use Rattle.lists.specs.TreeFacts.{Sound}
 use Rattle.lists.specs.ListCall.{anySum, callRefusal, callAnswer, callCoefficients, callBoundaries}
 use Rattle.lists.specs.Promises.{ListsSame, ArrangedSame}
-use Rattle.lists.proofs.Rooms.{roomy-low, roomy-high}
+use Rattle.lists.proofs.Rooms.{roomy-to-52, roomy-low, roomy-high}
 use Rattle.lists.proofs.Refusals.{all-passed}
 use Rattle.lists.proofs.Calls.{sum-roomy}
-use Rattle.lists.proofs.Bounds.{roomy-sum, all-of-sum}
+use Rattle.lists.proofs.Bounds.{roomy-sum}
 use Rattle.lists.proofs.Arranging.{low-size, high-size}
 use Rattle.lists.proofs.TreeFactsProved.{trees-sound}
 
@@ -45,7 +46,9 @@ same-tree basis base leaf c sound room = refl
 same-tree basis base (cut p low high) c sound room =
     let c₁ = cutAt wholeOps basis p c in
     let under : p < length c = sound .under in
-    rw (cuts-same basis p c .written (all-of-sum c (roomy-sum c room)), map-take num p c₁, map-drop num p c₁, map-append)
+    let same = cuts-same basis p c in
+    let written = same .within (roomy-to-52 c (omega (arith, sound .half)) room) in
+    rw (same .written (within-sum (2 ^ 53) c (roomy-sum c room)) written, map-take num p c₁, map-drop num p c₁, map-append)
     (ap₂ _++_
     (same-tree basis base low (take p c₁) (rw (low-size wholeOps basis p c under) (sound .low)) (roomy-low basis p c (omega arith) room))
     (same-tree basis base high (drop p c₁) (rw (high-size wholeOps basis p c under) (sound .high)) (roomy-high basis p c (omega arith) (sound .half) room)))

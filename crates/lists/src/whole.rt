@@ -18,13 +18,14 @@ ghost use lib.Seq.{sets};
 ghost use Rattle.algebra.specs.Operations.{wholeOps};
 ghost use Rattle.algebra.specs.Cut.{cutAt};
 ghost use Rattle.number.specs.SumLimit.{sumFits};
-ghost use Rattle.number.specs.Room.{Doubles, Roomy};
+ghost use Rattle.number.specs.Exact.{AllTo52};
+ghost use Rattle.number.specs.Room.{Roomy};
 ghost use Rattle.lists.specs.Listing.{Ready, Lists};
 ghost use Rattle.lists.specs.ListCall.{ListCall};
 
 // The coefficients cut at p.
 fn cut_coeffs(basis: Basis, c: &mut [i64], p: usize)
-    requires { ⌜ (p < length (now c)) × ((length (now c) ≤ p + p) × Doubles (now c)) ⌝ }
+    requires { ⌜ (p < length (now c)) × ((length (now c) ≤ p + p) × AllTo52 (now c)) ⌝ }
     ensures { λ _. ⌜ now (c .exit) ≡ cutAt wholeOps basis p (now (c .entry)) ⌝ }
 {
     match basis {
