@@ -40,16 +40,18 @@ AllTo53 c = Within (2 ^ 53) c
 abbrev pub AllTo52 : List ℤ → Type 0
 AllTo52 c = Within (2 ^ 52) c
 
--- The f64 of a whole number up to 2^53 is that number, and never -0. Where operands and exact result are up to 2^53, an operation gives the f64
--- of the exact result. A product by a number up to 2 stands in a sum, and an opposite is that of a nonzero number, since alone they can be -0;
--- an opposite has the magnitude of its operand.
+-- f64 on whole numbers up to 2^53. An operation gives the f64 of the exact result where operands and exact result are up to 2^53. A product
+-- by a number up to 2 stands in a sum, and an opposite is that of a nonzero number, since alone they can be -0.
 pub record ExactTo53 : Type 0 where
+  -- the f64 of a number is that number, and as an i64 it is read back; it is never -0, and two numbers have two f64
   pub is-whole : (z : ℤ) → To53 z → IsWhole (num z) z
   pub read-back : (z : ℤ) → To53 z → toSigned 63 (num z) ≡ z
   pub never-minus-zero : (z : ℤ) → To53 z → num z ≡ fin true 0 (pos 0) → ⊥
   pub told-apart : (a b : ℤ) → To53 a → To53 b → num a ≡ num b → a ≡ b
+  -- the constants
   pub zero-is : floatOps .zero ≡ num (pos 0)
   pub one-is : floatOps .one ≡ num (pos 1)
+  -- the operations; an opposite has the magnitude of its operand
   pub doubled : (a : ℤ) → To53 a → To53 (pos 2 *ℤ a) → double floatOps (num a) ≡ num (pos 2 *ℤ a)
   pub added : (a b : ℤ) → To53 a → To53 b → To53 (a +ℤ b) → floatOps .add (num a) (num b) ≡ num (a +ℤ b)
   pub subtracted : (a b : ℤ) → To53 a → To53 b → To53 (a -ℤ b) → floatOps .sub (num a) (num b) ≡ num (a -ℤ b)
