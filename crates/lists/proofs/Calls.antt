@@ -14,7 +14,7 @@ use Rattle.algebra.specs.Magnitude.{sumAbs}
 use Rattle.algebra.specs.declared.Basis.{Basis}
 use Rattle.algebra.specs.declared.Parity.{Parity}
 use Rattle.number.specs.Refusal.{unlessRefused}
-use Rattle.number.specs.Room.{Roomy}
+use Rattle.number.specs.Room.{SumByLengthTo53}
 use Rattle.number.specs.inside.Between.{Between}
 use Rattle.counts.specs.Choice.{splitFor}
 use Rattle.counts.specs.declared.choice.SplitStrategy.{SplitStrategy}
@@ -37,10 +37,10 @@ filled : {X : Type 0} {k : ℕ} (written before : X) → k ≡ 0 → written ≡
 unfolding unlessRefused
 filled written before none = rw none
 
--- coefficients within the limits have room to double
-pub sum-roomy : (c : List ℤ) → sumAbs c ≤ 2 ^ 30 → length c ≤ 4096 → Roomy c
-unfolding Roomy
-sum-roomy c fits few = le-trans (mul-le-mul fits few) (omega arith)
+-- of coefficients within the limits: 2^30 times 4,096 is at most 2^53
+pub sum-by-length-start : (c : List ℤ) → sumAbs c ≤ 2 ^ 30 → length c ≤ 4096 → SumByLengthTo53 c
+unfolding SumByLengthTo53
+sum-by-length-start c fits few = le-trans (mul-le-mul fits few) (omega arith)
 
 -- a whole polynomial can be listed from the first place on
 pub whole-ready : {A : Type 0} (c : List A) (bounds : List ℕ) (s : ℕ) (lead : Bool) → 2 ≤ length c → length c ≤ 4096 → s ≤ 12

@@ -1,4 +1,5 @@
--- Room to double is kept at every cut: low has at most the sum of the magnitudes, high at most twice it on at most half the places.
+-- The sum of the magnitudes times the number of coefficients is at most 2^53 after every cut too: low has at most the sum, high at most
+-- twice the sum on at most half the places.
 use mathlib.Core.Path.{_≡_, ap, _∙_}
 use mathlib.Core.List.{List}
 use Prim.Native.Nat.{ℕ, _+_, _*_, _≤_, _^_}
@@ -11,19 +12,19 @@ use Rattle.algebra.specs.Operations.{wholeOps}
 use Rattle.algebra.specs.Cut.{cutAt}
 use Rattle.algebra.specs.Magnitude.{sumAbs}
 use Rattle.algebra.specs.declared.Basis.{Basis}
-use Rattle.algebra.proofs.Magnitudes.{abs-getD}
 use Rattle.algebra.proofs.CutPlaces.{cut-length}
 use Rattle.algebra.proofs.CutMagnitudes.{low-magnitude, high-magnitude}
-use Rattle.number.specs.Room.{Doubles, Roomy}
+use Rattle.number.specs.Exact.{AllTo52}
+use Rattle.number.specs.Room.{SumByLengthTo53}
+use Rattle.number.proofs.Within.{within-sum}
 
--- with two coefficients or more the sum itself can be doubled
-pub roomy-half : (c : List ℤ) → 2 ≤ length c → Roomy c → sumAbs c ≤ 2 ^ 52
-unfolding Roomy
-roomy-half c two room = let twice : sumAbs c * 2 ≤ sumAbs c * length c = mul-le-mul-left (sumAbs c) two in omega (arith, room)
+-- with two coefficients or more the sum is at most 2^52
+pub sum-by-length-half : (c : List ℤ) → 2 ≤ length c → SumByLengthTo53 c → sumAbs c ≤ 2 ^ 52
+unfolding SumByLengthTo53
+sum-by-length-half c two room = let twice : sumAbs c * 2 ≤ sumAbs c * length c = mul-le-mul-left (sumAbs c) two in omega (arith, room)
 
-pub roomy-doubles : (c : List ℤ) → 2 ≤ length c → Roomy c → Doubles c
-unfolding Doubles
-roomy-doubles c two room i = omega (arith, abs-getD c i, roomy-half c two room)
+pub sum-by-length-to-52 : (c : List ℤ) → 2 ≤ length c → SumByLengthTo53 c → AllTo52 c
+sum-by-length-to-52 c two room = within-sum (2 ^ 52) c (sum-by-length-half c two room)
 
 twice-on-half : {bound a : ℕ} (m S n : ℕ) → a ≤ 2 * S → m + m ≤ n → S * n ≤ bound → a * m ≤ bound
 twice-on-half m S n sum short room =
@@ -34,16 +35,16 @@ twice-on-half m S n sum short room =
     doubled x = omega arith
 
 module _ (basis : Basis) (p : ℕ) (c : List ℤ) (under : p ≤ length c) where
-  pub roomy-low : Roomy c → Roomy (take p (cutAt wholeOps basis p c))
-  unfolding Roomy
-  roomy-low room =
+  pub sum-by-length-low : SumByLengthTo53 c → SumByLengthTo53 (take p (cutAt wholeOps basis p c))
+  unfolding SumByLengthTo53
+  sum-by-length-low room =
       let long = cut-length wholeOps p c under basis in
       let size : length (take p (cutAt wholeOps basis p c)) ≤ length c = omega (arith, length-take-le p (cutAt wholeOps basis p c) (omega arith)) in
       le-trans (mul-le-mul (low-magnitude p c under basis) size) room
 
-  pub roomy-high : length c ≤ p + p → Roomy c → Roomy (drop p (cutAt wholeOps basis p c))
-  unfolding Roomy
-  roomy-high half room =
+  pub sum-by-length-high : length c ≤ p + p → SumByLengthTo53 c → SumByLengthTo53 (drop p (cutAt wholeOps basis p c))
+  unfolding SumByLengthTo53
+  sum-by-length-high half room =
       let long = cut-length wholeOps p c under basis in
       let size = length-drop p (cutAt wholeOps basis p c) in
       twice-on-half (length (drop p (cutAt wholeOps basis p c))) (sumAbs c) (length c) (high-magnitude p c under basis) (omega arith) room

@@ -1,9 +1,9 @@
 -- The f64 call writes equal numbers: `num` carries whole numbers up to 2^53 to f64 and keeps doubling and subtraction, and all numbers at a cut
 -- are within 2^53. So each cut, the whole arrangement and both buffers are carried over; answer and boundaries see no coefficient at all.
-use mathlib.Core.Path.{_≡_, refl, ap, ap₂, sym, _∙_}
+use mathlib.Core.Path.{_≡_, refl, ap, ap₂, _∙_}
 use mathlib.Core.Bool.{true}
 use mathlib.Core.List.{List, _++_, map, map-append}
-use Prim.Native.Nat.{ℕ, zero, suc, _+_, _-_, _^_, _≤_, _<_}
+use Prim.Native.Nat.{ℕ, zero, suc, _+_, _-_, _^_, _<_}
 use native.Mathlib.Omega.{arith}
 use borrow.Author.Tests.{leb-true}
 use lib.IntN.{ℤ}
@@ -18,8 +18,9 @@ use Rattle.number.specs.Exact.{num}
 use Rattle.number.specs.SumLimit.{sumFits}
 use Rattle.number.specs.Numbers.{floatOps}
 use Rattle.number.specs.Refusal.{unlessRefused}
-use Rattle.number.specs.Room.{Roomy}
+use Rattle.number.specs.Room.{SumByLengthTo53}
 use Rattle.number.proofs.CutSame.{cuts-same}
+use Rattle.number.proofs.Within.{within-sum}
 use Rattle.number.proofs.Maps.{map-take, map-drop, map-sets}
 use Rattle.counts.specs.Choice.{splitFor}
 use Rattle.counts.specs.declared.choice.SplitStrategy.{SplitStrategy}
@@ -29,26 +30,29 @@ use Rattle.lists.specs.Arrange.{arranged, leavesOf}
 use Rattle.lists.specs.TreeFacts.{Sound}
 use Rattle.lists.specs.ListCall.{anySum, callRefusal, callAnswer, callCoefficients, callBoundaries}
 use Rattle.lists.specs.Promises.{ListsSame, ArrangedSame}
-use Rattle.lists.proofs.Rooms.{roomy-low, roomy-high}
+use Rattle.lists.proofs.Rooms.{sum-by-length-to-52, sum-by-length-low, sum-by-length-high}
 use Rattle.lists.proofs.Refusals.{all-passed}
-use Rattle.lists.proofs.Calls.{sum-roomy}
-use Rattle.lists.proofs.Bounds.{roomy-sum, all-of-sum}
+use Rattle.lists.proofs.Calls.{sum-by-length-start}
+use Rattle.lists.proofs.Bounds.{sum-by-length-sum}
 use Rattle.lists.proofs.Arranging.{low-size, high-size}
 use Rattle.lists.proofs.TreeFactsProved.{trees-sound}
 
 -- ---- a tree
 
-same-tree : (basis : Basis) (base : ℕ) (tree : Tree) (c : List ℤ) → Sound base tree (length c) → Roomy c
+same-tree : (basis : Basis) (base : ℕ) (tree : Tree) (c : List ℤ) → Sound base tree (length c) → SumByLengthTo53 c
     → arranged floatOps basis tree (map num c) ≡ map num (arranged wholeOps basis tree c)
 unfolding arranged
 same-tree basis base leaf c sound room = refl
 same-tree basis base (cut p low high) c sound room =
     let c₁ = cutAt wholeOps basis p c in
     let under : p < length c = sound .under in
-    rw (cuts-same basis p c .written (all-of-sum c (roomy-sum c room)), map-take num p c₁, map-drop num p c₁, map-append)
+    let same = cuts-same basis p c in
+    let written = same .within (sum-by-length-to-52 c (omega (arith, sound .half)) room) in
+    rw (same .written (within-sum (2 ^ 53) c (sum-by-length-sum c room)) written, map-take num p c₁, map-drop num p c₁, map-append)
     (ap₂ _++_
-    (same-tree basis base low (take p c₁) (rw (low-size wholeOps basis p c under) (sound .low)) (roomy-low basis p c (omega arith) room))
-    (same-tree basis base high (drop p c₁) (rw (high-size wholeOps basis p c under) (sound .high)) (roomy-high basis p c (omega arith) (sound .half) room)))
+    (same-tree basis base low (take p c₁) (rw (low-size wholeOps basis p c under) (sound .low)) (sum-by-length-low basis p c (omega arith) room))
+    (same-tree basis base high (drop p c₁) (rw (high-size wholeOps basis p c under) (sound .high))
+    (sum-by-length-high basis p c (omega arith) (sound .half) room)))
 
 pub arranged-same : ArrangedSame
 arranged-same basis whole s lead c room some few from =
@@ -77,14 +81,15 @@ module _ (basis : Basis) (parity : Parity) (strategy : SplitStrategy) (c out : L
   same-boundaries = rw (same-refusal, length-map c num)
 
   -- without a refusal the whole listing is carried over
-  same-listing : callRefusal sumFits basis parity strategy c out bounds ≡ 0 → arranged floatOps basis tree (map num c) ≡ map num (arranged wholeOps basis tree c)
+  same-listing : callRefusal sumFits basis parity strategy c out bounds ≡ 0
+      → arranged floatOps basis tree (map num c) ≡ map num (arranged wholeOps basis tree c)
   unfolding callRefusal
   same-listing none =
       let passed = all-passed (sumFits c) (length c) (length out) (leavesOf tree) (length bounds) none .0 in
       let several = passed .several in
       let few = passed .few in
       arranged-same basis (length c - 1) (splitFor strategy parity basis (length c - 1)) (leads strategy) c
-      (sum-roomy c (leb-true (sumAbs c) (2 ^ 30) fits) few) (omega arith) few
+      (sum-by-length-start c (leb-true (sumAbs c) (2 ^ 30) fits) few) (omega arith) few
       (split-range strategy parity basis (length c - 1) (record { from = omega arith; to = omega arith }) .from)
 
   same-coefficients : callCoefficients floatOps anySum basis parity strategy (map num c) (map num out) bounds

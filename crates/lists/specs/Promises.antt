@@ -13,7 +13,7 @@ use Rattle.algebra.specs.declared.Parity.{Parity}
 use Rattle.number.specs.Numbers.{floatOps}
 use Rattle.number.specs.Exact.{num, AllTo53}
 use Rattle.number.specs.SumLimit.{sumFits}
-use Rattle.number.specs.Room.{Roomy}
+use Rattle.number.specs.Room.{SumByLengthTo53}
 use Rattle.counts.specs.declared.choice.SplitStrategy.{SplitStrategy}
 use Rattle.lists.specs.Tree.{treeOf}
 use Rattle.lists.specs.Arrange.{arranged}
@@ -46,7 +46,7 @@ abbrev pub ListsSame : Type 0
 ListsSame = (basis : Basis) (parity : Parity) (strategy : SplitStrategy) (c out : List ℤ) (bounds : List ℕ) → sumFits c ≡ true
     → CallsSame basis parity strategy c out bounds
 
--- the same for the lister alone, on any coefficients with room to double
+-- the same for the lister alone, on any coefficients whose magnitudes sum to a number that times their count is at most 2^53
 abbrev pub ArrangedSame : Type 0
-ArrangedSame = (basis : Basis) (whole s : ℕ) (lead : Bool) (c : List ℤ) → Roomy c → 0 < length c → length c ≤ 4096 → 1 ≤ s
+ArrangedSame = (basis : Basis) (whole s : ℕ) (lead : Bool) (c : List ℤ) → SumByLengthTo53 c → 0 < length c → length c ≤ 4096 → 1 ≤ s
     → arranged floatOps basis (treeOf lead whole (length c - 1) s) (map num c) ≡ map num (listedAs basis whole s lead c)

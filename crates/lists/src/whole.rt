@@ -18,13 +18,14 @@ ghost use lib.Seq.{sets};
 ghost use Rattle.algebra.specs.Operations.{wholeOps};
 ghost use Rattle.algebra.specs.Cut.{cutAt};
 ghost use Rattle.number.specs.SumLimit.{sumFits};
-ghost use Rattle.number.specs.Room.{Doubles, Roomy};
+ghost use Rattle.number.specs.Exact.{AllTo52};
+ghost use Rattle.number.specs.Room.{SumByLengthTo53};
 ghost use Rattle.lists.specs.Listing.{Ready, Lists};
 ghost use Rattle.lists.specs.ListCall.{ListCall};
 
 // The coefficients cut at p.
 fn cut_coeffs(basis: Basis, c: &mut [i64], p: usize)
-    requires { ⌜ (p < length (now c)) × ((length (now c) ≤ p + p) × Doubles (now c)) ⌝ }
+    requires { ⌜ (p < length (now c)) × ((length (now c) ≤ p + p) × AllTo52 (now c)) ⌝ }
     ensures { λ _. ⌜ now (c .exit) ≡ cutAt wholeOps basis p (now (c .entry)) ⌝ }
 {
     match basis {
@@ -45,7 +46,7 @@ pub fn list_coeffs(
     at: usize,
     n: usize,
 ) -> usize
-    requires { ⌜ Ready whole split lead at n (now c) (now bounds) × Roomy (now c) ⌝ }
+    requires { ⌜ Ready whole split lead at n (now c) (now bounds) × SumByLengthTo53 (now c) ⌝ }
     ensures { λ r. ⌜ Lists wholeOps basis whole split lead at n (now (c .entry)) (now (bounds .entry)) (now (c .exit)) (now (bounds .exit)) r ⌝ }
 {
     let base = power_of_two(split);
@@ -70,7 +71,7 @@ fn list_slice(
     at: usize,
     n: usize,
 ) -> usize
-    requires { ⌜ Ready whole split lead at n (now c) (now bounds) × (Roomy (now c) × (length (now c) - 1 < 2 ^ split)) ⌝ }
+    requires { ⌜ Ready whole split lead at n (now c) (now bounds) × (SumByLengthTo53 (now c) × (length (now c) - 1 < 2 ^ split)) ⌝ }
     ensures { λ r. ⌜ Lists wholeOps basis whole split lead at n (now (c .entry)) (now (bounds .entry)) (now (c .exit)) (now (bounds .exit)) r ⌝ }
 {
     let degree = c.len() - 1;

@@ -13,11 +13,10 @@ use Rattle.algebra.specs.declared.Basis.the-variants.{Monomial, Chebyshev}
 use Rattle.algebra.proofs.Magnitudes.{abs-sub, abs-double}
 use Rattle.number.specs.Numbers.{floatOps}
 use Rattle.number.specs.Exact.{num, Within, AllTo53}
-use Rattle.number.specs.Room.{Doubles}
 use Rattle.number.specs.CutSame.{CutsSame}
 use Rattle.number.proofs.Exact.{exact}
 use Rattle.number.proofs.Maps.{map-take, map-drop, map-reverse}
-use Rattle.number.proofs.Within.{within-each, within-take, within-drop, within-append, within-reverse}
+use Rattle.number.proofs.Within.{within-take, within-drop, within-append, within-left, within-right, within-reverse, within-reversed}
 
 -- the two lists that are taken one from the other: the first p from the end, and those beyond p
 module _ (p : ℕ) (c : List ℤ) where
@@ -63,36 +62,41 @@ module _ (n : ℕ) where
 
 -- ---- equal numbers
 
-differences-num : (c d : List ℤ) → AllTo53 c → AllTo53 d → differences floatOps (map num c) (map num d) ≡ map num (differences wholeOps c d)
+differences-num : (c d : List ℤ) → AllTo53 c → AllTo53 d → AllTo53 (differences wholeOps c d)
+    → differences floatOps (map num c) (map num d) ≡ map num (differences wholeOps c d)
 unfolding differences
-differences-num [] d g h = refl
-differences-num (x ∷ c) [] g h = refl
-differences-num (x ∷ c) (y ∷ d) g h = ap₂ _∷_ (exact .subtracted x y (g .0) (h .0)) (differences-num c d (g .1) (h .1))
+differences-num [] d g h r = refl
+differences-num (x ∷ c) [] g h r = refl
+differences-num (x ∷ c) (y ∷ d) g h r = ap₂ _∷_ (exact .subtracted x y (g .0) (h .0) (r .0)) (differences-num c d (g .1) (h .1) (r .1))
 
-double-num : (c : List ℤ) → AllTo53 c → map (double floatOps) (map num c) ≡ map num (map (double wholeOps) c)
-double-num [] h = refl
-double-num (x ∷ c) h = ap₂ _∷_ (exact .doubled x (h .0)) (double-num c (h .1))
+double-num : (c : List ℤ) → AllTo53 c → AllTo53 (map (double wholeOps) c) → map (double floatOps) (map num c) ≡ map num (map (double wholeOps) c)
+double-num [] h r = refl
+double-num (x ∷ c) h r = ap₂ _∷_ (exact .doubled x (h .0) (r .0)) (double-num c (h .1) (r .1))
 
-doubled-num : (c : List ℤ) → AllTo53 c → doubled floatOps (map num c) ≡ map num (doubled wholeOps c)
+doubled-num : (c : List ℤ) → AllTo53 c → AllTo53 (doubled wholeOps c) → doubled floatOps (map num c) ≡ map num (doubled wholeOps c)
 unfolding doubled
-doubled-num [] h = refl
-doubled-num (x ∷ c) h = ap (num x ∷_) (double-num c (h .1))
+doubled-num [] h r = refl
+doubled-num (x ∷ c) h r = ap (num x ∷_) (double-num c (h .1) (r .1))
 
-lowered-num : (p : ℕ) (c : List ℤ) → AllTo53 c → lowered floatOps p (map num c) ≡ map num (lowered wholeOps p c)
+lowered-num : (p : ℕ) (c : List ℤ) → AllTo53 c → AllTo53 (lowered wholeOps p c) → lowered floatOps p (map num c) ≡ map num (lowered wholeOps p c)
 unfolding lowered
-lowered-num p c h =
+lowered-num p c h r =
+    let taken = differences wholeOps (near p c) (far p c) in
     ap reverse
     (ap₂ (differences floatOps) (ap reverse (map-take num p c) ∙ map-reverse num (take p c)) (map-drop num (suc p) c)
-    ∙ differences-num (near p c) (far p c) (within-near p c (2 ^ 53) h) (within-drop (2 ^ 53) (suc p) c h))
-    ∙ map-reverse num (differences wholeOps (near p c) (far p c))
+    ∙ differences-num (near p c) (far p c) (within-near p c (2 ^ 53) h) (within-drop (2 ^ 53) (suc p) c h) (within-reversed (2 ^ 53) taken r))
+    ∙ map-reverse num taken
 
-cut-num : (basis : Basis) (p : ℕ) (c : List ℤ) → AllTo53 c → cutAt floatOps basis p (map num c) ≡ map num (cutAt wholeOps basis p c)
+cut-num : (basis : Basis) (p : ℕ) (c : List ℤ) → AllTo53 c → AllTo53 (cutAt wholeOps basis p c)
+    → cutAt floatOps basis p (map num c) ≡ map num (cutAt wholeOps basis p c)
 unfolding cutAt
-cut-num Monomial p c h = refl
-cut-num Chebyshev p c h =
-    ap₂ _++_ (lowered-num p c h) (ap (doubled floatOps) (map-drop num p c) ∙ doubled-num (drop p c) (within-drop (2 ^ 53) p c h))
-    ∙ sym (map-append num (lowered wholeOps p c) (doubled wholeOps (drop p c)))
+cut-num Monomial p c h r = refl
+cut-num Chebyshev p c h r =
+    let low = lowered wholeOps p c in
+    let high = doubled wholeOps (drop p c) in
+    ap₂ _++_ (lowered-num p c h (within-left (2 ^ 53) low high r))
+    (ap (doubled floatOps) (map-drop num p c) ∙ doubled-num (drop p c) (within-drop (2 ^ 53) p c h) (within-right (2 ^ 53) low high r))
+    ∙ sym (map-append num low high)
 
 pub cuts-same : CutsSame
-unfolding Doubles
-cuts-same basis p c = record { written = cut-num basis p c; within = λ h. within-cut (2 ^ 52) basis p c (within-each (2 ^ 52) c h) }
+cuts-same basis p c = record { written = cut-num basis p c; within = within-cut (2 ^ 52) basis p c }

@@ -1,4 +1,5 @@
--- f64 is exact on whole numbers up to 2^53: an operation rounds once, and so does `num` of the exact result.
+-- f64 is exact on whole numbers up to 2^53: rounding leaves such a number as it is, so its f64 has its value. An operation rounds the exact
+-- result once, and so does `num` of that result, so the two are one float.
 use mathlib.Core.Path.{_≡_, refl, sym, ap, _∙_}
 use mathlib.Core.Bool.{true, false}
 use Prim.Native.Nat.{ℕ, zero, _≤_, _^_}
@@ -10,7 +11,7 @@ use lib.Ieee.{Float, fin, binary64, add, mul, toSigned, inFloat, ofInt}
 use lib.Ieee.Back.{positive-back, negative-back}
 use Rattle.number.specs.Numbers.{floatOps}
 use Rattle.number.specs.Exact.{num, To53, ExactTo53}
-use Rattle.number.proofs.WholeFloats.{of-int, add-int, sub-int, mul-whole, scale-int, neg-int}
+use Rattle.number.proofs.WholeFloats.{of-int, value-is, add-int, sub-int, mul-whole, scale-int, neg-int}
 
 -- a number is read back from its float
 read-back : (z : ℤ) → To53 z → toSigned 63 (num z) ≡ z
@@ -30,9 +31,9 @@ plus-one : floatOps .one ≡ num (pos 1)
 unfolding ofInt
 plus-one = refl
 
-product-in-sum : (q c v : ℤ) → To53 q → To53 c → natAbs v ≤ 2 → To53 (c *ℤ v)
+product-in-sum : (q c v : ℤ) → To53 q → To53 c → natAbs v ≤ 2 → To53 (c *ℤ v) → To53 (q +ℤ c *ℤ v)
     → floatOps .add (num q) (floatOps .mul (num c) (num v)) ≡ num (q +ℤ c *ℤ v)
-product-in-sum q c v hq hc hv hp =
+product-in-sum q c v hq hc hv hp hr =
     let v-small : To53 v = le-trans hv (lit≤ tt) in
     add-int binary64 q (mul binary64 (num c) (num v)) (c *ℤ v) hq
     (mul-whole binary64 (num c) (num v) c v (of-int binary64 c hc) (of-int binary64 v v-small) hp)
@@ -51,13 +52,15 @@ not-minus-zero z h e =
 
 pub exact : ExactTo53
 exact = record {
-  zero-is = plus-zero;
-  one-is = plus-one;
-  doubled = λ a h. ap (λ (x : Float). mul binary64 x (num a)) two-is ∙ scale-int binary64 1 a (lit≤ tt) h;
-  added = λ a b g h. add-int binary64 a (num b) b g (of-int binary64 b h);
-  subtracted = λ a b g h. sub-int binary64 a (num b) b g (of-int binary64 b h);
-  added-product = product-in-sum;
-  opposite = λ a h. neg-int binary64 a h;
+  is-whole = λ z h. value-is (num z) z (of-int binary64 z h);
+  read-back = read-back;
   never-minus-zero = not-minus-zero;
   told-apart = λ a b g h e. sym (read-back a g) ∙ ap (toSigned 63) e ∙ read-back b h;
+  zero-is = plus-zero;
+  one-is = plus-one;
+  doubled = λ a h r. ap (λ (x : Float). mul binary64 x (num a)) two-is ∙ scale-int binary64 1 a (lit≤ tt) h;
+  added = λ a b g h r. add-int binary64 a (num b) b g (of-int binary64 b h);
+  subtracted = λ a b g h r. sub-int binary64 a (num b) b g (of-int binary64 b h);
+  added-product = product-in-sum;
+  opposite = λ a g h. neg-int binary64 a h;
 }

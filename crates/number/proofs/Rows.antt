@@ -62,19 +62,22 @@ nonzero (suc (suc i)) (suc k) h = rw (coeff-later integers k i) (nonzero (suc i)
 sums : {x y z : Float} (a b c : ℤ) → x ≡ num a → y ≡ num b → z ≡ num c → natAbs a ≤ 8 → natAbs b ≤ 8 → natAbs c ≤ 8
     → floatOps .add (floatOps .add x y) z ≡ num (a +ℤ b +ℤ c)
 sums a b c ex ey ez ha hb hc =
-    ap₂ (floatOps .add) (ap₂ (floatOps .add) ex ey ∙ exact .added a b (omega arith) (omega arith)) ez
-    ∙ exact .added (a +ℤ b) c (omega (arith, abs-add a b)) (omega arith)
+    let first = abs-add a b in
+    let both = abs-add (a +ℤ b) c in
+    ap₂ (floatOps .add) (ap₂ (floatOps .add) ex ey ∙ exact .added a b (omega arith) (omega arith) (omega arith)) ez
+    ∙ exact .added (a +ℤ b) c (omega arith) (omega arith) (omega arith)
 
 -- 2T_1 times a row of numbers at most 2
 times-num : (r : ℕ → Float) (s : ℕ → ℤ) → ((i : ℕ) → r i ≡ num (s i)) → ((i : ℕ) → natAbs (s i) ≤ 2) → (i : ℕ)
     → (times2T1 floatOps r i ≡ num (times2T1 wholeOps s i)) × (natAbs (times2T1 wholeOps s i) ≤ 8)
-times-num r s e h zero = (
-  ap₂ (floatOps .add) (exact .zero-is) (e 1) ∙ exact .added (pos 0) (s 1) (omega arith) (omega (arith, h 1)),
-  omega (arith, abs-add (pos 0) (s 1), h 1),
-)
+times-num r s e h zero =
+    let all = abs-add (pos 0) (s 1) in
+    let next = h 1 in
+    (ap₂ (floatOps .add) (exact .zero-is) (e 1) ∙ exact .added (pos 0) (s 1) (omega arith) (omega arith) (omega arith), omega arith)
 times-num r s e h (suc zero) =
     let twice = abs-mul (pos 2) (s 0) in
-    let double-is = ap (floatOps .mul (floatOps .add (floatOps .one) (floatOps .one))) (e 0) ∙ exact .doubled (s 0) (omega (arith, h 0)) in (
+    let double-is = ap (floatOps .mul (floatOps .add (floatOps .one) (floatOps .one))) (e 0)
+    ∙ exact .doubled (s 0) (omega (arith, h 0)) (omega (arith, h 0)) in (
       sums (pos 0) (pos 2 *ℤ s 0) (s 2) (exact .zero-is) double-is (e 2) (omega arith) (omega (arith, h 0)) (omega (arith, h 2)),
       omega (arith, abs-add (pos 0 +ℤ pos 2 *ℤ s 0) (s 2), abs-add (pos 0) (pos 2 *ℤ s 0), h 0, h 2),
     )
@@ -97,8 +100,8 @@ row-zero (suc i) = exact .zero-is
 
 row-one : (i : ℕ) → coeffR floatOps 1 i ≡ num (R 1 i)
 unfolding coeffR
-row-one zero = ap (floatOps .neg) (exact .one-is) ∙ exact .opposite (pos 1) (omega arith)
-row-one (suc zero) = ap₂ (floatOps .add) (exact .one-is) (exact .one-is) ∙ exact .added (pos 1) (pos 1) (omega arith) (omega arith)
+row-one zero = ap (floatOps .neg) (exact .one-is) ∙ exact .opposite (pos 1) (omega arith) (omega arith)
+row-one (suc zero) = ap₂ (floatOps .add) (exact .one-is) (exact .one-is) ∙ exact .added (pos 1) (pos 1) (omega arith) (omega arith) (omega arith)
 row-one (suc (suc i)) = exact .zero-is
 
 row-next : (k : ℕ) → ((i : ℕ) → coeffR floatOps k i ≡ num (R k i)) → ((i : ℕ) → coeffR floatOps (suc k) i ≡ num (R (suc k) i))
@@ -106,8 +109,9 @@ row-next : (k : ℕ) → ((i : ℕ) → coeffR floatOps k i ≡ num (R k i)) →
 unfolding coeffR
 row-next k e f i =
     let t = times-num (coeffR floatOps (suc k)) (coeffR wholeOps (suc k)) f (abs-coeffR (suc k)) i in
-    ap₂ (floatOps .sub) (t .0) (e i)
-    ∙ exact .subtracted (times2T1 wholeOps (coeffR wholeOps (suc k)) i) (R k i) (omega (arith, t .1)) (omega (arith, abs-coeffR k i))
+    let r = times2T1 wholeOps (coeffR wholeOps (suc k)) i in
+    let few = abs-coeffR k i in
+    ap₂ (floatOps .sub) (t .0) (e i) ∙ exact .subtracted r (R k i) (omega (arith, t .1)) (omega arith) (omega (arith, t .1, abs-sub r (R k i)))
 
 rows : (k : ℕ) → ((i : ℕ) → coeffR floatOps k i ≡ num (R k i)) × ((i : ℕ) → coeffR floatOps (suc k) i ≡ num (R (suc k) i))
 rows zero = (row-zero, row-one)
@@ -119,7 +123,9 @@ coeff-num k i = rows k .0 i
 
 -- down a column each is the opposite of the one before
 pub next-coeff : (i k : ℕ) → i ≤ k → coeffR floatOps (suc k) i ≡ floatOps .neg (coeffR floatOps k i)
-next-coeff i k h = coeff-num (suc k) i ∙ ap num (next-is i k h) ∙ sym (ap (floatOps .neg) (coeff-num k i) ∙ exact .opposite (R k i) (nonzero i k h))
+next-coeff i k h =
+    coeff-num (suc k) i ∙ ap num (next-is i k h)
+    ∙ sym (ap (floatOps .neg) (coeff-num k i) ∙ exact .opposite (R k i) (omega (arith, abs-coeffR k i)) (nonzero i k h))
 
 -- a term of a column's sum
 abs-term : (o : ℤ) (k i : ℕ) → natAbs (o *ℤ R k i) ≤ 2 * natAbs o
@@ -136,7 +142,7 @@ sum-num i k acc (o ∷ os) h =
     let more = abs-add acc (o *ℤ v) in
     ap (λ (x : Float). addR floatOps i (suc k) x (map num os))
     (ap (λ (w : Float). floatOps .add (num acc) (floatOps .mul (num o) w)) (coeff-num k i)
-    ∙ exact .added-product acc o v (omega arith) (omega arith) (abs-coeffR k i) (omega arith))
+    ∙ exact .added-product acc o v (omega arith) (omega arith) (abs-coeffR k i) (omega arith) (omega arith))
     ∙ sum-num i (suc k) (acc +ℤ o *ℤ v) os (omega arith)
 
 pub rows-num : (i : ℕ) (os : List ℤ) → 2 * sumAbs os ≤ 2 ^ 53 → sumRFrom floatOps i (map num os) ≡ map num (sumRFrom wholeOps i os)

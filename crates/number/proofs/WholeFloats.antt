@@ -1,4 +1,5 @@
--- Floats that are whole numbers. `Whole x z` says that the float x is the whole number z; a zero may have either sign.
+-- Floats that are whole numbers. `Whole x z` says that the float x is the whole number z, as `IsWhole` does, with the sign and the magnitude
+-- at hand; a zero may have either sign.
 -- `ofInt f z` is z rounded once, and never -0. Of whole numbers up to 2 ^ prec, a sum, a difference and a product with a positive
 -- number of `ofInt`s are the `ofInt` of the sum, the difference and the product, bit for bit: both sides round the same number once.
 use mathlib.Core.Path.{_≡_, refl, sym, ap, _∙_, subst}
@@ -11,7 +12,7 @@ use native.Mathlib.Omega.{arith}
 use borrow.Author.Tests.{lt-ltb, le-ltb, ltb-true, ltb-false}
 use lib.IntN.{ℤ, pos, negsuc, negℤ, natAbs, subℕ, _+ℤ_, _-ℤ_, _*ℤ_}
 use lib.Dec.{ltb}
-use lib.Ieee.{Float, inf, fin, Format, prec, low, emax, up, down, unlike, odd, units, round, neg, sum, add, sub, mul, ofInt}
+use lib.Ieee.{Float, nan, inf, fin, Format, prec, low, emax, up, down, unlike, odd, units, round, neg, sum, add, sub, mul, ofInt}
 use lib.Ieee.Fits.{down-pos}
 use lib.Ieee.Exact.{HasValue}
 use lib.Ieee.Back.{round-whole}
@@ -20,12 +21,9 @@ use Rattle.algebra.proofs.Integers.{integers}
 use Rattle.algebra.proofs.RingLaws.{neg-mul, mul-neg}
 use Rattle.algebra.proofs.Solve.{_:=_, _:*_, :-_, ring}
 use Rattle.algebra.proofs.Magnitudes.{abs-neg}
+use Rattle.number.specs.Exact.{signed, IsWhole}
 
 -- ---- the words
-
-abbrev pub signed : Bool → ℕ → ℤ
-signed false n = pos n
-signed true n = negℤ (pos n)
 
 pub record Whole (x : Float) (z : ℤ) : Type 0 where
   pub s : Bool
@@ -195,6 +193,20 @@ mul-signed false a false b = refl
 mul-signed false a true b = sym (mul-neg integers (pos a) (pos b))
 mul-signed true a false b = sym (neg-mul integers (pos a) (pos b))
 mul-signed true a true b = ring integers (pos a ∷ pos b ∷ []) (λ x y. x :* y := :- x :* :- y) refl
+
+-- the value of a float that is a whole number, with no denominator left
+pub value-is : (x : Float) (z : ℤ) → Whole x z → IsWhole x z
+value-is nan z w = absurd (w .value)
+value-is (inf s) z w = absurd (w .value)
+value-is (fin s m e) z w =
+    ap (signed s) (sym (mul-one (m * up e)) ∙ w .value .1)
+    ∙ ap (λ (t : Bool). signed t (w .n * down e)) (w .value .0)
+    ∙ by-sign (w .s) (w .n) (down e)
+    ∙ ap (λ (k : ℤ). k *ℤ pos (down e)) (w .is)
+  where
+    by-sign : (s : Bool) (n d : ℕ) → signed s (n * d) ≡ signed s n *ℤ pos d
+    by-sign false n d = mul-signed false n false d
+    by-sign true n d = mul-signed true n false d
 
 -- a product is a whole number again, where it is in range; it may be -0
 pub mul-whole : (f : Format) (x y : Float) (a b : ℤ) → Whole x a → Whole y b → natAbs (a *ℤ b) ≤ 2 ^ prec f → Whole (mul f x y) (a *ℤ b)

@@ -7,13 +7,13 @@ use Rattle.algebra.specs.Operations.{wholeOps}
 use Rattle.algebra.specs.Cut.{cutAt}
 use Rattle.algebra.specs.declared.Basis.{Basis}
 use Rattle.number.specs.Numbers.{floatOps}
-use Rattle.number.specs.Exact.{num, AllTo53}
-use Rattle.number.specs.Room.{Doubles}
+use Rattle.number.specs.Exact.{num, AllTo53, AllTo52}
 
--- up to 2^53 the f64 factorisation writes equal numbers; and where every coefficient can be doubled, each number written is at most 2^53
+-- where the coefficients and the numbers written are at most 2^53, the f64 factorisation writes the same numbers; and where every
+-- coefficient is at most 2^52, each number written is at most 2^53
 pub record CutSame (basis : Basis) (p : ℕ) (c : List ℤ) : Type 0 where
-  pub written : AllTo53 c → cutAt floatOps basis p (map num c) ≡ map num (cutAt wholeOps basis p c)
-  pub within : Doubles c → AllTo53 (cutAt wholeOps basis p c)
+  pub written : AllTo53 c → AllTo53 (cutAt wholeOps basis p c) → cutAt floatOps basis p (map num c) ≡ map num (cutAt wholeOps basis p c)
+  pub within : AllTo52 c → AllTo53 (cutAt wholeOps basis p c)
 
 -- for every basis, place and list
 abbrev pub CutsSame : Type 0

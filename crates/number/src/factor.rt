@@ -9,11 +9,11 @@ ghost use Rattle.algebra.specs.Operations.{wholeOps};
 ghost use Rattle.algebra.specs.Cut.{cutAt};
 ghost use Rattle.algebra.specs.declared.Basis.the-variants.{Chebyshev};
 ghost use Rattle.number.specs.Numbers.{floatOps};
-ghost use Rattle.number.specs.Room.{Doubles};
+ghost use Rattle.number.specs.Exact.{AllTo52};
 
 // Over whole numbers.
 pub fn factorize_coeffs_chebyshev(c: &mut [i64], p: usize)
-    requires { ⌜ (p < length (now c)) × ((length (now c) ≤ p + p) × Doubles (now c)) ⌝ }
+    requires { ⌜ (p < length (now c)) × ((length (now c) ≤ p + p) × AllTo52 (now c)) ⌝ }
     ensures { λ _. ⌜ now (c .exit) ≡ cutAt wholeOps Chebyshev p (now (c .entry)) ⌝ }
 {
     let mut j: usize = 1;

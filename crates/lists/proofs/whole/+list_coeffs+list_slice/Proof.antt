@@ -14,7 +14,7 @@ use Rattle.algebra.specs.Operations.{wholeOps}
 use Rattle.algebra.specs.Cut.{cutAt}
 use Rattle.lists.specs.Tree.{listedAgain}
 use Rattle.lists.proofs.TreeLaws.{Again, again-facts, and-right}
-use Rattle.lists.proofs.Rooms.{roomy-doubles, roomy-low, roomy-high}
+use Rattle.lists.proofs.Rooms.{sum-by-length-to-52, sum-by-length-low, sum-by-length-high}
 use Rattle.lists.proofs.Steps as steps
 use Rattle.lists.proofs.Steps.{Cutting}
 use Rattle.lists.proofs.whole.list_coeffs.Reads as lister-reads
@@ -130,7 +130,7 @@ module _ (t : ℕ) where
   lister-cut-coeffs-requires : lister.Need-cut-coeffs-requires (lister-calls t) (lister-at t) lister-reads.Post
   lister-cut-coeffs-requires c κs =
       let k = uncut (c .before) in
-      (steps.under k, (steps.half k, roomy-doubles _ (omega (arith, steps.positive k, steps.under k)) (start-of (c .before) .pre .1 .1)))
+      (steps.under k, (steps.half k, sum-by-length-to-52 _ (omega (arith, steps.positive k, steps.under k)) (start-of (c .before) .pre .1 .1)))
 
   lister-slice-relend-prefix-list-coeffs : lister.Need-slice-relend-prefix-list-coeffs (lister-calls t) (lister-at t) lister-reads.Post
   lister-slice-relend-prefix-list-coeffs c =
@@ -149,7 +149,8 @@ module _ (t : ℕ) where
         omega (arith, steps.low-length k, steps.under k, start .pre .0),
         (
           steps.ready-low k,
-          rw (k .parted) (roomy-low (start .args .basis) (top .top-power .result) (start .args .c .now) (omega (arith, steps.under k)) (start .pre .1 .1)),
+          rw (k .parted)
+              (sum-by-length-low (start .args .basis) (top .top-power .result) (start .args .c .now) (omega (arith, steps.under k)) (start .pre .1 .1)),
         ),
       )
 
@@ -191,7 +192,8 @@ module _ (t : ℕ) where
         (
           steps.ready-high k (low .list-coeffs .ensures) (low .list-coeffs .kept .1 .0) (low .list-coeffs .kept .1 .1 .0),
           rw (lent, k .parted)
-              (roomy-high (start .args .basis) (top .top-power .result) (start .args .c .now) (omega (arith, steps.under k)) (steps.half k) (start .pre .1 .1)),
+              (sum-by-length-high (start .args .basis) (top .top-power .result) (start .args .c .now) (omega (arith, steps.under k)) (steps.half k)
+              (start .pre .1 .1)),
         ),
       )
 

@@ -66,7 +66,7 @@ list-coeffs-requires c κs =
     let passed = calls.early shape (none test) in (
       calls.ready shape (none test) (copy .copy-coeffs .ensures) (c .leads-on .ensures),
       rw (calls.part-is shape (none test) (copy .copy-coeffs .ensures) (c .leads-on .ensures))
-          (calls.sum-roomy _ (leb-true _ _ (passed .within)) (passed .few)),
+          (calls.sum-by-length-start _ (leb-true _ _ (passed .within)) (passed .few)),
     )
 
 same-length : tie.Need-same-length

@@ -13,7 +13,7 @@ use mir.Val.{toZ, ofZ}
 use mir.Facts.{toZ-ofZ}
 use Rattle.algebra.specs.Operations.{wholeOps, double}
 use Rattle.algebra.proofs.Fits.{fits-abs}
-use Rattle.number.specs.Room.{Doubles}
+use Rattle.number.proofs.Within.{within-at}
 use Rattle.number.proofs.Cutting.{cutTo, cut-none, cut-all, turn-low, turn-high, turn-written}
 use Rattle.number.proofs.factor.factorize_coeffs_chebyshev.Statement.{statement}
 use Rattle.number.proofs.factor.factorize_coeffs_chebyshev.Tie as tie
@@ -55,8 +55,7 @@ module _ (turn : tie.In-loop Inv-loop μ-loop) where
   written = turn-written wholeOps (pos 0) p j c₀ (turn .before .loop .c) inside half (turn .before .loop .inv .started) test (turn .before .loop .inv .before)
 
   small : (i : ℕ) → natAbs (getD c₀ i (pos 0)) ≤ 2 ^ 52
-  unfolding Doubles
-  small i = turn .before .before .pre .1 .1 i
+  small = within-at (2 ^ 52) c₀ (turn .before .before .pre .1 .1)
 
   -- a coefficient as the machine reads it, out of its bits
   read : {z : ℤ} (i : ℕ) → z ≡ getD c₀ i (pos 0) → toZ w64 (ofZ w64 z) ≡ getD c₀ i (pos 0)
