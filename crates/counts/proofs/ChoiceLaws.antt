@@ -1,7 +1,7 @@
 -- The formulas a and b by their four powers of two, the range of every chosen split, and the pair from its parts.
 use mathlib.Core.Path.{_≡_, refl, sym, _∙_}
 use mathlib.Core.Bool.{Bool, true, false, cond, _&&_}
-use Prim.Native.Nat.{ℕ, zero, suc, _+_, _-_, _/_, _≤_, _<_}
+use Prim.Native.Nat.{ℕ, zero, suc, _+_, _-_, _/_, _^_, _≤_, _<_}
 use native.Mathlib.Omega.{arith}
 use lib.Dec.{leb, eqb}
 use borrow.Author.Tests.{lt-ltb, le-ltb, leb-true}
@@ -9,7 +9,6 @@ use Rattle.algebra.specs.declared.Basis.{Basis}
 use Rattle.algebra.specs.declared.Parity.{Parity}
 use Rattle.number.specs.Bits.{bitLen, isPowerOfTwo}
 use Rattle.number.specs.inside.Between.{Between}
-use Rattle.number.proofs.Bits.{PowerRange}
 use Rattle.needed.specs.NeededMarks.{neededCount}
 use Rattle.counts.specs.Pair.{Tallied, moves, pairBy, pairAt}
 use Rattle.counts.specs.MinDepth.{exceeds, minDepth}
@@ -48,15 +47,15 @@ module _ {parity : Parity} (basis : Basis) {split degree needed : ℕ} {tally : 
 
 -- ---- MinDepth's choice
 
-module _ (length : ℕ) {low high low′ high′ : ℕ} (low-is : PowerRange (length / 2) low) (high-is : PowerRange (length - length / 2) high)
-    (low′-is : PowerRange (length / 2 + 1) low′) (high′-is : PowerRange (length - length / 2 - 1) high′) where
+module _ (length : ℕ) {low high low′ high′ : ℕ} (low-is : low ≡ 2 ^ (length / 2)) (high-is : high ≡ 2 ^ (length - length / 2))
+    (low′-is : low′ ≡ 2 ^ (length / 2 + 1)) (high′-is : high′ ≡ 2 ^ (length - length / 2 - 1)) where
   pub min-depth-more : low′ + high′ + length - length / 2 - 4 < low + high + length - length / 2 - 3 → length / 2 + 1 ≡ minDepth length
   unfolding minDepth exceeds
-  min-depth-more less = rw (lt-ltb _ _ (rw (low-is .is, high-is .is, low′-is .is, high′-is .is) at less))
+  min-depth-more less = rw (lt-ltb _ _ (rw (low-is, high-is, low′-is, high′-is) at less))
 
   pub min-depth-same : low + high + length - length / 2 - 3 ≤ low′ + high′ + length - length / 2 - 4 → length / 2 ≡ minDepth length
   unfolding minDepth exceeds
-  min-depth-same most = rw (le-ltb _ _ (rw (low-is .is, high-is .is, low′-is .is, high′-is .is) at most))
+  min-depth-same most = rw (le-ltb _ _ (rw (low-is, high-is, low′-is, high′-is) at most))
 
 -- half the bit length, or one more
 half-range : (length : ℕ) (test : Bool) → Between 2 length 12 → Between 1 (cond test (length / 2 + 1) (length / 2)) 12

@@ -10,7 +10,6 @@ use borrow.Author.Tests.{le-leb, lt-leb, eq-eqb, ne-eqb}
 use Rattle.number.specs.Bits.{bitLen, isPowerOfTwo}
 use Rattle.number.specs.Bits.{topPower}
 use Rattle.number.specs.inside.Between.{Between}
-use Rattle.number.proofs.Bits.{PowerRange}
 use Rattle.counts.specs.Depth.{threshold, depthOf, Deep}
 use Rattle.counts.specs.ConsumedBits.{pureChain, chainBefore, bitsOf, Chain}
 use Rattle.counts.specs.declared.choice.SplitStrategy.{SplitStrategy}
@@ -33,20 +32,20 @@ module _ (degree : ℕ) (range : Between 1 degree 4294967295) where
       let few = digits-range degree range in
       record { is = b-is ∙ least-is degree (range .from); range = record { from = omega arith; to = omega arith } }
 
-  module _ {b p q : ℕ} (b-is : b ≡ bitLen degree) (p-is : PowerRange b p) (q-is : PowerRange ((b - 1) / 2) q) where
+  module _ {b p q : ℕ} (b-is : b ≡ bitLen degree) (p-is : p ≡ 2 ^ b) (q-is : q ≡ 2 ^ ((b - 1) / 2)) where
     pub half-fits : q ≤ p
-    half-fits = let grows : 2 ^ ((b - 1) / 2) ≤ 2 ^ b = pow-mono (omega arith) in omega (arith, p-is .is, q-is .is)
+    half-fits = let grows : 2 ^ ((b - 1) / 2) ≤ 2 ^ b = pow-mono (omega arith) in omega (arith, p-is, q-is)
 
     pub depth-more : p - q + 1 ≤ degree → Deep MinMult degree (b + 1)
     depth-more reached =
         let few = digits-range degree range in
-        let test : threshold (bitLen degree) ≤ degree = rw (p-is .is, q-is .is, b-is) at reached in
+        let test : threshold (bitLen degree) ≤ degree = rw (p-is, q-is, b-is) at reached in
         record { is = rw (mult-is degree (range .from), le-leb _ _ test, b-is); range = record { from = omega arith; to = omega arith } }
 
     pub depth-same : degree < p - q + 1 → Deep MinMult degree b
     depth-same under =
         let few = digits-range degree range in
-        let test : degree < threshold (bitLen degree) = rw (p-is .is, q-is .is, b-is) at under in
+        let test : degree < threshold (bitLen degree) = rw (p-is, q-is, b-is) at under in
         record { is = rw (mult-is degree (range .from), lt-leb _ _ test, b-is) (omega arith); range = record { from = omega arith; to = omega arith } }
 
   module _ {b p : ℕ} (b-is : b ≡ bitLen degree) (p-is : p ≡ topPower degree) where

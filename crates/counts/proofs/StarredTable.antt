@@ -4,6 +4,7 @@ use Rattle.algebra.specs.Allowed.{allows}
 use Rattle.algebra.specs.declared.Basis.{Basis}
 use Rattle.algebra.specs.declared.Basis.the-variants.{Monomial, Chebyshev}
 use Rattle.number.specs.Bits.{digits, bitLen, isPowerOfTwo, powerBelow}
+use Rattle.number.specs.Refusal.{unlessRefused}
 use Rattle.number.specs.Split.{partsOf, splitRefusal, splitOf}
 use Rattle.number.specs.Bits.{topPower}
 use Rattle.counts.specs.Slices.{slicesIn, slicesOf, lastOf}
@@ -26,7 +27,7 @@ in-both P in-monomial in-chebyshev Chebyshev = in-chebyshev
 pub starred : Starred
 unfolding minMultCall countsCall countsOf splitFor minMult bestOf better pairAt pairBy moves tallyOf slicesOf slicesIn lastOf plainCount allowedTo
     neededCount countMarks neededMarks sweepFrom targetMarks markParts markApart sweepAt markAt places isTarget allows topPower
-    splitOf splitRefusal partsOf powerBelow isPowerOfTwo bitLen digits exceeds minDepth depthCall depthOf bitsCall bitsOf pureChain chainBefore
+    unlessRefused splitOf splitRefusal partsOf powerBelow isPowerOfTwo bitLen digits exceeds minDepth depthCall depthOf bitsCall bitsOf pureChain chainBefore
 starred = record {
   split-3 = refl;
   split-5 = refl;

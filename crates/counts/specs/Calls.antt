@@ -51,21 +51,21 @@ bitsAnswer zero bits = record { refusal = 0; bits = bits }
 bitsAnswer (suc k) bits = record { refusal = suc k; bits = 0 }
 
 -- `min_depth_split`: MinDepth's split of a degree
-unfoldable pub minDepthCall : ℕ → SplitChoice
+unfoldable pub minDepthCall : (degree : ℕ) → SplitChoice
 minDepthCall degree = splitAnswer (minDepthRefusal degree) (minDepth (bitLen degree))
 
 -- `min_mult_split`: MinMult's split of a degree
-unfoldable pub minMultCall : ℕ → Parity → Basis → SplitChoice
-minMultCall degree parity basis = splitAnswer (limitRefusal 4095 degree) (minMult parity basis degree)
+unfoldable pub minMultCall : Parity → Basis → (degree : ℕ) → SplitChoice
+minMultCall parity basis degree = splitAnswer (limitRefusal 4095 degree) (minMult parity basis degree)
 
 -- `bsgs_op_counts`: the pair at the chosen split
-unfoldable pub countsCall : ℕ → SplitStrategy → Parity → Basis → OpCounts
-countsCall degree strategy parity basis = countsAnswer (limitRefusal 4095 degree) (countsOf strategy parity basis degree)
+unfoldable pub countsCall : SplitStrategy → Parity → Basis → (degree : ℕ) → OpCounts
+countsCall strategy parity basis degree = countsAnswer (limitRefusal 4095 degree) (countsOf strategy parity basis degree)
 
 -- `bsgs_eval_depth`: the depth
-unfoldable pub depthCall : ℕ → SplitStrategy → EvalDepth
-depthCall degree strategy = depthAnswer (limitRefusal 4294967295 degree) (depthOf strategy degree)
+unfoldable pub depthCall : SplitStrategy → (degree : ℕ) → EvalDepth
+depthCall strategy degree = depthAnswer (limitRefusal 4294967295 degree) (depthOf strategy degree)
 
 -- `bsgs_consumed_bits`: the bits
-unfoldable pub bitsCall : ℕ → SplitStrategy → ℕ → ℕ → ConsumedBits
-bitsCall degree strategy input coeff = bitsAnswer (bitsRefusal degree input coeff) (bitsOf strategy degree input coeff)
+unfoldable pub bitsCall : SplitStrategy → (degree input coeff : ℕ) → ConsumedBits
+bitsCall strategy degree input coeff = bitsAnswer (bitsRefusal degree input coeff) (bitsOf strategy degree input coeff)

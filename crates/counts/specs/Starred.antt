@@ -10,8 +10,8 @@ use Rattle.counts.specs.declared.choice.SplitStrategy.the-variants.{MinM
 
 -- the split and the pair of MinMult with parity Full
 pub record MultFull (basis : Basis) (degree split ct pt : ℕ) : Type 0 where
-  pub chosen : minMultCall degree Full basis ≡ record { refusal = 0; split = split }
-  pub counted : countsCall degree MinMult Full basis ≡ record { refusal = 0; ct = ct; pt = pt }
+  pub chosen : minMultCall Full basis degree ≡ record { refusal = 0; split = split }
+  pub counted : countsCall MinMult Full basis degree ≡ record { refusal = 0; ct = ct; pt = pt }
 
 -- the table
 pub record Starred : Type 0 where
@@ -32,9 +32,9 @@ pub record Starred : Type 0 where
   pub mult-5 : (basis : Basis) → MultFull basis 5 1 4 3
   pub mult-7 : (basis : Basis) → MultFull basis 7 2 4 6
   -- MinMult depth 6 → 3, 7 → 4
-  pub deep-6 : depthCall 6 MinMult ≡ record { refusal = 0; depth = 3 }
-  pub deep-7 : depthCall 7 MinMult ≡ record { refusal = 0; depth = 4 }
+  pub deep-6 : depthCall MinMult 6 ≡ record { refusal = 0; depth = 3 }
+  pub deep-7 : depthCall MinMult 7 ≡ record { refusal = 0; depth = 4 }
   -- MinMult bits: degree 5, scales 20, 100 → 120; degree 4, scales 30, 20 → 80; degree 0 → 0
-  pub bits-5 : bitsCall 5 MinMult 20 100 ≡ record { refusal = 0; bits = 120 }
-  pub bits-4 : bitsCall 4 MinMult 30 20 ≡ record { refusal = 0; bits = 80 }
-  pub bits-0 : bitsCall 0 MinMult 30 20 ≡ record { refusal = 0; bits = 0 }
+  pub bits-5 : bitsCall MinMult 5 20 100 ≡ record { refusal = 0; bits = 120 }
+  pub bits-4 : bitsCall MinMult 4 30 20 ≡ record { refusal = 0; bits = 80 }
+  pub bits-0 : bitsCall MinMult 0 30 20 ≡ record { refusal = 0; bits = 0 }

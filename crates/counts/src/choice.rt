@@ -40,18 +40,18 @@ pub struct Best {
 }
 
 // MinDepth's split at a bit length: the source's formulas a and b.
-fn min_depth(length: usize) -> usize
-    requires { ⌜ Between 1 length 32 ⌝ }
-    ensures { λ r. ⌜ r ≡ minDepth length ⌝ }
+fn min_depth(bits: usize) -> usize
+    requires { ⌜ Between 1 bits 32 ⌝ }
+    ensures { λ r. ⌜ r ≡ minDepth bits ⌝ }
 {
-    let s = length / 2;
-    let a = power_of_two(s) + power_of_two(length - s) + length - s - 3;
-    let b = power_of_two(s + 1) + power_of_two(length - s - 1) + length - s - 4;
+    let s = bits / 2;
+    let a = power_of_two(s) + power_of_two(bits - s) + bits - s - 3;
+    let b = power_of_two(s + 1) + power_of_two(bits - s - 1) + bits - s - 4;
     if b < a { s + 1 } else { s }
 }
 
 // Whether a pair is less: ct-ct is compared first.
-fn less(p: Pair, q: Pair) -> bool
+fn less_pair(p: Pair, q: Pair) -> bool
     ensures { λ r. ⌜ r ≡ lessPair p q ⌝ }
 {
     if p.ct < q.ct {
@@ -68,25 +68,25 @@ fn better_of(best: Best, split: usize, pair: Pair) -> Best
     ensures { λ r. ⌜ r ≡ better best split pair ⌝ }
 {
     let least = best.pair;
-    if less(pair, least) {
+    if less_pair(pair, least) {
         return Best { split, pair };
     }
     best
 }
 
 // The smallest split from 1 to the bit length with the least pair.
-fn best_split(degree: usize, length: usize, parity: Parity, basis: Basis) -> Best
-    requires { ⌜ Between 1 degree 4095 × Between 1 length 12 ⌝ }
-    ensures { λ r. ⌜ r ≡ bestOf (pairAt parity basis degree) (length - 1) ⌝ }
+fn best_split(parity: Parity, basis: Basis, degree: usize, bits: usize) -> Best
+    requires { ⌜ Between 1 degree 4095 × Between 1 bits 12 ⌝ }
+    ensures { λ r. ⌜ r ≡ bestOf (pairAt parity basis degree) (bits - 1) ⌝ }
 {
-    let first = estimate_op_counts(degree, 1, parity, basis);
+    let first = estimate_op_counts(parity, basis, degree, 1);
     let mut best = Best {
         split: 1,
         pair: first,
     };
     let mut split = 2;
-    while split <= length {
-        let pair = estimate_op_counts(degree, split, parity, basis);
+    while split <= bits {
+        let pair = estimate_op_counts(parity, basis, degree, split);
         best = better_of(best, split, pair);
         split += 1;
     }
@@ -94,31 +94,31 @@ fn best_split(degree: usize, length: usize, parity: Parity, basis: Basis) -> Bes
 }
 
 // MinMult's split.
-fn min_mult(degree: usize, parity: Parity, basis: Basis) -> usize
+fn min_mult(parity: Parity, basis: Basis, degree: usize) -> usize
     requires { ⌜ degree ≤ 4095 ⌝ }
     ensures { λ r. ⌜ r ≡ minMult parity basis degree ⌝ }
 {
-    let length = bit_len(degree);
-    if length <= 1 {
+    let bits = bit_len(degree);
+    if bits <= 1 {
         return 1;
     }
-    let best = best_split(degree, length, parity, basis);
+    let best = best_split(parity, basis, degree, bits);
     best.split
 }
 
 // The split that a strategy chooses.
 pub fn split_for_strategy(
     strategy: SplitStrategy,
-    degree: usize,
     parity: Parity,
     basis: Basis,
+    degree: usize,
 ) -> usize
     requires { ⌜ Between 1 degree 4095 ⌝ }
     ensures { λ r. ⌜ r ≡ splitFor strategy parity basis degree ⌝ }
 {
     match strategy {
         SplitStrategy::MinDepth => min_depth(bit_len(degree)),
-        SplitStrategy::MinMult => min_mult(degree, parity, basis),
+        SplitStrategy::MinMult => min_mult(parity, basis, degree),
     }
 }
 
@@ -143,8 +143,8 @@ pub fn min_depth_split(degree: usize) -> SplitChoice
 }
 
 // MinMult's split of a degree: refusal 2 above 4,095.
-pub fn min_mult_split(degree: usize, parity: Parity, basis: Basis) -> SplitChoice
-    ensures { λ r. ⌜ r ≡ minMultCall degree parity basis ⌝ }
+pub fn min_mult_split(parity: Parity, basis: Basis, degree: usize) -> SplitChoice
+    ensures { λ r. ⌜ r ≡ minMultCall parity basis degree ⌝ }
 {
     if 4095 < degree {
         return SplitChoice {
@@ -152,18 +152,18 @@ pub fn min_mult_split(degree: usize, parity: Parity, basis: Basis) -> SplitChoic
             split: 0,
         };
     }
-    let split = min_mult(degree, parity, basis);
+    let split = min_mult(parity, basis, degree);
     SplitChoice { refusal: 0, split }
 }
 
 // The pair at the chosen split, (0, 0) at degree 0: refusal 2 above 4,095.
 pub fn bsgs_op_counts(
-    degree: usize,
     strategy: SplitStrategy,
     parity: Parity,
     basis: Basis,
+    degree: usize,
 ) -> OpCounts
-    ensures { λ r. ⌜ r ≡ countsCall degree strategy parity basis ⌝ }
+    ensures { λ r. ⌜ r ≡ countsCall strategy parity basis degree ⌝ }
 {
     if 4095 < degree {
         return OpCounts {
@@ -179,8 +179,8 @@ pub fn bsgs_op_counts(
             pt: 0,
         };
     }
-    let split = split_for_strategy(strategy, degree, parity, basis);
-    let pair = estimate_op_counts(degree, split, parity, basis);
+    let split = split_for_strategy(strategy, parity, basis, degree);
+    let pair = estimate_op_counts(parity, basis, degree, split);
     OpCounts {
         refusal: 0,
         ct: pair.ct,

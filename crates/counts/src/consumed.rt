@@ -29,11 +29,11 @@ fn pure_chain(degree: usize) -> usize
 }
 
 // The ct-ct multiplications of the longest chain with a pt-ct.
-fn chain_before(degree: usize, strategy: SplitStrategy) -> usize
+fn chain_before(strategy: SplitStrategy, degree: usize) -> usize
     requires { ⌜ Between 1 degree 4294967295 ⌝ }
     ensures { λ r. ⌜ Chain (chainBefore strategy degree) r ⌝ }
 {
-    let depth = depth_from_one(degree, strategy);
+    let depth = depth_from_one(strategy, degree);
     match strategy {
         SplitStrategy::MinDepth => depth - 1,
         SplitStrategy::MinMult => if degree == 5 { 1 } else { depth - 1 },
@@ -47,23 +47,23 @@ fn greatest(a: usize, b: usize) -> usize
 }
 
 // The bits of a degree from 1: the heavier of the two chains.
-fn bits_from_one(degree: usize, strategy: SplitStrategy, input: usize, coeff: usize) -> usize
+fn bits_from_one(strategy: SplitStrategy, degree: usize, input: usize, coeff: usize) -> usize
     requires { ⌜ Between 1 degree 4294967295 × (input ≤ 65535) × (coeff ≤ 65535) ⌝ }
     ensures { λ r. ⌜ r ≡ bitsOf strategy degree input coeff ⌝ }
 {
     let pure = pure_chain(degree);
-    let before = chain_before(degree, strategy);
+    let before = chain_before(strategy, degree);
     greatest(pure * input, before * input + coeff)
 }
 
 // The bits of a degree, 0 at degree 0: refusal 2 above 4,294,967,295, then 10 where a scale is above 65,535.
 pub fn bsgs_consumed_bits(
-    degree: usize,
     strategy: SplitStrategy,
+    degree: usize,
     input: usize,
     coeff: usize,
 ) -> ConsumedBits
-    ensures { λ r. ⌜ r ≡ bitsCall degree strategy input coeff ⌝ }
+    ensures { λ r. ⌜ r ≡ bitsCall strategy degree input coeff ⌝ }
 {
     if 4294967295 < degree {
         return ConsumedBits {
@@ -89,6 +89,6 @@ pub fn bsgs_consumed_bits(
             bits: 0,
         };
     }
-    let bits = bits_from_one(degree, strategy, input, coeff);
+    let bits = bits_from_one(strategy, degree, input, coeff);
     ConsumedBits { refusal: 0, bits }
 }

@@ -14,7 +14,7 @@ pub struct EvalDepth {
 }
 
 // The depth of a degree from 1.
-pub fn depth_from_one(degree: usize, strategy: SplitStrategy) -> usize
+pub fn depth_from_one(strategy: SplitStrategy, degree: usize) -> usize
     requires { ⌜ Between 1 degree 4294967295 ⌝ }
     ensures { λ r. ⌜ Deep strategy degree r ⌝ }
 {
@@ -29,8 +29,8 @@ pub fn depth_from_one(degree: usize, strategy: SplitStrategy) -> usize
 }
 
 // The depth of a degree, 0 at degree 0: refusal 2 above 4,294,967,295.
-pub fn bsgs_eval_depth(degree: usize, strategy: SplitStrategy) -> EvalDepth
-    ensures { λ r. ⌜ r ≡ depthCall degree strategy ⌝ }
+pub fn bsgs_eval_depth(strategy: SplitStrategy, degree: usize) -> EvalDepth
+    ensures { λ r. ⌜ r ≡ depthCall strategy degree ⌝ }
 {
     if 4294967295 < degree {
         return EvalDepth {
@@ -44,6 +44,6 @@ pub fn bsgs_eval_depth(degree: usize, strategy: SplitStrategy) -> EvalDepth
             depth: 0,
         };
     }
-    let depth = depth_from_one(degree, strategy);
+    let depth = depth_from_one(strategy, degree);
     EvalDepth { refusal: 0, depth }
 }

@@ -30,12 +30,12 @@ pub fn is_moved(degree: usize, slices: usize, last: usize) -> bool
 }
 
 // The pair at a split.
-pub fn estimate_op_counts(degree: usize, split: usize, parity: Parity, basis: Basis) -> Pair
+pub fn estimate_op_counts(parity: Parity, basis: Basis, degree: usize, split: usize) -> Pair
     requires { ⌜ Planned degree split ⌝ }
     ensures { λ r. ⌜ r ≡ pairAt parity basis degree split ⌝ }
 {
-    let tally = count_slices(degree, split, parity);
-    let powers = count_needed(degree, split, parity, basis);
+    let tally = count_slices(parity, degree, split);
+    let powers = count_needed(parity, basis, degree, split);
     if is_moved(degree, tally.slices, tally.last) {
         return Pair {
             ct: tally.slices - 1 + powers - 1,

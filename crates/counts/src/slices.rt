@@ -16,7 +16,7 @@ pub struct Tally {
 }
 
 // How many of the powers 1 to the degree the parity allows.
-fn allowed_to(degree: usize, parity: Parity) -> usize
+fn allowed_to(parity: Parity, degree: usize) -> usize
     requires { ⌜ degree ≤ 4095 ⌝ }
     ensures { λ r. ⌜ r ≡ allowedTo parity degree ⌝ }
 {
@@ -28,13 +28,13 @@ fn allowed_to(degree: usize, parity: Parity) -> usize
 }
 
 // The slices at a split, counted over the low and the high part of each cut.
-pub fn count_slices(degree: usize, split: usize, parity: Parity) -> Tally
+pub fn count_slices(parity: Parity, degree: usize, split: usize) -> Tally
     requires { ⌜ (degree ≤ 4095) × Between 1 split 12 ⌝ }
     ensures { λ r. ⌜ Tallied parity degree split r ⌝ }
 {
     let base = power_of_two(split);
     if degree < base {
-        let n = allowed_to(degree, parity);
+        let n = allowed_to(parity, degree);
         return Tally {
             slices: 1,
             pt: n,
@@ -42,8 +42,8 @@ pub fn count_slices(degree: usize, split: usize, parity: Parity) -> Tally
         };
     }
     let p = top_power(degree);
-    let low = count_slices(p - 1, split, parity);
-    let high = count_slices(degree - p, split, parity);
+    let low = count_slices(parity, p - 1, split);
+    let high = count_slices(parity, degree - p, split);
     Tally {
         slices: low.slices + high.slices,
         pt: low.pt + high.pt,

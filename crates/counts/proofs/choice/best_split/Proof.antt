@@ -11,11 +11,11 @@ use Rattle.counts.proofs.choice.best_split.Statement.{statement}
 use Rattle.counts.proofs.choice.best_split.Tie as tie
 
 abbrev Inv-loop : tie.InvT-loop
-Inv-loop degree length parity basis best₀ split₀ best split =
-    (2 ≤ split) × (split ≤ length + 1) × (best ≡ bestOf (pairAt parity basis degree) (split - 2))
+Inv-loop parity basis degree bits best₀ split₀ best split =
+    (2 ≤ split) × (split ≤ bits + 1) × (best ≡ bestOf (pairAt parity basis degree) (split - 2))
 
 abbrev μ-loop : tie.MeasureT-loop
-μ-loop degree length parity basis best₀ split₀ best split = length + 1 - split
+μ-loop parity basis degree bits best₀ split₀ best split = bits + 1 - split
 
 estimate-op-counts-requires : tie.Need-estimate-op-counts-requires Inv-loop μ-loop
 estimate-op-counts-requires c κs = search needs
@@ -51,7 +51,7 @@ returns : tie.Need-returns Inv-loop μ-loop
 returns c =
     let at = c .before in
     let args = at .before .before .args in
-    let end : at .loop .split - 2 ≡ args .length - 1 = omega arith in
+    let end : at .loop .split - 2 ≡ args .bits - 1 = omega arith in
     at .loop .inv .2 ∙ ap (bestOf (pairAt (args .parity) (args .basis) (args .degree))) end
 
 pub best-split-spec : {M : Type 1} → statement M

@@ -1,9 +1,27 @@
 -- `counts::choice::min_depth` meets its contract. The four powers of two are those of the formulas a and b. Each is greater than its exponent,
 -- so that no difference falls below 0, and at most 2^32, so that no sum overflows.
+use Prim.Native.Nat.{_+_, _-_, _/_}
 use native.Mathlib.Omega.{arith}
+use Rattle.number.proofs.Bits.{PowerRange, power-range}
 use Rattle.counts.proofs.ChoiceLaws.{min-depth-more, min-depth-same}
 use Rattle.counts.proofs.choice.min_depth.Statement.{statement}
 use Rattle.counts.proofs.choice.min_depth.Tie as tie
+
+-- the powers of formula a, in their ranges
+module _ (k : tie.After-power-of-two2) where
+  low : PowerRange (k .before .before .args .bits / 2) (k .before .power-of-two .result)
+  low = power-range (omega arith) (k .before .power-of-two .ensures)
+
+  high : PowerRange (k .before .before .args .bits - k .before .before .args .bits / 2) (k .power-of-two2 .result)
+  high = power-range (omega arith) (k .power-of-two2 .ensures)
+
+-- and those of formula b
+module _ (k : tie.After-power-of-two4) where
+  low′ : PowerRange (k .before .before .before .before .args .bits / 2 + 1) (k .before .power-of-two3 .result)
+  low′ = power-range (omega arith) (k .before .power-of-two3 .ensures)
+
+  high′ : PowerRange (k .before .before .before .before .args .bits - k .before .before .before .before .args .bits / 2 - 1) (k .power-of-two4 .result)
+  high′ = power-range (omega arith) (k .power-of-two4 .ensures)
 
 power-of-two-requires : tie.Need-power-of-two-requires
 power-of-two-requires c κs = omega arith
@@ -15,16 +33,16 @@ power-of-two-requires-2 : tie.Need-power-of-two-requires-2
 power-of-two-requires-2 c κs = omega arith
 
 add-a : tie.Need-add-a
-add-a c = omega arith
+add-a c = omega (arith, low c, high c)
 
 add-a-2 : tie.Need-add-a-2
-add-a-2 c = omega arith
+add-a-2 c = omega (arith, low c, high c)
 
 sub-a : tie.Need-sub-a
-sub-a c = omega arith
+sub-a c = omega (arith, low c, high c)
 
 sub-a-2 : tie.Need-sub-a-2
-sub-a-2 c = omega arith
+sub-a-2 c = omega (arith, low c, high c)
 
 add-power-of-two : tie.Need-add-power-of-two
 add-power-of-two c = omega arith
@@ -42,16 +60,16 @@ power-of-two-requires-4 : tie.Need-power-of-two-requires-4
 power-of-two-requires-4 c κs = omega arith
 
 add-b : tie.Need-add-b
-add-b c = omega arith
+add-b c = omega (arith, low′ c, high′ c)
 
 add-b-2 : tie.Need-add-b-2
-add-b-2 c = omega arith
+add-b-2 c = omega (arith, low′ c, high′ c)
 
 sub-b : tie.Need-sub-b
-sub-b c = omega arith
+sub-b c = omega (arith, low′ c, high′ c)
 
 sub-b-2 : tie.Need-sub-b-2
-sub-b-2 c = omega arith
+sub-b-2 c = omega (arith, low′ c, high′ c)
 
 add-result : tie.Need-add-result
 add-result c = omega arith

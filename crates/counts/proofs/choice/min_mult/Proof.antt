@@ -18,28 +18,28 @@ bit-len-requires c κs = search needs
 
 returns : tie.Need-returns
 returns c =
-    let length = c .before in
-    let args = length .before .args in
-    sym (mult-low (args .parity) (args .basis) (args .degree) (omega (arith, length .bit-len .ensures, c .if1 .taken)))
+    let digits = c .before in
+    let args = digits .before .args in
+    sym (mult-low (args .parity) (args .basis) (args .degree) (omega (arith, digits .bit-len .ensures, c .if1 .taken)))
 
 best-split-requires : tie.Need-best-split-requires
 best-split-requires c κs =
-    let length = c .before in
-    let start = length .before in
+    let digits = c .before in
+    let start = digits .before in
     let few = few-digits (start .args .degree) (start .pre) in
-    let some = digit-some (start .args .degree) (omega (arith, length .bit-len .ensures, c .if1 .left)) in (
+    let some = digit-some (start .args .degree) (omega (arith, digits .bit-len .ensures, c .if1 .left)) in (
       record { from = some; to = start .pre },
-      record { from = omega (arith, c .if1 .left); to = omega (arith, length .bit-len .ensures) },
+      record { from = omega (arith, c .if1 .left); to = omega (arith, digits .bit-len .ensures) },
     )
 
 returns-2 : tie.Need-returns-2
 returns-2 c =
     let test = c .before in
-    let length = test .before in
-    let args = length .before .args in
-    let long : 1 < bitLen (args .degree) = omega (arith, length .bit-len .ensures, test .if1 .left) in
+    let digits = test .before in
+    let args = digits .before .args in
+    let long : 1 < bitLen (args .degree) = omega (arith, digits .bit-len .ensures, test .if1 .left) in
     ap (λ (best : Best). best .split) (c .best-split .ensures)
-    ∙ ap (λ (l : ℕ). bestOf (pairAt (args .parity) (args .basis) (args .degree)) (l - 1) .split) (length .bit-len .ensures)
+    ∙ ap (λ (l : ℕ). bestOf (pairAt (args .parity) (args .basis) (args .degree)) (l - 1) .split) (digits .bit-len .ensures)
     ∙ sym (mult-best (args .parity) (args .basis) (args .degree) long)
 
 pub min-mult-spec : {M : Type 1} → statement M

@@ -2,7 +2,7 @@
 -- The test against the threshold is the definition's.
 use native.Mathlib.Omega.{arith}
 use borrow.Author.Needs.{needs}
-use Rattle.number.proofs.Bits.{digits-range}
+use Rattle.number.proofs.Bits.{digits-range, power-range}
 use Rattle.counts.proofs.DepthLaws.{depth-least, half-fits, depth-more, depth-same}
 use Rattle.counts.proofs.depth.depth_from_one.Statement.{statement}
 use Rattle.counts.proofs.depth.depth_from_one.Tie as tie
@@ -38,7 +38,10 @@ sub-threshold c =
     (c .before .power-of-two .ensures) (c .power-of-two2 .ensures)
 
 add-threshold : tie.Need-add-threshold
-add-threshold c = omega (arith, c .before .power-of-two .ensures)
+add-threshold c =
+    let digits = c .before .before .before .before in
+    let few = digits-range (digits .before .args .degree) (digits .before .pre) in
+    omega (arith, power-range (omega (arith, digits .bit-len .ensures)) (c .before .power-of-two .ensures))
 
 add-result : tie.Need-add-result
 add-result c =

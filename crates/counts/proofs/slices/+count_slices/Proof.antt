@@ -11,14 +11,14 @@ use Rattle.counts.proofs.TallyLaws.{tallied-one, tallied-cut}
 use Rattle.counts.proofs.slices.count_slices.Reads as count-slices
 use Rattle.counts.proofs.slices.count_slices.Kinds as count-slices-kinds
 use Rattle.counts.proofs.slices.+count_slices.Lts-count_slices as count-slices-lts
-use Rattle.needed.proofs.powers.power_of_two.Reads as power-of-two-reads
-use Rattle.needed.proofs.powers.top_power.Reads as top-power-reads
+use Rattle.number.proofs.power_of_two.Reads as power-of-two-reads
+use Rattle.number.proofs.top_power.Reads as top-power-reads
 use Rattle.counts.proofs.slices.allowed_to.Reads as allowed-to-reads
 use Rattle.counts.proofs.slices.+count_slices.{statement}
 use Rattle.counts.proofs.slices.+count_slices.Tie.{close}
 
 abbrev μ-count-slices : Measures 0 count-slices-kinds.ps ℕ
-μ-count-slices κs a = bitLen (a .0)
+μ-count-slices κs a = bitLen (a .1 .0)
 
 abbrev count-slices-at : ℕ → In 0 count-slices-kinds.ps
 count-slices-at t =
@@ -56,33 +56,32 @@ module _ (t : ℕ) where
   count-slices-returns c =
       let base = c .before .before in
       let args = base .before .args in
-      let under : args .degree < 2 ^ args .split = rw (base .power-of-two .ensures .is) at (c .before .if1 .taken) in
+      let under : args .degree < 2 ^ args .split = rw (base .power-of-two .ensures) at (c .before .if1 .taken) in
       tallied-one (args .parity) (args .split) (args .degree) under (c .allowed-to .ensures)
 
   count-slices-top-power-requires : count-slices-lts.Need-top-power-requires (count-slices-calls t) (count-slices-at t) count-slices.Post
   count-slices-top-power-requires c κs =
       let base = c .before in
-      let some = from-base (base .power-of-two .ensures) (c .if1 .left) in
-      record { from = some; to = omega (arith, base .before .pre .1 .0) }
+      from-base _ (base .power-of-two .ensures) (c .if1 .left)
 
   count-slices-sub-count-slices : count-slices-lts.Need-sub-count-slices (count-slices-calls t) (count-slices-at t) count-slices.Post
   count-slices-sub-count-slices c =
       let test = c .before in
-      let cut = cut-at (from-base (test .before .power-of-two .ensures) (test .if1 .left)) (c .top-power .ensures) in
+      let cut = cut-at (from-base _ (test .before .power-of-two .ensures) (test .if1 .left)) (c .top-power .ensures) in
       omega arith
 
   count-slices-count-slices-requires : count-slices-lts.Need-count-slices-requires (count-slices-calls t) (count-slices-at t) count-slices.Post
   count-slices-count-slices-requires c κs =
       let test = c .before in
       let start = test .before .before in
-      let cut = cut-at (from-base (test .before .power-of-two .ensures) (test .if1 .left)) (c .top-power .ensures) in
+      let cut = cut-at (from-base _ (test .before .power-of-two .ensures) (test .if1 .left)) (c .top-power .ensures) in
       (omega (arith, start .pre .0), (omega (arith, start .pre .1 .0), start .pre .1 .1))
 
   count-slices-sub-count-slices-2 : count-slices-lts.Need-sub-count-slices-2 (count-slices-calls t) (count-slices-at t) count-slices.Post
   count-slices-sub-count-slices-2 c =
       let top = c .before in
       let test = top .before in
-      let cut = cut-at (from-base (test .before .power-of-two .ensures) (test .if1 .left)) (top .top-power .ensures) in
+      let cut = cut-at (from-base _ (test .before .power-of-two .ensures) (test .if1 .left)) (top .top-power .ensures) in
       omega arith
 
   count-slices-count-slices-requires-2 : count-slices-lts.Need-count-slices-requires-2 (count-slices-calls t) (count-slices-at t) count-slices.Post
@@ -90,7 +89,7 @@ module _ (t : ℕ) where
       let top = c .before in
       let test = top .before in
       let start = test .before .before in
-      let cut = cut-at (from-base (test .before .power-of-two .ensures) (test .if1 .left)) (top .top-power .ensures) in
+      let cut = cut-at (from-base _ (test .before .power-of-two .ensures) (test .if1 .left)) (top .top-power .ensures) in
       (omega (arith, start .pre .0), (omega (arith, start .pre .1 .0), start .pre .1 .1))
 
   count-slices-add-t10 : count-slices-lts.Need-add-t10 (count-slices-calls t) (count-slices-at t) count-slices.Post
@@ -98,7 +97,7 @@ module _ (t : ℕ) where
       let high = c .before .before in
       let top = high .before .before in
       let test = top .before in
-      let cut = cut-at (from-base (test .before .power-of-two .ensures) (test .if1 .left)) (top .top-power .ensures) in
+      let cut = cut-at (from-base _ (test .before .power-of-two .ensures) (test .if1 .left)) (top .top-power .ensures) in
       omega (arith, high .before .count-slices .ensures .most, high .count-slices2 .ensures .most, test .before .before .pre .1 .0)
 
   count-slices-add-t11 : count-slices-lts.Need-add-t11 (count-slices-calls t) (count-slices-at t) count-slices.Post
@@ -106,7 +105,7 @@ module _ (t : ℕ) where
       let high = c .before .before .before .before in
       let top = high .before .before in
       let test = top .before in
-      let cut = cut-at (from-base (test .before .power-of-two .ensures) (test .if1 .left)) (top .top-power .ensures) in
+      let cut = cut-at (from-base _ (test .before .power-of-two .ensures) (test .if1 .left)) (top .top-power .ensures) in
       omega (arith, high .before .count-slices .ensures .most, high .count-slices2 .ensures .most, test .before .before .pre .1 .0)
 
   count-slices-returns-2 : count-slices-lts.Need-returns-2 (count-slices-calls t) (count-slices-at t) count-slices.Post
@@ -115,7 +114,7 @@ module _ (t : ℕ) where
       let top = high .before .before in
       let base = top .before .before in
       let args = base .before .args in
-      let reached : 2 ^ args .split ≤ args .degree = rw (base .power-of-two .ensures .is) at (top .before .if1 .left) in
+      let reached : 2 ^ args .split ≤ args .degree = rw (base .power-of-two .ensures) at (top .before .if1 .left) in
       tallied-cut (args .parity) (args .split) (args .degree) reached (top .top-power .ensures)
       (high .before .count-slices .ensures) (high .count-slices2 .ensures)
 

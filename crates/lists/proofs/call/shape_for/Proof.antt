@@ -98,7 +98,7 @@ returns-3 c =
     let lists = leavesOf (planTree (args .strategy) (args .parity) (args .basis) (args .n - 1)) in
     full-shape (args .n)
     (none-refused (args .fits) (args .n) (args .room) lists (args .boundaries) (passes tested) (omega (arith, counted count, c .before .if2 .left)))
-    (chosen .split-for-strategy .ensures) (counted count) (c .power-of-two .ensures .is)
+    (chosen .split-for-strategy .ensures) (counted count) (c .power-of-two .ensures)
 
 pub shape-for-spec : {M : Type 1} → statement M
 shape-for-spec =

@@ -71,13 +71,13 @@ returns-3 c =
     let whole = start .args .whole in
     let split = start .args .split in
     let above : c .before .power-of-two .result ≡ 2 ^ bitLen whole =
-    c .before .power-of-two .ensures .is ∙ ap (λ (k : ℕ). 2 ^ k) (c .before .before .bit-len .ensures) in
+    c .before .power-of-two .ensures ∙ ap (λ (k : ℕ). 2 ^ k) (c .before .before .bit-len .ensures) in
     let asked = test .before .smaller-split in
     let leading : start .args .lead ≡ true = not-false (start .args .lead) (tests .before .before .if1 .left) in
     let some : 0 < start .args .degree = omega (arith, ltb-false) in
     let wide : 1 < split = omega (arith, ltb-false) in
     let decides = by-whole whole split (start .args .lead) (start .args .degree) (start .pre .some) leading some wide (omega arith) in
-    ap₂ (λ (a b : ℕ). ltb a (whole + b)) above (c .power-of-two2 .ensures .is) ∙ sym decides
+    ap₂ (λ (a b : ℕ). ltb a (whole + b)) above (c .power-of-two2 .ensures) ∙ sym decides
 
 pub listed-again-spec : {M : Type 1} → statement M
 listed-again-spec =

@@ -1,11 +1,11 @@
--- `counts::choice::less` meets its contract. The first two tests decide where the ct-ct counts differ.
+-- `counts::choice::less_pair` meets its contract. The first two tests decide where the ct-ct counts differ.
 -- What they leave is equal ct-ct counts, where the definition compares the pt-ct counts too.
 use mathlib.Core.Path.{_≡_}
 use native.Mathlib.Nat.{le-antisymm}
 use native.Mathlib.Omega.{arith}
 use borrow.Author.Tests.{lt-ltb, le-ltb, eq-eqb, ne-eqb}
-use Rattle.counts.proofs.choice.less.Statement.{statement}
-use Rattle.counts.proofs.choice.less.Tie as tie
+use Rattle.counts.proofs.choice.less_pair.Statement.{statement}
+use Rattle.counts.proofs.choice.less_pair.Tie as tie
 
 returns : tie.Need-returns
 returns c = rw (lt-ltb _ _ (c .if1 .taken))
@@ -23,5 +23,5 @@ returns-3 c =
     let first = second .before .before .before in
     rw (le-ltb _ _ (first .if1 .left), eq-eqb _ _ (le-antisymm (second .if2 .left) (first .if1 .left)))
 
-pub less-spec : {M : Type 1} → statement M
-less-spec = tie.close (tie.spec returns returns-2 returns-3)
+pub less-pair-spec : {M : Type 1} → statement M
+less-pair-spec = tie.close (tie.spec returns returns-2 returns-3)
