@@ -25,4 +25,3 @@ pub mod Magnitudes
 pub mod Fits
 pub mod CutMagnitudes
 pub mod FoldMagnitudes
-pub mod Examples

@@ -4,14 +4,14 @@ use mathlib.Core.Bool.{true}
 use mathlib.Core.List.{[], _∷_, map}
 use lib.IntN.{pos, negsuc}
 use lib.Ieee.{Float, nan, fin, add, sub, mul, div, neg, eq, ofInt}
-use Rattle.algebra.specs.Fold.{everySecond}
+use Rattle.algebra.specs.Allowed.{allows}
 use Rattle.algebra.specs.declared.Basis.the-variants.{Monomial, Chebyshev}
 use Rattle.algebra.specs.declared.Parity.the-variants.{Full, Even, Odd}
 use Rattle.number.specs.Numbers.{floatOps, wholeNumbers, floatNumbers}
 use Rattle.number.specs.Exact.{num}
 use Rattle.number.specs.Evaluate.{horner, clenshawPair, clenshaw, evaluate}
-use Rattle.number.specs.Parity.{allZero, parityOf}
+use Rattle.number.specs.Parity.{hasParityFrom, parityOf}
 use Rattle.number.specs.Interval.{changeOfBasis}
 
 -- -0
 abbrev minusZero : Float
@@ -51,32 +51,32 @@ one-monomial-left = refl
 
 -- -0 counts as zero, a NaN does not
 pub minus-zero-even : parityOf floatNumbers (num (pos 1) ∷ minusZero ∷ []) ≡ Even
-unfolding parityOf allZero everySecond ofInt eq
+unfolding parityOf hasParityFrom allows ofInt eq
 minus-zero-even = refl
 
 pub nan-full : parityOf floatNumbers (num (pos 1) ∷ nan ∷ []) ≡ Full
-unfolding parityOf allZero everySecond ofInt eq
+unfolding parityOf hasParityFrom allows ofInt eq
 nan-full = refl
 
 -- no coefficient, one, and zeros alone are Even; 0 1 0 2 is Odd; 1 2 is Full
 pub none-even : parityOf wholeNumbers [] ≡ Even
-unfolding parityOf allZero everySecond
+unfolding parityOf hasParityFrom allows
 none-even = refl
 
 pub one-even : parityOf wholeNumbers (pos 5 ∷ []) ≡ Even
-unfolding parityOf allZero everySecond
+unfolding parityOf hasParityFrom allows
 one-even = refl
 
 pub zeros-even : parityOf wholeNumbers (pos 0 ∷ pos 0 ∷ []) ≡ Even
-unfolding parityOf allZero everySecond
+unfolding parityOf hasParityFrom allows
 zeros-even = refl
 
 pub odd-places : parityOf wholeNumbers (pos 0 ∷ pos 1 ∷ pos 0 ∷ pos 2 ∷ []) ≡ Odd
-unfolding parityOf allZero everySecond
+unfolding parityOf hasParityFrom allows
 odd-places = refl
 
 pub both-places : parityOf wholeNumbers (pos 1 ∷ negsuc 1 ∷ []) ≡ Full
-unfolding parityOf allZero everySecond
+unfolding parityOf hasParityFrom allows
 both-places = refl
 
 -- the Chebyshev change pair of -1 to 1 is 1 and -0

@@ -1,9 +1,9 @@
 // A letter as a basis, a parity or a strategy.
 use crate::field::ends;
 use crate::field::read_letter;
-use algebra::Basis;
-use algebra::Parity;
-use counts::SplitStrategy;
+use firrozun::Basis;
+use firrozun::Parity;
+use firrozun::SplitStrategy;
 
 pub struct BasisField {
     pub ok: bool,

@@ -1,5 +1,5 @@
 // Replaying the choice of the split and the counts.
-use counts::SplitChoice;
+use firrozun::SplitChoice;
 use recording::ends;
 use recording::read_basis;
 use recording::read_number;
@@ -24,7 +24,7 @@ pub fn min_depth_split_agrees(line: &[u8], at: usize) -> bool {
     if !degree.ok || !answer.ok {
         return false;
     }
-    let ours = counts::min_depth_split(degree.value as usize);
+    let ours = firrozun::min_depth_split(degree.value as usize);
     is_recorded(line, answer.next, ours)
 }
 
@@ -39,7 +39,7 @@ pub fn min_mult_split_agrees(line: &[u8], at: usize) -> bool {
     }
     let p = parity.value;
     let b = basis.value;
-    let ours = counts::min_mult_split(degree.value as usize, p, b);
+    let ours = firrozun::min_mult_split(p, b, degree.value as usize);
     is_recorded(line, answer.next, ours)
 }
 
@@ -56,7 +56,7 @@ pub fn bsgs_op_counts_agrees(line: &[u8], at: usize) -> bool {
     let s = strategy.value;
     let p = parity.value;
     let b = basis.value;
-    let ours = counts::bsgs_op_counts(degree.value as usize, s, p, b);
+    let ours = firrozun::bsgs_op_counts(s, p, b, degree.value as usize);
     let ct = read_number(line, answer.next);
     let pt = read_number(line, ct.next);
     if !ct.ok || !pt.ok || !ends(line, pt.next) {

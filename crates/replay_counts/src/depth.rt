@@ -13,7 +13,7 @@ pub fn bsgs_eval_depth_agrees(line: &[u8], at: usize) -> bool {
         return false;
     }
     let s = strategy.value;
-    let ours = counts::bsgs_eval_depth(degree.value as usize, s);
+    let ours = firrozun::bsgs_eval_depth(s, degree.value as usize);
     let depth = read_number(line, answer.next);
     ours.refusal == 0 && depth.ok && ends(line, depth.next) && ours.depth as u64 == depth.value
 }
@@ -30,7 +30,7 @@ pub fn bsgs_consumed_bits_agrees(line: &[u8], at: usize) -> bool {
     }
     let s = strategy.value;
     let d = degree.value as usize;
-    let ours = counts::bsgs_consumed_bits(d, s, input.value as usize, coeff.value as usize);
+    let ours = firrozun::bsgs_consumed_bits(s, d, input.value as usize, coeff.value as usize);
     let bits = read_number(line, answer.next);
     ours.refusal == 0 && bits.ok && ends(line, bits.next) && ours.bits as u64 == bits.value
 }

@@ -4,10 +4,9 @@ use crate::settings::match_head;
 use crate::settings::match_number;
 use crate::settings::read_settings;
 use crate::settings::wide;
-use lists::Listed;
-use lists::Parity;
-use number::Folded;
-use number::PolynomialInputTransform;
+use firrozun::Folded;
+use firrozun::Listed;
+use firrozun::transform_number;
 use recording::Word;
 use recording::ends;
 use recording::first_reals;
@@ -66,24 +65,13 @@ pub fn decompose_agrees(line: &[u8], at: usize) -> bool {
     let p = settings.parity;
     let s = settings.strategy;
     let c = first_reals(&coeffs, list.count);
-    let ours = lists::decompose_bsgs_f64(c, b, p, s, &mut out, &mut bounds);
+    let ours = firrozun::decompose_bsgs_f64(s, p, b, c, &mut out, &mut bounds);
     if refused(line, answer.next) {
         return is_refused(ours);
     }
     let head = match_head(line, answer.next, ours);
     let lists = match_lists(line, head.next, ours.lists, &out, &bounds);
     head.ok && lists.ok && ends(line, lists.next)
-}
-
-// The source's order.
-fn transform_number(transform: PolynomialInputTransform) -> usize {
-    match transform {
-        PolynomialInputTransform::Identity => 0,
-        PolynomialInputTransform::Square => 1,
-        PolynomialInputTransform::SquareTimesInput => 2,
-        PolynomialInputTransform::ChebyshevT2 => 3,
-        PolynomialInputTransform::ChebyshevT2TimesInput => 4,
-    }
 }
 
 // Whether degree, base, transform and lists are ours, and no more.
@@ -97,13 +85,13 @@ fn is_recorded(
 ) -> bool {
     let head = match_head(line, at, ours);
     let t = fold.transform;
-    let transform = match_number(line, head.next, transform_number(t));
+    let transform = match_number(line, head.next, transform_number(t) as usize);
     let lists = match_lists(line, transform.next, ours.lists, out, bounds);
     head.ok && transform.ok && lists.ok && ends(line, lists.next)
 }
 
 // decompose_folded  basis  parity  strategy  n  c..  =  degree  base  transform  lists, then each list: n  c..
-// The fold, and then the lists of the folded polynomial, whose parity is Full. The Rust's errors are our refusals 4, 5 and 6 of the fold.
+// The fold, and then the lists of the folded polynomial, with the parity that the fold answers. The Rust's errors are our refusals 4, 5 and 6 of the fold.
 pub fn decompose_folded_agrees(line: &[u8], at: usize) -> bool {
     let mut coeffs = [0.0f64; 4096];
     let mut folded = [0.0f64; 4096];
@@ -118,11 +106,12 @@ pub fn decompose_folded_agrees(line: &[u8], at: usize) -> bool {
     let b = settings.basis;
     let p = settings.parity;
     let s = settings.strategy;
-    let fold = number::fold_parity_f64(b, p, first_reals(&coeffs, list.count), &mut folded);
+    let fold = firrozun::fold_parity_f64(p, b, first_reals(&coeffs, list.count), &mut folded);
     if refused(line, answer.next) {
         return 4 <= fold.refusal && fold.refusal <= 6;
     }
     let c = first_reals(&folded, fold.count);
-    let ours = lists::decompose_bsgs_f64(c, b, Parity::Full, s, &mut out, &mut bounds);
+    let full = fold.parity;
+    let ours = firrozun::decompose_bsgs_f64(s, full, b, c, &mut out, &mut bounds);
     fold.refusal == 0 && is_recorded(line, answer.next, fold, ours, &out, &bounds)
 }

@@ -1,8 +1,8 @@
 // The settings at the head of a call, and the head of its answer.
-use lists::Basis;
-use lists::Listed;
-use lists::Parity;
-use lists::SplitStrategy;
+use firrozun::Basis;
+use firrozun::Listed;
+use firrozun::Parity;
+use firrozun::SplitStrategy;
 use recording::Word;
 use recording::read_basis;
 use recording::read_number;

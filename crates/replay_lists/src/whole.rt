@@ -62,7 +62,7 @@ pub fn decompose_whole_agrees(line: &[u8], at: usize) -> bool {
     let p = settings.parity;
     let s = settings.strategy;
     let c = first_wholes(&coeffs, list.count);
-    let ours = lists::decompose_bsgs(c, b, p, s, &mut out, &mut bounds);
+    let ours = firrozun::decompose_bsgs(s, p, b, c, &mut out, &mut bounds);
     if refused(line, answer.next) {
         return is_refused(ours);
     }

@@ -18,7 +18,7 @@ pub fn evaluate_agrees(line: &[u8], at: usize) -> bool {
         return false;
     }
     let kind = basis.value;
-    let ours = number::evaluate_coeffs(kind, first_reals(&coeffs, list.count), x.value);
+    let ours = firrozun::evaluate_coeffs(kind, first_reals(&coeffs, list.count), x.value);
     let value = match_real(line, answer.next, ours);
     value.ok && ends(line, value.next)
 }
@@ -33,7 +33,7 @@ pub fn change_of_basis_agrees(line: &[u8], at: usize) -> bool {
         return false;
     }
     let kind = basis.value;
-    let ours = number::change_of_basis(kind, a.value, b.value);
+    let ours = firrozun::change_of_basis(kind, a.value, b.value);
     let u = match_real(line, answer.next, ours.u);
     let w = match_real(line, u.next, ours.w);
     u.ok && w.ok && ends(line, w.next)

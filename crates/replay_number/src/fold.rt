@@ -1,6 +1,7 @@
 // Replaying folds.
-use number::Folded;
-use number::PolynomialInputTransform;
+use firrozun::Folded;
+use firrozun::parity_number;
+use firrozun::transform_number;
 use recording::ends;
 use recording::first_reals;
 use recording::first_wholes;
@@ -14,30 +15,23 @@ use recording::read_wholes;
 use recording::read_word;
 use recording::refused;
 
-// The source's order.
-fn transform_number(transform: PolynomialInputTransform) -> u64 {
-    match transform {
-        PolynomialInputTransform::Identity => 0,
-        PolynomialInputTransform::Square => 1,
-        PolynomialInputTransform::SquareTimesInput => 2,
-        PolynomialInputTransform::ChebyshevT2 => 3,
-        PolynomialInputTransform::ChebyshevT2TimesInput => 4,
-    }
-}
-
 // Our refusals 4, 5 and 6 are the Rust's errors; the recording does not say which.
 fn is_refused(ours: Folded) -> bool {
     let transform = ours.transform;
-    4 <= ours.refusal && ours.refusal <= 6 && ours.count == 0 && transform_number(transform) == 0
+    let parity = ours.parity;
+    let zeros = transform_number(transform) == 0 && parity_number(parity) == 0 && ours.count == 0;
+    4 <= ours.refusal && ours.refusal <= 6 && zeros
 }
 
-// Whether the transform of our answer is the recorded one; the list begins at `next`.
+// Whether the transform of our answer is the recorded one, and its parity Full; the list begins at `next`.
 fn match_transform(line: &[u8], at: usize, ours: Folded) -> recording::Word {
     let transform = read_number(line, at);
     let ours_transform = ours.transform;
-    let same = transform.value == transform_number(ours_transform);
+    let ours_parity = ours.parity;
+    let same = transform.value == transform_number(ours_transform) as u64;
+    let full = parity_number(ours_parity) == 0;
     recording::Word {
-        ok: ours.refusal == 0 && transform.ok && same,
+        ok: ours.refusal == 0 && transform.ok && same && full,
         next: transform.next,
     }
 }
@@ -55,7 +49,7 @@ pub fn fold_parity_agrees(line: &[u8], at: usize) -> bool {
     }
     let b = basis.value;
     let p = parity.value;
-    let ours = number::fold_parity_f64(b, p, first_reals(&coeffs, list.count), &mut out);
+    let ours = firrozun::fold_parity_f64(p, b, first_reals(&coeffs, list.count), &mut out);
     if refused(line, answer.next) {
         return is_refused(ours);
     }
@@ -77,7 +71,7 @@ pub fn fold_parity_whole_agrees(line: &[u8], at: usize) -> bool {
     }
     let b = basis.value;
     let p = parity.value;
-    let ours = number::fold_parity(b, p, first_wholes(&coeffs, list.count), &mut out);
+    let ours = firrozun::fold_parity(p, b, first_wholes(&coeffs, list.count), &mut out);
     if refused(line, answer.next) {
         return is_refused(ours);
     }

@@ -1,5 +1,5 @@
 // Replaying interpolation.
-use interpolation::Interpolated;
+use firrozun::Interpolated;
 use recording::first_reals;
 use recording::match_parity;
 use recording::match_reals;
@@ -37,6 +37,6 @@ pub fn interpolate_agrees(line: &[u8], at: usize) -> bool {
     let count = us.count;
     let u = first_reals(&nodes, count);
     let v = first_reals(&values, count);
-    let ours = interpolation::chebyshev_interpolate(u, v, a.value, b.value, &mut out);
+    let ours = firrozun::chebyshev_interpolate(u, v, a.value, b.value, &mut out);
     is_recorded(line, answer.next, count, ours, &out)
 }

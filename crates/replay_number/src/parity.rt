@@ -14,7 +14,7 @@ pub fn parity_agrees(line: &[u8], at: usize) -> bool {
     if !list.ok || !answer.ok {
         return false;
     }
-    let ours = number::detect_parity_f64(first_reals(&coeffs, list.count));
+    let ours = firrozun::detect_parity_f64(first_reals(&coeffs, list.count));
     match_parity(line, answer.next, ours)
 }
 
@@ -26,6 +26,6 @@ pub fn parity_whole_agrees(line: &[u8], at: usize) -> bool {
     if !list.ok || !answer.ok {
         return false;
     }
-    let ours = number::detect_parity(first_wholes(&coeffs, list.count));
+    let ours = firrozun::detect_parity(first_wholes(&coeffs, list.count));
     match_parity(line, answer.next, ours)
 }

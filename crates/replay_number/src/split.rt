@@ -11,7 +11,7 @@ pub fn split_degree_agrees(line: &[u8], at: usize) -> bool {
     if !n.ok || !answer.ok {
         return false;
     }
-    let parts = number::split_degree(n.value as usize);
+    let parts = firrozun::split_degree(n.value as usize);
     if refused(line, answer.next) {
         return parts.refusal == 9 && parts.a == 0 && parts.b == 0;
     }

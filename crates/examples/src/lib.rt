@@ -1,0 +1,1 @@
+// Worked examples of the definitions: statements with their proofs, no code.
