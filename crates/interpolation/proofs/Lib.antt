@@ -1,3 +1,3 @@
-mod InterpolateSteps
+mod InterpolateLoops
 mod InterpolateCall
-pub mod InterpolateLaws
+pub mod InterpolateLaw

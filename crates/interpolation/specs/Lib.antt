@@ -1,3 +1,4 @@
 pub mod Interpolate
+pub mod InterpolateLaw
 pub mod InterpolateCall
-pub mod InterpolateExamples
+pub mod inside

@@ -1,5 +1,6 @@
 // Chebyshev interpolation from lent nodes and values, which stand for k = n down to 1.
 use number::Basis;
+use number::COUNT_LIMIT;
 use number::Interval;
 use number::Parity;
 use number::change_of_basis;
@@ -8,12 +9,15 @@ use number::no_interval;
 ghost use mathlib.Core.Path.{_≡_};
 ghost use Prim.Native.Nat.{_<_, _≤_};
 ghost use lib.ListN.{length, replicate};
+ghost use Rattle.number.specs.Limits.{countLimit};
 ghost use Rattle.number.specs.Numbers.{floatOps, floatNumbers};
 ghost use Rattle.number.specs.Parity.{parityOf};
+ghost use Rattle.number.specs.Tests.{miscounted};
 ghost use Rattle.interpolation.specs.Interpolate.{addNode, addNodes, scaledBy, scaled, inverseOf, coefficientsOf};
-ghost use Rattle.interpolation.specs.InterpolateCall.{miscounted, refusalOf, interpolated, interpolatedBuffer};
+ghost use Rattle.interpolation.specs.InterpolateCall.{interpolateRefusal, InterpolateCall};
+ghost use Rattle.interpolation.specs.inside.Filling.{Fillable};
 
-// The refusal, the number of coefficients, their parity, and the interval with its change pair.
+// What interpolation answers: 0 or the refusal, the number of coefficients, their parity, and the interval with its change pair.
 pub struct Interpolated {
     pub refusal: u8,
     pub count: usize,
@@ -74,7 +78,7 @@ fn scale_by(sums: &mut [f64], factor: f64)
 
 // The first element over n, the others twice that.
 fn scale(sums: &mut [f64], n: usize)
-    requires { ⌜ (n ≤ 4096) × (0 < length (now sums)) ⌝ }
+    requires { ⌜ (n ≤ countLimit) × (0 < length (now sums)) ⌝ }
     ensures { λ _. ⌜ now (sums .exit) ≡ scaled floatOps (inverseOf n) (now (sums .entry)) ⌝ }
 {
     let inv_n = 1.0 / (n as f64);
@@ -84,10 +88,9 @@ fn scale(sums: &mut [f64], n: usize)
     scale_by(&mut sums[1..], two_over_n);
 }
 
-// The coefficients, one for each node, and their parity.
+// Writes the coefficients, one for each node, and tells their parity.
 fn fill(out: &mut [f64], nodes: &[f64], values: &[f64]) -> Parity
-    requires { ⌜ (length (now nodes) ≡ length (now values)) × (length (now nodes) ≤ 4096) × (0 < length (now nodes))
-        × (length (now out) ≡ length (now nodes)) ⌝ }
+    requires { ⌜ Fillable (now nodes) (now values) (now out) ⌝ }
     ensures { λ r. ⌜ (r ≡ parityOf floatNumbers (coefficientsOf (now (nodes .entry)) (now (values .entry))))
         × (now (out .exit) ≡ coefficientsOf (now (nodes .entry)) (now (values .entry))) ⌝ }
 {
@@ -97,39 +100,30 @@ fn fill(out: &mut [f64], nodes: &[f64], values: &[f64]) -> Parity
     detect_parity_f64(out)
 }
 
-// Whether nodes and values are unequal in number, none, or above 4,096.
-fn miscounted(nodes: &[f64], values: &[f64]) -> bool
-    ensures { λ r. ⌜ r ≡ miscounted (now (nodes .entry)) (now (values .entry)) ⌝ }
+// Whether nodes and values are unequal in number, none, or above the limit.
+fn miscounted(nodes: usize, values: usize) -> bool
+    ensures { λ r. ⌜ r ≡ miscounted nodes values .0 ⌝ }
 {
-    let n = nodes.len();
-    if n != values.len() {
-        return true;
-    }
-    if n == 0 {
-        return true;
-    }
-    4096 < n
+    nodes != values || (nodes == 0 || COUNT_LIMIT < nodes)
 }
 
-// The tests in their order: 0, or the number of the refusal.
-fn refusal_of(nodes: &[f64], values: &[f64], a: f64, b: f64, room: usize) -> u8
-    ensures { λ r. ⌜ r ≡ refusalOf (now (nodes .entry)) (now (values .entry)) a b room ⌝ }
+// The first test that holds, or 0.
+fn interpolate_refusal(nodes: &[f64], values: &[f64], a: f64, b: f64, out: &[f64]) -> u8
+    ensures { λ r. ⌜ r ≡ interpolateRefusal (now (nodes .entry)) (now (values .entry)) a b (now (out .entry)) ⌝ }
 {
-    let unfit = miscounted(nodes, values);
+    let n = nodes.len();
+    let wrong_count = miscounted(n, values.len());
     let unordered = !(a < b);
-    if unfit {
+    if wrong_count {
         return 8;
     }
     if unordered {
         return 7;
     }
-    if room < nodes.len() {
-        return 21;
-    }
-    0
+    if out.len() < n { 21 } else { 0 }
 }
 
-// The coefficients in the first places of `out`, their number, parity and interval.
+// Interpolates: the coefficients in the first places of `out`, their number, parity and interval.
 pub fn chebyshev_interpolate(
     nodes: &[f64],
     values: &[f64],
@@ -137,27 +131,25 @@ pub fn chebyshev_interpolate(
     b: f64,
     out: &mut [f64],
 ) -> Interpolated
-    ensures { λ r. ⌜ (r ≡ interpolated (now (nodes .entry)) (now (values .entry)) a b (now (out .entry)))
-        × (now (out .exit) ≡ interpolatedBuffer (now (nodes .entry)) (now (values .entry)) a b (now (out .entry))) ⌝ }
+    ensures { λ r. ⌜ InterpolateCall (now (nodes .entry)) (now (values .entry)) a b (now (out .entry)) r (now (out .exit)) ⌝ }
 {
-    let refusal = refusal_of(nodes, values, a, b, out.len());
-    if refusal == 0 {
-        let n = nodes.len();
-        let parity = fill(&mut out[..n], nodes, values);
-        let interval = change_of_basis(Basis::Chebyshev, a, b);
-        Interpolated {
-            refusal: 0,
-            count: n,
-            parity: parity,
-            interval: interval,
-        }
-    } else {
+    let refusal = interpolate_refusal(nodes, values, a, b, out);
+    if 0 < refusal {
         let interval = no_interval();
-        Interpolated {
+        return Interpolated {
             refusal: refusal,
             count: 0,
             parity: Parity::Full,
             interval: interval,
-        }
+        };
+    }
+    let n = nodes.len();
+    let parity = fill(&mut out[..n], nodes, values);
+    let interval = change_of_basis(Basis::Chebyshev, a, b);
+    Interpolated {
+        refusal: 0,
+        count: n,
+        parity: parity,
+        interval: interval,
     }
 }

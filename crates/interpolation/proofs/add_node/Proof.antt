@@ -12,7 +12,7 @@ use Rattle.interpolation.specs.Interpolate.{addNode}
 use Rattle.number.proofs.Literals.{one-is}
 use Rattle.algebra.proofs.Chebyshev.{cheb-zero, cheb-one}
 use Rattle.algebra.proofs.Filling.{place-step, place-end}
-use Rattle.interpolation.proofs.InterpolateSteps.{cheb-next, node-none, node-cons}
+use Rattle.interpolation.proofs.InterpolateLoops.{cheb-next, node-none, node-cons}
 use Rattle.interpolation.proofs.add_node.Statement.{statement}
 use Rattle.interpolation.proofs.add_node.Tie as tie
 

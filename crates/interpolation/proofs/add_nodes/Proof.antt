@@ -7,7 +7,7 @@ use lib.ListN.{length, drop}
 use lib.Ieee.{nan}
 use Rattle.number.specs.Numbers.{floatOps}
 use Rattle.interpolation.specs.Interpolate.{addNodes}
-use Rattle.interpolation.proofs.InterpolateSteps.{nodes-step, nodes-end}
+use Rattle.interpolation.proofs.InterpolateLoops.{nodes-more, nodes-end}
 use Rattle.interpolation.proofs.add_nodes.Statement.{statement}
 use Rattle.interpolation.proofs.add_nodes.Tie as tie
 
@@ -51,8 +51,8 @@ loop-again c =
     let nodes = args .nodes .now in
     let values = args .values .now in
     let k = turn .loop .k in
-    let step = nodes-step floatOps nodes values (turn .loop .sums) k nan (search needs) (search needs) in
-    (search needs, ap (addNodes floatOps (drop (k + 1) nodes) (drop (k + 1) values)) (called .add-node .ensures) ∙ step ∙ turn .loop .inv .1)
+    let more = nodes-more floatOps nodes values (turn .loop .sums) k nan (search needs) (search needs) in
+    (search needs, ap (addNodes floatOps (drop (k + 1) nodes) (drop (k + 1) values)) (called .add-node .ensures) ∙ more ∙ turn .loop .inv .1)
 
 same-length : tie.Need-same-length Inv-loop μ-loop
 same-length c = search needs

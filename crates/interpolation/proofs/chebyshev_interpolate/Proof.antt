@@ -1,37 +1,18 @@
--- `refusal_of` gives the definition's refusal. Where it is 0, the tests that it passed are what `fill` asks, and the first places of the buffer
--- get the coefficients; otherwise nothing is written, and the answer has zero in every other field.
+-- `interpolation::chebyshev_interpolate` meets its contract. Where the tests say 0 they give what `fill` asks for, and the first places of the
+-- buffer get the coefficients; after a refusal nothing is written, and the answer has zero in every other field.
+use mathlib.Core.Path.{_≡_, sym, _∙_}
+use native.Mathlib.Omega.{arith}
 use borrow.Author.Needs.{needs}
-use mathlib.Core.Path.{sym, _∙_}
-use lib.ListN.{length}
-use lib.Seq.{length-take-le}
-use Rattle.interpolation.proofs.InterpolateCall.{accepted, answered, refused}
+use Rattle.interpolation.proofs.InterpolateCall.{room, fillable, interpolate-refused, interpolate-done}
 use Rattle.interpolation.proofs.chebyshev_interpolate.Statement.{statement}
 use Rattle.interpolation.proofs.chebyshev_interpolate.Tie as tie
 
-refusal-of-requires : tie.Need-refusal-of-requires
-refusal-of-requires c κs = search needs
+-- no refusal
+none : (c : tie.Else1) → c .before .interpolate-refusal .result ≡ 0
+none c = omega arith
 
-slice-relend-prefix-fill : tie.Need-slice-relend-prefix-fill
-slice-relend-prefix-fill c =
-    let tested = c .before in
-    accepted _ _ _ _ _ (tested .refusal-of .ensures) (c .if1 .taken) .fits
-
-slice-aggregate-fill : tie.Need-slice-aggregate-fill
-slice-aggregate-fill c =
-    let tested = c .before .before in
-    let args = tested .before .before .before .before .args in
-    let facts = accepted _ _ _ _ _ (tested .refusal-of .ensures) (c .before .if1 .taken) in
-    sym (length-take-le (length (args .nodes .now)) (args .out .now) (facts .fits))
-
-fill-requires : tie.Need-fill-requires
-fill-requires c κs =
-    let tested = c .before .before in
-    let args = tested .before .before .before .before .args in
-    let facts = accepted _ _ _ _ _ (tested .refusal-of .ensures) (c .before .if1 .taken) in
-    (facts .even, facts .few, facts .some, length-take-le (length (args .nodes .now)) (args .out .now) (facts .fits))
-
-change-of-basis-requires : tie.Need-change-of-basis-requires
-change-of-basis-requires c κs = search needs
+interpolate-refusal-requires : tie.Need-interpolate-refusal-requires
+interpolate-refusal-requires c κs = search needs
 
 no-interval-requires : tie.Need-no-interval-requires
 no-interval-requires c κs = search needs
@@ -40,31 +21,43 @@ same-length : tie.Need-same-length
 same-length c = search needs
 
 returns : tie.Need-returns
-returns c =
-    let filling = c .before .before .before in
-    let tested = filling .before .before .before in
-    let args = tested .before .before .before .before .args in
-    let chosen = filling .before .before .if1 .taken in
-    let facts = accepted _ _ _ _ _ (tested .refusal-of .ensures) chosen in
-    let size = filling .fill .kept .0 ∙ length-take-le (length (args .nodes .now)) (args .out .now) (facts .fits) in
-    let filled = filling .fill .ensures in
-    answered _ _ _ _ _ (tested .refusal-of .ensures) chosen size (filled .0) (filled .1) (c .change-of-basis .ensures)
+returns c = let test = c .before in interpolate-refused _ _ _ _ _ (test .before .interpolate-refusal .ensures) (test .if1 .taken) (c .no-interval .ensures)
+
+slice-relend-prefix-fill : tie.Need-slice-relend-prefix-fill
+slice-relend-prefix-fill c = room _ _ _ _ _ (c .before .interpolate-refusal .ensures) (none c)
+
+slice-aggregate-fill : tie.Need-slice-aggregate-fill
+slice-aggregate-fill c = let test = c .before in sym (fillable _ _ _ _ _ (test .before .interpolate-refusal .ensures) (none test) .places)
+
+fill-requires : tie.Need-fill-requires
+fill-requires c κs = let test = c .before in fillable _ _ _ _ _ (test .before .interpolate-refusal .ensures) (none test)
+
+change-of-basis-requires : tie.Need-change-of-basis-requires
+change-of-basis-requires c κs = search needs
+
+same-length-2 : tie.Need-same-length-2
+same-length-2 c = search needs
 
 returns-2 : tie.Need-returns-2
 returns-2 c =
-    let tested = c .before .before in
-    refused _ _ _ _ _ (tested .refusal-of .ensures) (c .before .if1 .left) (c .no-interval .ensures)
+    let filling = c .before .before .before in
+    let test = filling .before .before in
+    let refusal-is = test .before .interpolate-refusal .ensures in
+    let size = filling .fill .kept .0 ∙ fillable _ _ _ _ _ refusal-is (none test) .places in
+    let filled = filling .fill .ensures in
+    interpolate-done _ _ _ _ _ refusal-is (none test) size (filled .0) (filled .1) (c .change-of-basis .ensures)
 
 pub chebyshev-interpolate-spec : {M : Type 1} → statement M
 chebyshev-interpolate-spec =
     tie.close
     (tie.spec
-    refusal-of-requires
+    interpolate-refusal-requires
+    no-interval-requires
+    same-length
+    returns
     slice-relend-prefix-fill
     slice-aggregate-fill
     fill-requires
     change-of-basis-requires
-    no-interval-requires
-    same-length
-    returns
+    same-length-2
     returns-2)

@@ -1,4 +1,5 @@
--- The calls in turn make the zeros, the sums and the coefficients, as the definition does from the inside out; the last tells their parity.
+-- The calls in turn make the zeros, the sums and the coefficients, as the definition does from the inside out. The last call
+-- tells the parity of what then stands in the buffer.
 use borrow.Author.Needs.{needs}
 use mathlib.Core.Path.{ap, _∙_}
 use Prim.Native.Nat.{ℕ}
@@ -33,7 +34,7 @@ returns c =
     let start = lent .before .before .before .before in
     let nodes = start .args .nodes .now in
     let values = start .args .values .now in
-    let zeros = clearing .clear .ensures ∙ ap (λ (n : ℕ). replicate n (floatOps .zero)) (start .pre .3) in
+    let zeros = clearing .clear .ensures ∙ ap (λ (n : ℕ). replicate n (floatOps .zero)) (start .pre .places) in
     let sums = adding .add-nodes .ensures ∙ ap (addNodes floatOps nodes values) zeros in
     let coefficients = scaling .scale .ensures ∙ ap (scaled floatOps (inverseOf (length nodes))) sums in
     (c .detect-parity-f64 .ensures ∙ ap (parityOf floatNumbers) coefficients, coefficients)

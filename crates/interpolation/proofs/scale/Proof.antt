@@ -1,5 +1,5 @@
 -- The first element is set, and the part after it is scaled by the call: the definition's two parts. That n is exact as a float is asked of the
--- cast, and holds up to 4,096.
+-- cast, and holds up to the limit.
 use borrow.Author.Needs.{needs}
 use mathlib.Core.Path.{_∙_}
 use Prim.Native.Nat.{_-_}
@@ -10,7 +10,7 @@ use borrow.Rule.Slice.PartMut.{same-len-mid}
 use Rattle.number.specs.Numbers.{floatOps}
 use Rattle.interpolation.specs.Interpolate.{scaledBy}
 use Rattle.number.proofs.Literals.{one-is}
-use Rattle.interpolation.proofs.InterpolateSteps.{count-fits, head-part, scaled-parts}
+use Rattle.interpolation.proofs.InterpolateLoops.{count-fits, head-part, scaled-parts}
 use Rattle.interpolation.proofs.scale.Statement.{statement}
 use Rattle.interpolation.proofs.scale.Tie as tie
 

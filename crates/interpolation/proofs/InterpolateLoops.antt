@@ -1,4 +1,4 @@
--- The sums of the interpolation, a node and a place at a time.
+-- What the loops of the interpolation make, a node and a place at a time.
 use mathlib.Core.Path.{_≡_, refl, sym, ap}
 use mathlib.Core.List.{List, [], _∷_, append-nil}
 use Prim.Native.Nat.{ℕ, _+_, _-_, _^_, _<_, _≤_}
@@ -14,10 +14,11 @@ use borrow.Rule.Slice.PartMut.{midOf, putMid}
 use Rattle.algebra.specs.Operations.{Operations, double}
 use Rattle.algebra.specs.Power.{cheb}
 use Rattle.algebra.proofs.Chebyshev.{cheb-step}
+use Rattle.number.specs.Limits.{countLimit}
 use Rattle.interpolation.specs.Interpolate.{addNode, addNodes, scaledBy, scaled}
 
 module _ {A : Type 0} (𝓞 : Operations A) where
-  -- T_(i+2) with the index as the code counts
+  -- T_(i+2), with the index as the code counts
   pub cheb-next : (x : A) (i : ℕ) → 𝓞 .sub (𝓞 .mul (double 𝓞 x) (cheb 𝓞 x (i + 1))) (cheb 𝓞 x i) ≡ cheb 𝓞 x (i + 1 + 1)
   cheb-next x i = rw (add-one (i + 1), add-one i) (sym (cheb-step 𝓞 x i))
 
@@ -33,11 +34,11 @@ module _ {A : Type 0} (𝓞 : Operations A) where
 
   module _ (nodes values sums : List A) (k : ℕ) where
     -- one node more, and past the last
-    pub nodes-step : (d : A) → k < length nodes → k < length values
+    pub nodes-more : (d : A) → k < length nodes → k < length values
         → addNodes 𝓞 (drop (k + 1) nodes) (drop (k + 1) values) (addNode 𝓞 0 (getD nodes k d) (getD values k d) sums)
         ≡ addNodes 𝓞 (drop k nodes) (drop k values) sums
     unfolding addNodes
-    nodes-step d g h = rw (drop-cons nodes k d g, drop-cons values k d h, add-one)
+    nodes-more d g h = rw (drop-cons nodes k d g, drop-cons values k d h, add-one)
 
     pub nodes-end : length nodes ≤ k → addNodes 𝓞 (drop k nodes) (drop k values) sums ≡ sums
     unfolding addNodes
@@ -59,7 +60,7 @@ head-part F (x ∷ xs) v ys h e =
     let whole-part : F (take (length (v ∷ xs) - 1) xs) ≡ F xs = ap F (take-all (length (v ∷ xs) - 1) xs all) in
     rw (e, drop-of-length-le xs all, append-nil, whole-part)
 
--- up to 4,096 a number is exact as a float
-pub count-fits : (n : ℕ) → n ≤ 4096 → T (inFloat binary64 (pos n))
+-- up to the limit a number is exact as a float
+pub count-fits : (n : ℕ) → n ≤ countLimit → T (inFloat binary64 (pos n))
 unfolding inFloat
 count-fits n h = le→leb n (2 ^ 53) (le-trans h (lit≤ tt))
