@@ -4,7 +4,6 @@ use mathlib.Core.Path.{_≡_, refl, sym, _∙_, ap, ap₂}
 use mathlib.Core.List.{List, map}
 use Prim.Native.Nat.{ℕ, zero, suc, _<_}
 use lib.ListN.{length, getD, List·getD-map, length-map}
-use lib.IntN.{ℤ}
 use Rattle.algebra.specs.Operations.{Operations, double, wholeOps}
 use Rattle.algebra.specs.Power.{pow, cheb, power}
 use Rattle.algebra.specs.Remainder.{rem, remainders}

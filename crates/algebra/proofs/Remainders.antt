@@ -9,8 +9,7 @@ use native.Mathlib.Bridge.{le-prop}
 use native.Mathlib.Decide.{decLt}
 use native.Mathlib.Omega.{arith}
 use lib.IntN.{ℤ, pos, negsuc, sucℤ, predℤ, negℤ, _+ℤ_, _-ℤ_, _*ℤ_, sucℤ-*ℤ, zero-*ℤ, +ℤ-idl, +ℤ-invl, sucℤ-+ℤ, predℤ-+ℤ, suc-pred}
-use Rattle.algebra.specs.Operations.{Operations}
-use Rattle.algebra.specs.Remainder.{rem, remainders}
+use Rattle.algebra.specs.Remainder.{rem}
 use Rattle.algebra.specs.Ring.{Ring}
 use Rattle.algebra.proofs.Integers.{induction}
 

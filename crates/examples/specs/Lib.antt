@@ -1,3 +1,4 @@
 pub mod Algebra
 pub mod Evaluation
 pub mod Folding
+pub mod Interpolation

@@ -9,7 +9,7 @@ use native.Mathlib.Omega.{arith}
 use borrow.Author.Tests.{eqb-true, eq-eqb}
 use lib.Count.{leadingZeros, leading-of-zero, leading-top}
 use lib.Pow.{pow-mono, pow-pos}
-use Rattle.number.specs.Bits.{digits, bitLen, topPower, powerBelow, isPowerOfTwo, DigitsByHalving, GreatestPower, PowersOfTwo}
+use Rattle.number.specs.Bits.{digits, bitLen, topPower, powerBelow, isPowerOfTwo, DigitsByHalving, PowersOfTwo}
 use Rattle.number.specs.inside.Between.{Between}
 
 zero-digits : (halvings : ℕ) → digits halvings 0 ≡ 0

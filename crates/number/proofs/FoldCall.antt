@@ -1,6 +1,6 @@
 -- The fold calls over plain values: room for the fold, what a call that every test passes knows, and what a call answers and leaves. One proof
 -- for whole numbers and f64.
-use mathlib.Core.Path.{_≡_, refl, ap, sym, _∙_}
+use mathlib.Core.Path.{_≡_, sym, _∙_}
 use mathlib.Core.Bool.{Bool, true, false, not}
 use mathlib.Core.List.{List, [], _∷_}
 use Prim.Native.Nat.{ℕ, zero, suc, _-_, _≤_, _<_}
@@ -9,19 +9,17 @@ use borrow.Author.Tests.{ltb-false, not-false}
 use lib.Dec.{ltb}
 use lib.ListN.{length, drop}
 use lib.Seq.{sets}
-use Rattle.algebra.specs.EnumNumbers.{transformNumber}
 use Rattle.algebra.specs.Fold.{everySecond, foldedLength, fold}
-use Rattle.algebra.specs.Transform.{transformOf}
 use Rattle.algebra.specs.declared.Basis.{Basis}
 use Rattle.algebra.specs.declared.Parity.{Parity}
-use Rattle.algebra.specs.declared.Parity.the-variants.{Full, Even, Odd}
+use Rattle.algebra.specs.declared.Parity.the-variants.{Even, Odd}
 use Rattle.algebra.proofs.FoldPlaces.{length-everySecond, fold-length}
 use Rattle.number.specs.Limits.{planLimit}
 use Rattle.number.specs.Numbers.{Numbers}
 use Rattle.number.specs.Refusal.{Test, Numbered, unlessRefused}
 use Rattle.number.specs.Parity.{hasParity}
 use Rattle.number.specs.Tests.{tooHigh, isFull, fullParity, tooLow}
-use Rattle.number.specs.FoldCall.{noFold, foldRefusal, foldAnswer, foldBuffer, FoldCall}
+use Rattle.number.specs.FoldCall.{foldRefusal, foldAnswer, foldBuffer, FoldCall}
 use Rattle.number.specs.inside.Folding.{Foldable, refusalBy, answerBy}
 use Rattle.number.specs.declared.fold.Folded.{Folded}
 use Rattle.number.proofs.Refusal.{none-holds}

@@ -4,16 +4,16 @@ use mathlib.Core.Path.{_≡_, refl, sym, ap, _∙_}
 use mathlib.Core.Bool.{Bool, true, false, _&&_, _||_, false≢true}
 use mathlib.Core.List.{List, [], _∷_}
 use Prim.Native.Nat.{ℕ, zero, suc, _+_}
-use native.Mathlib.Nat.{add-zero, add-suc}
+use native.Mathlib.Nat.{add-zero}
 use native.Mathlib.Omega.{arith}
-use borrow.Author.Tests.{eqb-true, eq-eqb}
-use lib.Dec.{eqb}
+use borrow.Author.Tests.{eqb-true}
 use lib.ListN.{getD}
-use lib.IntN.{ℤ, pos, negsuc, natAbs}
+use lib.IntN.{ℤ, pos, negsuc}
 use Rattle.algebra.specs.Allowed.{allows}
 use Rattle.algebra.specs.declared.Parity.{Parity}
 use Rattle.number.specs.Numbers.{wholeNumbers}
-use Rattle.number.specs.Parity.{hasParityFrom, ParityTold}
+use Rattle.number.specs.Parity.{hasParityFrom}
+use Rattle.number.specs.ParityTold.{ParityTold}
 
 -- a whole number counts as zero exactly if it is zero
 zero-is : (z : ℤ) → wholeNumbers .isZero z ≡ true → z ≡ pos 0

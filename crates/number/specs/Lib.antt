@@ -4,6 +4,7 @@ pub mod Exact
 pub mod Refusal
 pub mod Bits
 pub mod Parity
+pub mod ParityTold
 pub mod Tests
 pub mod Split
 pub mod Room

@@ -1,15 +1,11 @@
 -- Whether coefficients have a parity, and the parity that they have (`Polynomial::new`): one rule for whole numbers and f64.
-use mathlib.Core.Path.{_≡_}
 use mathlib.Core.Bool.{Bool, true, _&&_, _||_, cond}
 use mathlib.Core.List.{List, [], _∷_}
-use mathlib.Core.Logic.{_↔_}
 use Prim.Native.Nat.{ℕ, suc}
-use lib.IntN.{ℤ}
-use Rattle.algebra.specs.Operations.{wholeOps}
-use Rattle.algebra.specs.Allowed.{allows, HasParity}
+use Rattle.algebra.specs.Allowed.{allows}
 use Rattle.algebra.specs.declared.Parity.{Parity}
 use Rattle.algebra.specs.declared.Parity.the-variants.{Full, Even, Odd}
-use Rattle.number.specs.Numbers.{Numbers, wholeNumbers}
+use Rattle.number.specs.Numbers.{Numbers}
 
 module _ {A : Type 0} (numbers : Numbers A) where
   -- from place j on, every coefficient at a place that the parity doesn't allow counts as zero
@@ -24,7 +20,3 @@ module _ {A : Type 0} (numbers : Numbers A) where
   -- Even if they have that parity; else Odd if they have that; else Full
   unfoldable pub parityOf : List A → Parity
   parityOf c = cond (hasParity Even c) Even (cond (hasParity Odd c) Odd Full)
-
--- the test on whole coefficients is what the fold law asks for
-abbrev pub ParityTold : Type 0
-ParityTold = (parity : Parity) (c : List ℤ) → (hasParity wholeNumbers parity c ≡ true) ↔ HasParity wholeOps parity c

@@ -7,7 +7,7 @@ use lib.ListN.{length}
 use lib.Ieee.{Float, lt}
 use Rattle.algebra.specs.declared.Parity.{Parity}
 use Rattle.algebra.specs.declared.Parity.the-variants.{Full, Even, Odd}
-use Rattle.number.specs.Limits.{planLimit, countLimit, degreeLimit, scaleLimit}
+use Rattle.number.specs.Limits.{countLimit, degreeLimit, scaleLimit}
 use Rattle.number.specs.Refusal.{Test}
 use Rattle.number.specs.Numbers.{Numbers}
 use Rattle.number.specs.Parity.{hasParity}

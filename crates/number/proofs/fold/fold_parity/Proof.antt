@@ -1,6 +1,6 @@
 -- `number::fold::fold_parity` meets its contract. The tests say 0 or the refusal, and a call that they pass has what the writer asks for.
 -- A refused call writes nothing.
-use mathlib.Core.Path.{_≡_, sym}
+use mathlib.Core.Path.{_≡_}
 use mathlib.Core.Bool.{true}
 use mathlib.Core.List.{List}
 use Prim.Native.Nat.{_<_}

@@ -1,6 +1,6 @@
 -- `number::fold_f64::fold_parity_f64` meets its contract. The tests say 0 or the refusal, and a call that they pass has what the writer asks for.
 -- A refused call writes nothing.
-use mathlib.Core.Path.{_≡_, refl, sym}
+use mathlib.Core.Path.{_≡_, refl}
 use mathlib.Core.List.{List}
 use Prim.Native.Nat.{_<_}
 use native.Mathlib.Omega.{arith}

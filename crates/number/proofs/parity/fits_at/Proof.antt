@@ -1,9 +1,6 @@
 -- `number::parity::fits_at` meets its contract: an allowed place takes any number, another one only zero.
 use borrow.Author.Needs.{needs}
-use borrow.Author.Tests.{eq-eqb}
-use mathlib.Core.Path.{sym, ap, _∙_}
-use mathlib.Core.Bool.{Bool, _||_}
-use Rattle.number.specs.Numbers.{wholeNumbers}
+use mathlib.Core.Path.{sym, _∙_}
 use Rattle.number.proofs.Signed.{zero-bits}
 use Rattle.number.proofs.parity.fits_at.Statement.{statement}
 use Rattle.number.proofs.parity.fits_at.Tie as tie

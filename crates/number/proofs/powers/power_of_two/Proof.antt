@@ -1,6 +1,6 @@
 -- `number::powers::power_of_two` meets its contract. For k below 64 the power is below 2^64, so the shift loses nothing.
-use mathlib.Core.Path.{_≡_, _∙_}
-use Prim.Native.Nat.{_*_, _^_, _%_, _<_}
+use mathlib.Core.Path.{_∙_}
+use Prim.Native.Nat.{_*_, _^_, _<_}
 use native.Mathlib.Nat.{mod-eq-of-lt, one-mul}
 use native.Mathlib.Omega.{arith}
 use lib.Pow.{pow-lt}
