@@ -1,4 +1,4 @@
--- The cut of a coefficient list at p (document 01, "Factorising and listing"): value = value of low + power p · value of high.
+-- The cut of a coefficient list at p (docs/RULES.md, "Factorising and listing"): value = value of low + power p · value of high.
 use mathlib.Core.List.{List, [], _∷_, _++_, map, reverse}
 use Prim.Native.Nat.{ℕ, suc}
 use lib.ListN.{take, drop}

@@ -1,4 +1,4 @@
--- The number of each basis, parity and transform (document 01: "in the source's order"). Answers and lines show them by these numbers.
+-- The number of each basis, parity and transform (docs/RULES.md, "Numbers of the kinds"). Answers and lines show them by these numbers.
 use mathlib.Core.Path.{_≡_}
 use Prim.Native.Nat.{ℕ}
 use Rattle.algebra.specs.declared.Basis.{Basis}

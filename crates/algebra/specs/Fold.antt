@@ -1,4 +1,4 @@
--- Folding (document 01, "Folding"): a polynomial of one parity in x becomes one of half the degree in y = x² or y = T_2(x), of parity Full.
+-- Folding (docs/RULES.md, "Folding"): a polynomial of one parity in x becomes one of half the degree in y = x² or y = T_2(x), of parity Full.
 use mathlib.Core.List.{List, [], _∷_}
 use Prim.Native.Nat.{ℕ, zero, suc, _+_, _/_}
 use lib.ListN.{drop}

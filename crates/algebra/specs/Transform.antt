@@ -1,4 +1,4 @@
--- The transforms of a folded polynomial (document 01, "Folding" and "Steps and the walk"): what the input goes through before it is evaluated.
+-- The transforms of a folded polynomial (docs/RULES.md, "Folding" and "Steps and the walk"): what the input goes through before it is evaluated.
 use Rattle.algebra.specs.Operations.{Operations, double}
 use Rattle.algebra.specs.declared.Basis.{Basis}
 use Rattle.algebra.specs.declared.Basis.the-variants.{Monomial, Chebyshev}

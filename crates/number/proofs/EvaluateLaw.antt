@@ -45,7 +45,8 @@ module _ {A : Type 0} (𝓡 : Ring A) (x : A) where
   pair-sum t next [] = dot-nil ops (λ j. t (suc j)) ∙ ring 𝓡 (t 1 ∷ t 0 ∷ []) (λ u v. num 0 := num 0 :* u :- num 0 :* v) refl
   pair-sum t next (c ∷ cs) =
       from 𝓡
-      (x ∷ c ∷ clenshawPair ops x cs .b1 ∷ clenshawPair ops x cs .b2 ∷ t 2 ∷ t 1 ∷ t 0 ∷ dot ops (λ j. t (suc (suc j))) cs ∷ dot ops (λ j. t (suc j)) (c ∷ cs) ∷ [])
+      (x ∷ c ∷ clenshawPair ops x cs .b1 ∷ clenshawPair ops x cs .b2 ∷ t 2 ∷ t 1 ∷ t 0
+      ∷ dot ops (λ j. t (suc (suc j))) cs ∷ dot ops (λ j. t (suc j)) (c ∷ cs) ∷ [])
       (λ x c p q t₂ t₁ t₀ rest all. all := (num 2 :* x :* p :- q :+ c) :* t₁ :- p :* t₀)
       (λ x c p q t₂ t₁ t₀ rest all.
       (num 1, all := c :* t₁ :+ rest) ∷ (num 1, rest := p :* t₂ :- q :* t₁) ∷ (p, t₂ := num 2 :* x :* t₁ :- t₀) ∷ [])

@@ -1,4 +1,4 @@
--- The factorisation of whole coefficients as f64 (document 01, "Factorising and listing").
+-- The factorisation of whole coefficients as f64 (docs/RULES.md, "Factorising and listing").
 use mathlib.Core.Path.{_≡_}
 use mathlib.Core.List.{List, map}
 use Prim.Native.Nat.{ℕ}

@@ -1,4 +1,4 @@
--- Whole numbers as f64 (document 01, "shown exact for whole numbers up to 2^53").
+-- Whole numbers as f64 (docs/RULES.md, "Exactness of f64").
 use mathlib.Core.Path.{_≡_}
 use mathlib.Core.Bool.{Bool, true, false}
 use mathlib.Core.List.{List, [], _∷_}

@@ -1,4 +1,4 @@
--- The fold calls (document 01, "Folding" and "Refusals"): their tests in order, their answer, and what they leave in the buffer.
+-- The fold calls (docs/RULES.md, "Folding" and "Refusals"): their tests in order, their answer, and what they leave in the buffer.
 use mathlib.Core.Path.{_≡_}
 use mathlib.Core.List.{List, [], _∷_, _++_}
 use Prim.Native.Nat.{ℕ}

@@ -1,4 +1,4 @@
--- Whole coefficients fold to the same numbers as f64 (document 01, "writes equal numbers").
+-- Whole coefficients fold to the same numbers as f64 (docs/RULES.md, "Exactness of f64").
 use mathlib.Core.Path.{_≡_}
 use mathlib.Core.Bool.{true}
 use mathlib.Core.List.{List, map}

@@ -1,4 +1,4 @@
--- The limits of document 01, each named once. The code has them as constants of the same names.
+-- The limits (docs/RULES.md, "Limits"), each named once. The code has them as constants of the same names.
 use Prim.Native.Nat.{ℕ, _^_}
 
 -- the greatest degree of plans, lists, folds, counts and MinMult

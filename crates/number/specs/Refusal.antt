@@ -1,4 +1,4 @@
--- Refusals (document 01): a call makes its tests in a fixed order, and answers with the number of the first that holds.
+-- Refusals (docs/RULES.md, "Refusals"): a call makes its tests in a fixed order, and answers with the number of the first that holds.
 use mathlib.Core.Path.{_≡_}
 use mathlib.Core.Bool.{Bool, true, false, cond}
 use mathlib.Core.List.{List, [], _∷_}

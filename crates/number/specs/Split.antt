@@ -1,4 +1,4 @@
--- Splitting an index (document 01, "Splitting an index"; Lee et al. 2020).
+-- Splitting an index (docs/RULES.md, "Splitting an index"; Lee et al. 2020).
 use mathlib.Core.Bool.{Bool, true, false}
 use mathlib.Core.List.{[], _∷_}
 use Prim.Native.Nat.{ℕ, _+_, _-_, _/_}

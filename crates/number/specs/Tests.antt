@@ -1,4 +1,4 @@
--- The tests behind each refusal number of document 01, each once. A call's refusal is a list of them in document 01's order.
+-- The tests behind each refusal number (docs/RULES.md, "Refusals"), each once. A call's refusal is a list of them in the order of its table.
 use mathlib.Core.Bool.{Bool, true, false, not, _||_}
 use mathlib.Core.List.{List, [], _∷_}
 use Prim.Native.Nat.{ℕ, _-_}

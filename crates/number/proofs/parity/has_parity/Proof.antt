@@ -68,7 +68,10 @@ loop-again c =
     sym (test-goes-on wholeNumbers (start .args .parity) (start .args .c .now) (turn .loop .j) (pos 0) (search needs) fits) ∙ turn .loop .inv
 
 returns-2 : tie.Need-returns-2 Inv-loop μ-loop
-returns-2 c = let turn = c .before in sym (test-end wholeNumbers (turn .before .args .parity) (turn .before .args .c .now) (turn .loop .j) (search needs)) ∙ turn .loop .inv
+returns-2 c =
+    let turn = c .before in
+    let start = turn .before in
+    sym (test-end wholeNumbers (start .args .parity) (start .args .c .now) (turn .loop .j) (search needs)) ∙ turn .loop .inv
 
 pub has-parity-spec : {M : Type 1} → statement M
 has-parity-spec =

@@ -60,7 +60,10 @@ loop-again c =
     sym (test-goes-on floatNumbers (start .args .parity) (start .args .c .now) (turn .loop .j) nan (search needs) fits) ∙ turn .loop .inv
 
 returns-2 : tie.Need-returns-2 Inv-loop μ-loop
-returns-2 c = let turn = c .before in sym (test-end floatNumbers (turn .before .before .args .parity) (turn .before .before .args .c .now) (turn .loop .j) (search needs)) ∙ turn .loop .inv
+returns-2 c =
+    let turn = c .before in
+    let start = turn .before .before in
+    sym (test-end floatNumbers (start .args .parity) (start .args .c .now) (turn .loop .j) (search needs)) ∙ turn .loop .inv
 
 pub has-parity-f64-spec : {M : Type 1} → statement M
 has-parity-f64-spec =
