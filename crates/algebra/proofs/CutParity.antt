@@ -9,6 +9,7 @@ use lib.ListN.{length, getD, take, drop}
 use lib.Seq.{getD-take, getD-drop}
 use Rattle.algebra.specs.Allowed.{allows, HasParity}
 use Rattle.algebra.specs.Cut.{doubled, cutAt}
+use Rattle.algebra.specs.CutParity.{CutParity}
 use Rattle.algebra.specs.Operations.{Operations, double}
 use Rattle.algebra.specs.Ring.{Ring}
 use Rattle.algebra.specs.declared.Basis.{Basis}
@@ -53,3 +54,7 @@ module _ {A : Type 0} (𝓡 : Ring A) (parity : Parity) (p : ℕ) (c : List A) (
       by-place : (j : ℕ) → allows parity j ≡ false → getD (doubled ops (drop p c)) j 𝟘 ≡ 𝟘
       by-place zero w = getD-doubled-zero 𝓡 (drop p c) ∙ beyond 0 w
       by-place (suc j) w = getD-doubled-suc 𝓡 (drop p c) j ∙ ap (double ops) (beyond (suc j) w) ∙ R.mul-zero 𝓡 _
+
+pub cut-parity : {A : Type 0} (𝓡 : Ring A) → CutParity 𝓡
+cut-parity 𝓡 parity basis p c even under fits =
+    record { low = low-parity 𝓡 parity p c even under fits basis; high = high-parity 𝓡 parity p c even under fits basis }

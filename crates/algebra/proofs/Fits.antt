@@ -1,17 +1,14 @@
--- When a whole number fits i64: if its magnitude is below 2^63. So a sum, a difference or a double does where the magnitudes leave room for it.
+-- When a whole number fits i64: if its magnitude is below 2^63. So a difference or a double does where the magnitudes leave room for it.
 use mathlib.Core.Path.{_≡_, ap₂}
-use mathlib.Core.List.{List}
-use Prim.Native.Nat.{ℕ, _+_, _≤_, _<_, _^_}
+use Prim.Native.Nat.{_+_, _≤_, _<_, _^_}
 use native.Mathlib.Omega.{arith}
-use lib.IntN.{ℤ, pos, negsuc, natAbs, _+ℤ_, _-ℤ_}
-use lib.ListN.{getD}
+use lib.IntN.{ℤ, pos, negsuc, natAbs, _-ℤ_}
 use lib.Signed.{mag}
 use mir.Syntax.{Width, w64}
 use mir.Val.{SFits, toZ, ofZ}
 use mir.Facts.{toZ-ofZ}
-use Rattle.algebra.specs.Magnitude.{sumAbs}
 use Rattle.algebra.specs.Operations.{double, wholeOps}
-use Rattle.algebra.proofs.Magnitudes.{abs-add, abs-sub, abs-double, abs-getD}
+use Rattle.algebra.proofs.Magnitudes.{abs-sub, abs-double}
 
 mag-abs : (z : ℤ) → mag z ≤ natAbs z
 mag-abs (pos n) = omega arith
@@ -21,10 +18,6 @@ mag-abs (negsuc n) = omega arith
 pub fits-abs : (z : ℤ) → natAbs z < 2 ^ 63 → SFits w64 z
 fits-abs z h = record { sfits = omega (arith, mag-abs z) }
 
--- a sum
-pub fits-add : (a b : ℤ) → natAbs a + natAbs b < 2 ^ 63 → SFits w64 (a +ℤ b)
-fits-add a b h = fits-abs (a +ℤ b) (omega (arith, abs-add a b))
-
 -- a difference
 pub fits-sub : (a b : ℤ) → natAbs a + natAbs b < 2 ^ 63 → SFits w64 (a -ℤ b)
 fits-sub a b h = fits-abs (a -ℤ b) (omega (arith, abs-sub a b))
@@ -32,10 +25,6 @@ fits-sub a b h = fits-abs (a -ℤ b) (omega (arith, abs-sub a b))
 -- a double
 pub fits-double : (a : ℤ) → natAbs a < 2 ^ 62 → SFits w64 (double wholeOps a)
 fits-double a h = fits-abs (double wholeOps a) (omega (arith, abs-double a))
-
--- an element of a list
-pub fits-getD : (c : List ℤ) (i : ℕ) → sumAbs c < 2 ^ 63 → SFits w64 (getD c i (pos 0))
-fits-getD c i h = fits-abs (getD c i (pos 0)) (omega (arith, abs-getD c i))
 
 -- an operation f on x and y, as the machine makes it: both are read out of their bits, and the result too
 module _ (w : Width) (f : ℤ → ℤ → ℤ) {x y : ℤ} (hx : SFits w x) (hy : SFits w y) (hf : SFits w (f x y)) where

@@ -10,7 +10,7 @@ use Rattle.algebra.specs.Remainder.{rem, remainders}
 use Rattle.algebra.specs.Value.{sum, dot, value}
 use Rattle.algebra.specs.declared.Basis.{Basis}
 use Rattle.algebra.specs.declared.Basis.the-variants.{Monomial, Chebyshev}
-use Rattle.algebra.proofs.Remainders.{rem-add, rem-sub, rem-mul, rem-neg, rem-zero, residue-eq, residue, residues}
+use Rattle.algebra.proofs.Remainders.{rem-add, rem-sub, rem-mul, rem-neg, rem-zero}
 use Rattle.algebra.proofs.Sums.{sum-ext}
 
 -- φ takes each operation of 𝓞 to that of 𝓟
@@ -63,7 +63,7 @@ module _ {A B : Type 0} {𝓞 : Operations A} {𝓟 : Operations B} {φ : A → 
   pub hom-value : (basis : Basis) (x : A) (c : List A) → φ (value 𝓞 basis x c) ≡ value 𝓟 basis (φ x) (map φ c)
   hom-value basis x c = hom-dot (power 𝓞 basis x) (power 𝓟 basis (φ x)) (hom-power basis x) c
 
--- the remainder by m, as a plain number
+-- the remainder by m
 pub remainder-homomorphism : (m : ℕ) → 0 < m → Homomorphism wholeOps (remainders m) (rem m)
 unfolding rem
 remainder-homomorphism m h = record {
@@ -73,16 +73,4 @@ remainder-homomorphism m h = record {
   sub = rem-sub m h;
   mul = rem-mul m h;
   neg = rem-neg m h;
-}
-
--- and as an element of the ring of those below m
-pub residue-homomorphism : (m : ℕ) (h : 0 < m) → Homomorphism wholeOps (residues m h .ops) (residue m h)
-unfolding rem
-residue-homomorphism m h = record {
-  zero = residue-eq refl;
-  one = residue-eq refl;
-  add = λ a b. residue-eq (rem-add m h a b);
-  sub = λ a b. residue-eq (rem-sub m h a b);
-  mul = λ a b. residue-eq (rem-mul m h a b);
-  neg = λ a. residue-eq (rem-neg m h a);
 }

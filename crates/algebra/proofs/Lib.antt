@@ -16,7 +16,6 @@ pub mod OddCoefficients
 pub mod OddChebyshev
 pub mod FoldPlaces
 pub mod FoldLaw
-pub mod Linear
 pub mod Remainders
 pub mod Homomorphism
 pub mod RemainderLaw

@@ -1,16 +1,13 @@
--- The remainder by m of a sum, difference, product or opposite is that of the remainders, and the numbers below m are a ring.
+-- The remainder by m of a sum, difference, product or opposite is that of the remainders.
 -- By induction on ℤ, one up and one down.
 use mathlib.Core.Path.{_≡_, sym, _∙_, ap}
-use mathlib.Core.HLevel.{Σ-prop-path}
 use Prim.Native.Nat.{ℕ, zero, suc, _+_, _*_, _-_, _%_, _/_, _<_}
 use native.Mathlib.Nat as N
 use native.Mathlib.Nat.{mod-lt, mod-eq-of-lt, mod-self, zero-mod, suc-mod, mod-add-mod, add-mod-mod, add-mod-right, add-mul-mod-self-right, mod-add-div'}
-use native.Mathlib.Bridge.{le-prop}
 use native.Mathlib.Decide.{decLt}
 use native.Mathlib.Omega.{arith}
 use lib.IntN.{ℤ, pos, negsuc, sucℤ, predℤ, negℤ, _+ℤ_, _-ℤ_, _*ℤ_, sucℤ-*ℤ, zero-*ℤ, +ℤ-idl, +ℤ-invl, sucℤ-+ℤ, predℤ-+ℤ, suc-pred}
 use Rattle.algebra.specs.Remainder.{rem}
-use Rattle.algebra.specs.Ring.{Ring}
 use Rattle.algebra.proofs.Integers.{induction}
 
 -- the first factor may be reduced before the product
@@ -150,51 +147,3 @@ module _ (m : ℕ) (h : 0 < m) where
   -- of a difference
   pub rem-sub : (a b : ℤ) → rem m (a -ℤ b) ≡ (rem m a + (m - rem m b)) % m
   rem-sub a b = rem-add a (negℤ b) ∙ ap (λ r. (rem m a + r) % m) (rem-neg b) ∙ add-mod-mod (rem m a) (m - rem m b) m
-
--- ---- the remainders with their operations
-
--- a number below m
-abbrev pub Residue : ℕ → Type 0
-Residue m = (n : ℕ) × (n < m)
-
--- the number is all of it
-pub residue-eq : {m : ℕ} {a b : Residue m} → a .0 ≡ b .0 → a ≡ b
-residue-eq e = Σ-prop-path (λ n. le-prop) e
-
-module _ (m : ℕ) (h : 0 < m) where
-  -- a natural number's remainder
-  abbrev pub reduced : ℕ → Residue m
-  reduced n = (n % m, mod-lt n h)
-
-  -- a whole number's remainder
-  abbrev pub residue : ℤ → Residue m
-  residue z = (rem m z, rem-lt m h z)
-
-  -- the ring of the numbers below m
-  abbrev pub residues : Ring (Residue m)
-  residues = record {
-    ops = record {
-      zero = reduced 0;
-      one = reduced 1;
-      add = λ a b. reduced (a .0 + b .0);
-      sub = λ a b. reduced (a .0 + (m - b .0));
-      mul = λ a b. reduced (a .0 * b .0);
-      neg = λ a. reduced (m - a .0);
-    };
-    add-assoc = λ a b c. residue-eq
-        (mod-add-mod (a .0 + b .0) m (c .0) ∙ ap (_% m) (N.add-assoc (a .0) (b .0) (c .0)) ∙ sym (add-mod-mod (a .0) (b .0 + c .0) m));
-    add-comm = λ a b. residue-eq (ap (_% m) (N.add-comm (a .0) (b .0)));
-    add-zero = λ a. residue-eq (add-mod-mod (a .0) 0 m ∙ ap (_% m) (N.add-zero (a .0)) ∙ mod-eq-of-lt (a .1));
-    add-neg = λ a. residue-eq (add-mod-mod (a .0) (m - a .0) m ∙ ap (_% m) (whole (a .0) (a .1)) ∙ mod-self m ∙ sym (zero-mod m));
-    sub-neg = λ a b. residue-eq (sym (add-mod-mod (a .0) (m - b .0) m));
-    mul-assoc = λ a b c. residue-eq
-        (mod-mul-mod (a .0 * b .0) (c .0) m ∙ ap (_% m) (N.mul-assoc (a .0) (b .0) (c .0)) ∙ sym (mul-mod-mod (a .0) (b .0 * c .0) m));
-    mul-comm = λ a b. residue-eq (ap (_% m) (N.mul-comm (a .0) (b .0)));
-    mul-one = λ a. residue-eq (mul-mod-mod (a .0) 1 m ∙ ap (_% m) (N.mul-one (a .0)) ∙ mod-eq-of-lt (a .1));
-    distrib = λ a b c. residue-eq
-        (mod-mul-mod (a .0 + b .0) (c .0) m ∙ ap (_% m) (N.add-mul (a .0) (b .0) (c .0))
-        ∙ sym (mod-add-mod (a .0 * c .0) m ((b .0 * c .0) % m) ∙ add-mod-mod (a .0 * c .0) (b .0 * c .0) m));
-  }
-    where
-      whole : (r : ℕ) → r < m → r + (m - r) ≡ m
-      whole r k = omega arith

@@ -58,10 +58,6 @@ module _ {A : Type 0} (𝓡 : Ring A) where
   pub neg-zero : ⊝ 𝟘 ≡ 𝟘
   neg-zero = sym (neg-unique 𝟘 𝟘 (add-zero 𝟘))
 
-  -- the opposite of the opposite
-  pub neg-neg : (a : A) → ⊝ (⊝ a) ≡ a
-  neg-neg a = sym (neg-unique (⊝ a) a (neg-add a))
-
   -- the opposite of a factor gives the opposite of the product
   pub neg-mul : (a b : A) → ⊝ a ⊗ b ≡ ⊝ (a ⊗ b)
   neg-mul a b = neg-unique (a ⊗ b) (⊝ a ⊗ b) (sym (distrib a (⊝ a) b) ∙ ap (_⊗ b) (add-neg a) ∙ zero-mul b)

@@ -8,6 +8,7 @@ pub mod Distance
 pub mod ProductLaw
 pub mod Cut
 pub mod CutLaw
+pub mod CutParity
 pub mod Fold
 pub mod Transform
 pub mod FoldLaw

@@ -84,13 +84,6 @@ len-leading k (suc n) high =
     let same : suc (top .0) ≡ bitLen (suc n) = len-unique (suc n) (suc (top .0)) (omega arith) below (omega arith) in
     omega arith
 
--- 2^k has k + 1 digits
-pub len-power : (k : ℕ) → bitLen (2 ^ k) ≡ suc k
-len-power k =
-    let doubles = two-pow-succ k in
-    let positive : 0 < 2 ^ k = pow-pos k in
-    sym (len-unique (2 ^ k) (suc k) positive (omega arith) (omega arith))
-
 -- a number from 1 up has a digit
 pub some-digit : (n : ℕ) → 0 < n → 0 < bitLen n
 some-digit n some =

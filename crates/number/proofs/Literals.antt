@@ -1,10 +1,8 @@
--- The literals and tests of the code, as the definitions have them.
-use mathlib.Core.Path.{_≡_, refl, sym, ap, _∙_}
-use mathlib.Core.Bool.{true, false}
+-- The literals of the code, as the definitions have them.
+use mathlib.Core.Path.{_≡_, refl}
 use lib.IntN.{pos}
-use lib.Ieee.{Float, binary64, ofBits, ofInt, eq, ne}
-use borrow.Author.Tests.{not-true, not-false}
-use Rattle.number.specs.Numbers.{floatOps, floatNumbers}
+use lib.Ieee.{binary64, ofBits, ofInt}
+use Rattle.number.specs.Numbers.{floatOps}
 use Rattle.number.specs.Exact.{num}
 
 -- 0.0
@@ -21,12 +19,3 @@ one-is = refl
 pub two-is : ofBits binary64 0x4000_0000_0000_0000 ≡ num (pos 2)
 unfolding ofBits ofInt
 two-is = refl
-
--- `x != 0.0` found true, and found false
-pub float-not-zero : (x : Float) → ne x (ofBits binary64 0) ≡ true → floatNumbers .isZero x ≡ false
-unfolding ne
-float-not-zero x test = ap (eq x) (sym zero-is) ∙ not-true (eq x (ofBits binary64 0)) test
-
-pub float-is-zero : (x : Float) → ne x (ofBits binary64 0) ≡ false → floatNumbers .isZero x ≡ true
-unfolding ne
-float-is-zero x test = ap (eq x) (sym zero-is) ∙ not-false (eq x (ofBits binary64 0)) test

@@ -3,7 +3,7 @@ use mathlib.Core.Path.{_≡_, refl, sym, ap, _∙_}
 use mathlib.Core.Bool.{true, false, true≢false, false≢true}
 use Prim.Native.Nat.{ℕ, suc, _≤_, _<_, _^_, max}
 use native.Mathlib.Omega.{arith}
-use borrow.Author.Tests.{ltb-true, ltb-false, eq-eqb, ne-eqb}
+use borrow.Author.Tests.{ltb-true, ltb-false, ne-eqb}
 use lib.Dec.{T, eqb}
 use lib.IntN.{ℤ, pos, negsuc, negℤ, natAbs, _-ℤ_, +ℤ-idl}
 use lib.Signed.{mag, ltZ, nonNeg}
@@ -65,11 +65,3 @@ zero-bits (negsuc n) h =
   where
     differ : negsuc n ≡ toZ w64 0 → ⊥
     differ e = let same : _≡_ {A = ℕ} 0 1 = cc in omega arith
-
--- the machine's test of a whole number against 0, on its bits: found equal, and found other
-module _ (z : ℤ) (fits : SFits w64 z) where
-  pub whole-is-zero : ofZ w64 z ≡ 0 → wholeNumbers .isZero z ≡ true
-  whole-is-zero e = sym (zero-bits z fits) ∙ eq-eqb (ofZ w64 z) 0 e
-
-  pub whole-not-zero : (ofZ w64 z ≡ 0 → ⊥) → wholeNumbers .isZero z ≡ false
-  whole-not-zero e = sym (zero-bits z fits) ∙ ne-eqb (ofZ w64 z) 0 e
