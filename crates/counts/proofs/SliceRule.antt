@@ -4,12 +4,12 @@ use mathlib.Core.Bool.{Bool, true, false}
 use mathlib.Core.List.{[], _∷_, _++_}
 use Prim.Native.Nat.{ℕ, zero, suc, _-_, _^_, _≤_, _<_}
 use native.Mathlib.Omega.{arith}
+use borrow.Author.Tests.{lt-ltb, le-ltb, ltb-false}
 use lib.Pow.{pow-pos}
 use lib.Dec.{ltb}
-use borrow.Author.Tests.{lt-ltb, le-ltb, ltb-false}
-use Rattle.number.specs.Bits.{bitLen}
-use Rattle.number.specs.Bits.{topPower}
+use Rattle.number.specs.Bits.{bitLen, topPower}
 use Rattle.counts.specs.Slices.{slicesIn, slicesOf}
+use Rattle.counts.specs.SliceRule.{SliceRule}
 use Rattle.number.proofs.Bits.{some-digit, sides-fall}
 
 -- without digits the degree is 0
@@ -64,3 +64,6 @@ slices-cut split degree reached = at-bound (bitLen degree) refl
         let low = same-slices cuts (bitLen (topPower degree - 1)) split (topPower degree - 1) (omega arith) (omega arith) in
         let high = same-slices cuts (bitLen (degree - topPower degree)) split (degree - topPower degree) (omega arith) (omega arith) in
         rw (le-ltb degree (2 ^ split) reached, slicesIn) (ap₂ _++_ low high)
+
+pub slice-rule : (degree split : ℕ) → SliceRule degree split
+slice-rule degree split = record { one = slices-one split degree; cut = slices-cut split degree }
