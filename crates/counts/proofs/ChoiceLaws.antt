@@ -27,9 +27,9 @@ module _ (bits : ℕ) {low high low′ high′ : ℕ} (low-is : low ≡ 2 ^ (bit
 
   pub min-depth-same : low + high + bits - bits / 2 - 3 ≤ low′ + high′ + bits - bits / 2 - 4 → bits / 2 ≡ minDepth bits
   unfolding minDepth aExceedsB
-  min-depth-same most = rw (le-ltb _ _ (rw (low-is, high-is, low′-is, high′-is) at most))
+  min-depth-same within = rw (le-ltb _ _ (rw (low-is, high-is, low′-is, high′-is) at within))
 
--- half the bit bits, or one more
+-- half the bit length, or one more
 half-range : (bits : ℕ) (test : Bool) → Between 2 bits 12 → Between 1 (cond test (bits / 2 + 1) (bits / 2)) 12
 half-range bits true range = record { from = omega arith; to = omega arith }
 half-range bits false range = record { from = omega arith; to = omega arith }
@@ -38,7 +38,7 @@ pub depth-range : (bits : ℕ) → Between 1 bits 12 → Between 1 (minDepth bit
 unfolding minDepth aExceedsB
 depth-range zero range = absurd (omega arith)
 depth-range (suc zero) range = record { from = omega arith; to = omega arith }
-depth-range (suc (suc l)) range = half-range (suc (suc l)) (aExceedsB (suc (suc l))) (record { from = omega arith; to = range .to })
+depth-range (suc (suc b)) range = half-range (suc (suc b)) (aExceedsB (suc (suc b))) (record { from = omega arith; to = range .to })
 
 -- ---- every choice
 

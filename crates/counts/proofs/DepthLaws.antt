@@ -13,7 +13,7 @@ use Rattle.counts.specs.Depth.{threshold, depthOf}
 use Rattle.counts.specs.declared.choice.SplitStrategy.{SplitStrategy}
 use Rattle.counts.specs.declared.choice.SplitStrategy.the-variants.{MinDepth, MinMult}
 use Rattle.number.proofs.Bits.{digits-range}
-use Rattle.counts.proofs.PlainCount.{at-most-one}
+use Rattle.needed.proofs.Flags.{at-most-one}
 
 least-is : (degree : ℕ) → 0 < degree → bitLen degree ≡ depthOf MinDepth degree
 unfolding depthOf

@@ -19,7 +19,7 @@ use Rattle.counts.specs.MinMult.{AtMost, Smallest, lessPair, better, bes
 use Rattle.counts.specs.declared.pair.Pair.{Pair}
 use Rattle.counts.specs.declared.choice.Best.{Best}
 use Rattle.number.proofs.Bits.{few-digits}
-use Rattle.needed.proofs.MarkLaws.{by-test}
+use Rattle.needed.proofs.Flags.{by-test}
 
 -- ---- the order of pairs
 
@@ -29,7 +29,7 @@ Below p q = (p .ct < q .ct) ⊎ ((p .ct ≡ q .ct) × (p .pt < q .pt))
 
 module _ (p q : Pair) where
   -- what the test says
-  pub less-is : lessPair p q ≡ true → Below p q
+  less-is : lessPair p q ≡ true → Below p q
   less-is =
       by-test (λ (b : Bool). (b || (eqb (p .ct) (q .ct) && ltb (p .pt) (q .pt))) ≡ true → Below p q) (ltb (p .ct) (q .ct))
       (λ is holds. inl (ltb-true (p .ct) (q .ct) is))
@@ -41,17 +41,17 @@ module _ (p q : Pair) where
           (λ same holds. inr (eqb-true (p .ct) (q .ct) same, ltb-true (p .pt) (q .pt) holds))
           (λ other fails. let clash : _≡_ {A = ℕ} 0 1 = cc in absurd (omega arith))
 
-  pub less-not : lessPair p q ≡ false → AtMost q p
+  less-not : lessPair p q ≡ false → AtMost q p
   less-not =
       by-test (λ (b : Bool). (b || (eqb (p .ct) (q .ct) && ltb (p .pt) (q .pt))) ≡ false → AtMost q p) (ltb (p .ct) (q .ct))
       (λ is fails. let clash : _≡_ {A = ℕ} 0 1 = cc in absurd (omega arith))
       (λ is. by-equal (ltb-false (p .ct) (q .ct) is))
     where
       by-equal : q .ct ≤ p .ct → (eqb (p .ct) (q .ct) && ltb (p .pt) (q .pt)) ≡ false → AtMost q p
-      by-equal most =
+      by-equal at-most =
           by-test (λ (b : Bool). (b && ltb (p .pt) (q .pt)) ≡ false → AtMost q p) (eqb (p .ct) (q .ct))
           (λ same fails. inr (sym (eqb-true (p .ct) (q .ct) same), ltb-false (p .pt) (q .pt) fails))
-          (λ other fails. ⊎-elim (λ same. absurd (eqb-false (p .ct) (q .ct) other (sym same))) (λ under. inl under) (eq-or-lt-of-le most))
+          (λ other fails. ⊎-elim (λ same. absurd (eqb-false (p .ct) (q .ct) other (sym same))) (λ under. inl under) (eq-or-lt-of-le at-most))
 
 at-most-trans : (p q r : Pair) → AtMost p q → AtMost q r → AtMost p r
 at-most-trans p q r (inl pq) (inl qr) = inl (omega arith)
@@ -148,14 +148,11 @@ module _ (pairs : ℕ → Pair) where
   }
   best-to (suc k) = more k (bestOf pairs k) (best-to k)
 
-  pub best-smallest : (k : ℕ) → Smallest pairs (suc k) (bestOf pairs k .split)
+  best-smallest : (k : ℕ) → Smallest pairs (suc k) (bestOf pairs k .split)
   best-smallest k = best-to k .smallest
 
-  pub best-pair : (k : ℕ) → bestOf pairs k .pair ≡ pairs (bestOf pairs k .split)
-  best-pair k = best-to k .pair
-
   -- there is one such split
-  pub smallest-one : (bits s t : ℕ) → Smallest pairs bits s → Smallest pairs bits t → s ≡ t
+  smallest-one : (bits s t : ℕ) → Smallest pairs bits s → Smallest pairs bits t → s ≡ t
   smallest-one bits s t one two =
       let same : pairs s ≡ pairs t = at-most-both (pairs s) (pairs t) (one .least t (two .from) (two .to)) (two .least s (one .from) (one .to)) in
       le-antisymm (one .first t (two .from) (two .to) (sym same)) (two .first s (one .from) (one .to) same)

@@ -14,7 +14,7 @@ use Rattle.counts.specs.Slices.{slicesOf, lastOf}
 use Rattle.counts.specs.Pair.{lastIsPlain, pairOf, pairAt}
 use Rattle.counts.specs.inside.Tallies.{tallyOf}
 use Rattle.counts.specs.declared.slices.Tally.{Tally}
-use Rattle.needed.proofs.MarkLaws.{by-test}
+use Rattle.needed.proofs.Flags.{by-test}
 
 -- the last combine is plain only where there are two or more slices
 pub plain-two : (degree slices last : ℕ) → lastIsPlain degree slices last ≡ true → 2 ≤ slices
@@ -31,12 +31,12 @@ module _ (parity : Parity) (basis : Basis) (degree split : ℕ) {needed : ℕ} {
   unfolding tallyOf
   test-of-slices = sym (rw tally-is at test-is)
 
-  -- one multiplication moves
+  -- one multiplication is moved
   pub pair-plain : test ≡ true → record { ct = tally .slices - 1 + needed - 1; pt = tally .pt + 1 } ≡ pairAt parity basis degree split
   unfolding pairAt pairOf tallyOf
   pair-plain holds = let is = test-of-slices ∙ holds in rw (tally-is, needed-is, is)
 
-  -- none moves
+  -- none is moved
   pub pair-whole : test ≡ false → record { ct = tally .slices - 1 + needed; pt = tally .pt } ≡ pairAt parity basis degree split
   unfolding pairAt pairOf tallyOf
   pair-whole fails = let is = test-of-slices ∙ fails in rw (tally-is, needed-is, is)

@@ -10,6 +10,7 @@ use Rattle.algebra.specs.Allowed.{allows}
 use Rattle.algebra.specs.declared.Parity.{Parity}
 use Rattle.algebra.specs.declared.Parity.the-variants.{Full, Even, Odd}
 use Rattle.counts.specs.PlainCount.{allowedTo, plainCount, AllowedCounts}
+use Rattle.needed.proofs.Flags.{at-most-one}
 
 allowed-full : (d : ℕ) → allowedTo Full d ≡ d
 unfolding allowedTo allows
@@ -43,15 +44,13 @@ allowed-odd (suc d) = by-test (eqb (suc d % 2) 1) refl (allowed-odd d)
 pub allowed-counts : (degree : ℕ) → AllowedCounts degree
 allowed-counts degree = record { full = allowed-full degree; even = allowed-even degree; odd = allowed-odd degree }
 
-pub at-most-one : (test : Bool) → cond test 1 0 ≤ 1
-at-most-one true = omega arith
-at-most-one false = omega arith
-
-pub allowed-most : (parity : Parity) (d : ℕ) → allowedTo parity d ≤ d
+-- no more than there are
+pub allowed-at-most : (parity : Parity) (d : ℕ) → allowedTo parity d ≤ d
 unfolding allowedTo
-allowed-most parity zero = omega arith
-allowed-most parity (suc d) = omega (arith, allowed-most parity d, at-most-one (allows parity (suc d)))
+allowed-at-most parity zero = omega arith
+allowed-at-most parity (suc d) = omega (arith, allowed-at-most parity d, at-most-one (allows parity (suc d)))
 
+-- two lists of slices
 pub plain-append : (parity : Parity) (low high : List ℕ) → plainCount parity (low ++ high) ≡ plainCount parity low + plainCount parity high
 unfolding plainCount
 plain-append parity [] high = omega arith

@@ -10,5 +10,6 @@ pub chosen : (parity : Parity) (basis : Basis) (degree : ℕ) → Chosen parity 
 chosen parity basis degree = record {
   least-pair = mult-smallest parity basis degree;
   only = mult-only parity basis degree;
-  in-range = λ strategy range. split-range strategy parity basis degree range;
+  from-one = λ strategy from to. split-range strategy parity basis degree (record { from = from; to = to }) .from;
+  to-twelve = λ strategy from to. split-range strategy parity basis degree (record { from = from; to = to }) .to;
 }

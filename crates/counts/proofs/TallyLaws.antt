@@ -17,10 +17,11 @@ use Rattle.counts.specs.inside.Tallies.{tallyOf}
 use Rattle.counts.specs.declared.slices.Tally.{Tally}
 use Rattle.number.proofs.Bits.{top-power}
 use Rattle.counts.proofs.SliceRule.{slices-one, slices-cut}
-use Rattle.counts.proofs.PlainCount.{allowed-most, plain-append}
+use Rattle.counts.proofs.PlainCount.{allowed-at-most, plain-append}
 
 -- ---- ranges
 
+-- at least one slice, and no more slices and pt-ct multiplications than the degree + 1
 pub record TallyRange (degree : ℕ) (tally : Tally) : Type 0 where
   pub nonempty : 0 < tally .slices
   pub at-most : tally .slices + tally .pt ≤ degree + 1
@@ -28,7 +29,7 @@ pub record TallyRange (degree : ℕ) (tally : Tally) : Type 0 where
 module _ (parity : Parity) where
   one-range : (degree : ℕ) → TallyRange degree (tallyOf parity (degree ∷ []))
   unfolding tallyOf plainCount
-  one-range degree = record { nonempty = omega arith; at-most = omega (arith, allowed-most parity degree) }
+  one-range degree = record { nonempty = omega arith; at-most = omega (arith, allowed-at-most parity degree) }
 
   cut-range : {degree p : ℕ} (low high : List ℕ) → 0 < p → p ≤ degree → TallyRange (p - 1) (tallyOf parity low)
       → TallyRange (degree - p) (tallyOf parity high) → TallyRange degree (tallyOf parity (low ++ high))
@@ -77,19 +78,12 @@ module _ (parity : Parity) (degree split : ℕ) where
       whole = omega arith
 
   -- from the base on: both sides together
-  joined : 2 ^ split ≤ degree → (low high : List ℕ) → low ≡ slicesOf (topPower degree - 1) split → high ≡ slicesOf (degree - topPower degree) split
-      → 0 < length high
-      → record { slices = length low + length high; pt = plainCount parity low + plainCount parity high; last = lastOf high }
-      ≡ tallyOf parity (slicesOf degree split)
-  unfolding tallyOf
-  joined reached low high low-is high-is nonempty =
-      rw (slices-cut split degree reached, ← low-is, ← high-is, length-append low high, plain-append parity low high, last-append low high nonempty)
-
   pub tally-cut : {p : ℕ} {low high : Tally} → 2 ^ split ≤ degree → p ≡ topPower degree
       → low ≡ tallyOf parity (slicesOf (p - 1) split) → high ≡ tallyOf parity (slicesOf (degree - p) split)
       → record { slices = low .slices + high .slices; pt = low .pt + high .pt; last = high .last } ≡ tallyOf parity (slicesOf degree split)
   unfolding tallyOf
   tally-cut reached p-is low-is high-is =
-      let high-range = tally-range parity (degree - topPower degree) split (rw p-is at high-is) in
-      rw (low-is, high-is, p-is)
-      (joined reached (slicesOf (topPower degree - 1) split) (slicesOf (degree - topPower degree) split) refl refl (rw (high-is, p-is) at high-range .nonempty))
+      let low = slicesOf (topPower degree - 1) split in
+      let high = slicesOf (degree - topPower degree) split in
+      let nonempty = tally-range parity (degree - topPower degree) split refl .nonempty in
+      rw (low-is, high-is, p-is, slices-cut split degree reached, length-append low high, plain-append parity low high, last-append low high nonempty)

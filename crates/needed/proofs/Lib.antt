@@ -1,3 +1,4 @@
+pub mod Flags
 pub mod Needed
 pub mod MarkLaws
 pub mod SweepLaws

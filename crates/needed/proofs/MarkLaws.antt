@@ -16,11 +16,7 @@ use Rattle.number.specs.Split.{partsOf}
 use Rattle.needed.specs.Needed.{partsDistance, Part, first, second, apart}
 use Rattle.needed.specs.inside.Marks.{Marked, markAt, markApart, markParts, sweepAt}
 use Rattle.number.proofs.SplitParts.{parted}
-
--- by whether a test holds
-pub by-test : (P : Bool → Type 0) (test : Bool) → (test ≡ true → P true) → (test ≡ false → P false) → P test
-by-test P true holds fails = holds refl
-by-test P false holds fails = fails refl
+use Rattle.needed.proofs.Flags.{by-test}
 
 pub marked-below : (marks : List Bool) (n : ℕ) → Marked marks n → n < length marks
 marked-below [] n marked = let clash : _≡_ {A = ℕ} 0 1 = cc in omega arith

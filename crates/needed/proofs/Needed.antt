@@ -67,7 +67,7 @@ top-low zero low = omega arith
 top-low (suc d) low = let bounds = top-power (suc d) (omega arith) in omega arith
 
 one-below : (k : ℕ) → 0 < k → 1 < 2 ^ k
-one-below k some = pow-lt {i = 0} {j = k} some
+one-below k positive = pow-lt {i = 0} {j = k} positive
 
 -- 2^k is a part of 2^(k+1)
 half-is-part : (k : ℕ) → 2 ^ k ≡ partsOf (2 ^ suc k) .a
@@ -80,9 +80,9 @@ half-is-part k =
 -- a degree from 2 has two digits
 two-digits : (degree : ℕ) → 2 ≤ degree → 1 < bitLen degree
 two-digits degree from-two =
-    lt-of-not-le (λ (few : bitLen degree ≤ 1).
+    lt-of-not-le (λ (one-digit : bitLen degree ≤ 1).
     let above = len-above degree in
-    let grows : 2 ^ bitLen degree ≤ 2 ^ 1 = pow-mono few in
+    let grows : 2 ^ bitLen degree ≤ 2 ^ 1 = pow-mono one-digit in
     omega arith)
 
 -- ---- what is needed
@@ -101,10 +101,10 @@ module _ (parity : Parity) (basis : Basis) (degree split : ℕ) where
   needed-from-two n (part above needed (apart in-chebyshev from is)) = from
 
   pub needed-within : 0 < degree → (n : ℕ) → NeededPower parity basis degree split n → n ≤ degree
-  needed-within some n (target (top from is)) = let bounds = top-power degree some in omega arith
-  needed-within some n (target (small from below allowed)) = omega arith
-  needed-within some n (part {n = whole} above needed is-part) =
-      omega (arith, needed-within some whole needed, part-less basis whole n (omega arith) is-part)
+  needed-within positive n (target (top from is)) = let bounds = top-power degree positive in omega arith
+  needed-within positive n (target (small from below allowed)) = omega arith
+  needed-within positive n (part {n = whole} above needed is-part) =
+      omega (arith, needed-within positive whole needed, part-less basis whole n (omega arith) is-part)
 
   -- degree below 2 needs none
   pub none-below-two : degree < 2 → (n : ℕ) → NeededPower parity basis degree split n → ⊥
@@ -115,21 +115,21 @@ module _ (parity : Parity) (basis : Basis) (degree split : ℕ) where
   -- all powers of two up to the top power
   pub two-powers-needed : (k : ℕ) → 0 < k → k < bitLen degree → NeededPower parity basis degree split (2 ^ k)
   unfolding topPower
-  two-powers-needed k some below = from-top (bitLen degree - 1 - k) k some (omega arith)
+  two-powers-needed k positive below = from-top (bitLen degree - 1 - k) k positive (omega arith)
     where
       halved : (k : ℕ) → 0 < k → NeededPower parity basis degree split (2 ^ suc k) → NeededPower parity basis degree split (2 ^ k)
-      halved k some needed =
+      halved k positive needed =
           let doubles = two-pow-succ k in
-          let above = one-below k some in
+          let above = one-below k positive in
           part {n = 2 ^ suc k} (omega arith) needed (first above (half-is-part k))
 
       -- down from the top power by as many halvings as the first argument says
       from-top : (halvings k : ℕ) → 0 < k → halvings + k ≡ bitLen degree - 1 → NeededPower parity basis degree split (2 ^ k)
-      from-top zero k some is =
+      from-top zero k positive is =
           let exponent : k ≡ bitLen degree - 1 = omega arith in
-          let above = one-below k some in
+          let above = one-below k positive in
           target {n = 2 ^ k} (top (omega arith) (ap (λ (x : ℕ). 2 ^ x) exponent))
-      from-top (suc halvings) k some is = halved k some (from-top halvings (suc k) (omega arith) (omega arith))
+      from-top (suc halvings) k positive is = halved k positive (from-top halvings (suc k) (omega arith) (omega arith))
 
   -- all allowed powers in the slices, from 2
   pub allowed-needed : (n : ℕ) → 2 ≤ n → n < babyLimit degree split → allows parity n ≡ true → NeededPower parity basis degree split n

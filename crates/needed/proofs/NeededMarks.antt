@@ -1,6 +1,6 @@
 -- The marks are the needed powers, all of them and nothing else: the marks to begin with are the targets, and the sweep adds what these need.
-use mathlib.Core.Path.{_≡_, refl, sym, _∙_}
-use mathlib.Core.Bool.{Bool, true, false, _&&_, _||_}
+use mathlib.Core.Path.{_≡_, sym, _∙_}
+use mathlib.Core.Bool.{Bool, true, _&&_}
 use mathlib.Core.Logic.{_⊎_, inl, inr, _↔_}
 use Prim.Native.Nat.{ℕ, _+_, _-_, _≤_, _<_}
 use native.Mathlib.Omega.{arith}
@@ -14,31 +14,13 @@ use Rattle.number.specs.Bits.{topPower}
 use Rattle.needed.specs.Needed.{Needed, babyLimit, Target, top, small, NeededPower}
 use Rattle.needed.specs.inside.Marks.{Marked, isTarget, greatestTarget, places, targetMarks, neededMarks}
 use Rattle.number.proofs.Bits.{top-power}
+use Rattle.needed.proofs.Flags.{both, either, left-or, right-or}
 use Rattle.needed.proofs.MarkLaws.{marked-below}
 use Rattle.needed.proofs.SweepLaws.{sweep-least, sweep-length}
 use Rattle.needed.proofs.PlaceLaws.{places-length, place-at}
 use Rattle.needed.proofs.Needed.{needed-more}
 
 -- ---- the targets
-
-no-way : {X : Type 0} → false ≡ true → X
-no-way is = let clash : _≡_ {A = ℕ} 0 1 = cc in absurd (omega arith)
-
--- the two sides of a test
-both : (x y : Bool) → (x && y) ≡ true → (x ≡ true) × (y ≡ true)
-both true y is = (refl, is)
-both false y is = no-way is
-
-either : (x y : Bool) → (x || y) ≡ true → (x ≡ true) ⊎ (y ≡ true)
-either true y is = inl refl
-either false y is = inr is
-
-left-or : (x y : Bool) → x ≡ true → (x || y) ≡ true
-left-or x y is = rw is
-
-right-or : (x y : Bool) → y ≡ true → (x || y) ≡ true
-right-or true y is = refl
-right-or false y is = is
 
 module _ (parity : Parity) (degree split : ℕ) where
   -- the test names the targets
@@ -100,7 +82,7 @@ module _ (parity : Parity) (degree split : ℕ) where
 
 -- no target is above the degree
 pub greatest-within : (degree split : ℕ) → 0 < degree → greatestTarget degree split ≤ degree
-greatest-within degree split some = let bounds = top-power degree some in omega arith
+greatest-within degree split positive = let bounds = top-power degree positive in omega arith
 
 module _ (parity : Parity) (basis : Basis) (degree split : ℕ) where
   pub needed-length : length (neededMarks parity basis degree split) ≡ greatestTarget degree split + 1

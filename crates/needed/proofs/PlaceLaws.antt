@@ -15,7 +15,8 @@ use Rattle.number.specs.Split.{partsOf}
 use Rattle.needed.specs.Needed.{partsDistance}
 use Rattle.needed.specs.inside.Marks.{places, padded, markAt, markApart, markParts, sweepAt, sweepFrom, countMarks}
 use Rattle.number.proofs.SplitParts.{parted}
-use Rattle.needed.proofs.MarkLaws.{by-test, mark-length, apart-length, place-marked, place-unmarked}
+use Rattle.needed.proofs.Flags.{by-test}
+use Rattle.needed.proofs.MarkLaws.{mark-length, apart-length, place-marked, place-unmarked}
 use Rattle.needed.proofs.SweepLaws.{sweep-length}
 
 -- ---- places

@@ -34,8 +34,7 @@ add-t9 c =
 sub-t10 : tie.Need-sub-t10
 sub-t10 c =
     let test = c .before .before in
-    let tally = test .before .before .count-slices .result in
-    let two = plain-two (test .before .before .before .args .degree) (tally .slices) (tally .last) (sym (test .last-is-plain .ensures) ∙ c .before .if1 .taken) in
+    let two = plain-two _ _ _ (sym (test .last-is-plain .ensures) ∙ c .before .if1 .taken) in
     omega arith
 
 add-t11 : tie.Need-add-t11
@@ -48,7 +47,8 @@ returns c =
     let test = c .before .before .before in
     let tally = test .before .before in
     let args = tally .before .args in
-    pair-plain (args .parity) (args .basis) (args .degree) (args .split) (tally .count-slices .ensures) (test .before .count-needed .ensures) (test .last-is-plain .ensures)
+    pair-plain (args .parity) (args .basis) (args .degree) (args .split)
+    (tally .count-slices .ensures) (test .before .count-needed .ensures) (test .last-is-plain .ensures)
     (c .before .before .if1 .taken)
 
 sub-t12 : tie.Need-sub-t12
@@ -69,7 +69,8 @@ returns-2 c =
     let test = c .before .before in
     let tally = test .before .before in
     let args = tally .before .args in
-    pair-whole (args .parity) (args .basis) (args .degree) (args .split) (tally .count-slices .ensures) (test .before .count-needed .ensures) (test .last-is-plain .ensures)
+    pair-whole (args .parity) (args .basis) (args .degree) (args .split)
+    (tally .count-slices .ensures) (test .before .count-needed .ensures) (test .last-is-plain .ensures)
     (c .before .if1 .left)
 
 pub estimate-op-counts-spec : {M : Type 1} → statement M

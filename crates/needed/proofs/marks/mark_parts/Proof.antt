@@ -7,6 +7,7 @@ use native.Mathlib.Omega.{arith}
 use borrow.Author.Needs.{needs}
 use denote.Ref.{now}
 use Rattle.algebra.specs.Distance.{distanceOf}
+use Rattle.number.specs.Limits.{degreeLimit}
 use Rattle.number.specs.Split.{splitOf, partsOf}
 use Rattle.number.specs.declared.split.Parts.{Parts}
 use Rattle.needed.specs.inside.Marks.{markAt, markApart, markParts}
@@ -20,7 +21,7 @@ record Made (n : ℕ) (parts : Parts) : Type 0 where
   is : parts ≡ partsOf n
   two : Parted n parts
 
-made : {n : ℕ} {parts : Parts} → 2 ≤ n → n ≤ 4294967295 → parts ≡ splitOf n → Made n parts
+made : {n : ℕ} {parts : Parts} → 2 ≤ n → n ≤ degreeLimit → parts ≡ splitOf n → Made n parts
 made {n} from to is =
     let accepted = is ∙ split-accepted n from to in
     record { is = accepted; two = rw accepted (parted n from) }
