@@ -1,4 +1,4 @@
--- The public calls on a bare degree: their tests in document 01's order, and their answers, with zeros after a refusal.
+-- The public calls on a bare degree (document 01, "Refusals"): their tests in order, and their answers.
 use mathlib.Core.List.{[], _∷_}
 use Prim.Native.Nat.{ℕ}
 use Rattle.algebra.specs.declared.Basis.{Basis}
@@ -19,27 +19,27 @@ use Rattle.counts.specs.declared.choice.OpCounts.{OpCounts}
 use Rattle.counts.specs.declared.depth.EvalDepth.{EvalDepth}
 use Rattle.counts.specs.declared.consumed.ConsumedBits.{ConsumedBits}
 
--- ---- a split
+-- ---- the split
 
--- after a refusal
+-- after a refusal split 0
 abbrev pub noSplit : (refusal : ℕ) → SplitChoice
 noSplit refusal = record { refusal = refusal; split = 0 }
 
--- MinDepth's split: 2, 1
+-- the first test that holds for MinDepth's split: 2, then 1
 abbrev pub minDepthRefusal : (degree : ℕ) → ℕ
 minDepthRefusal degree = firstRefusal (tooHigh degreeLimit degree ∷ noDegree degree ∷ [])
 
--- `min_depth_split`
+-- `min_depth_split`: MinDepth's split of a degree
 unfoldable pub minDepthCall : (degree : ℕ) → SplitChoice
 minDepthCall degree =
     let refusal : ℕ = minDepthRefusal degree in
     unlessRefused refusal (record { refusal = 0; split = minDepth (bitLen degree) }) (noSplit refusal)
 
--- MinMult's split: 2
+-- for MinMult's split: 2
 abbrev pub minMultRefusal : (degree : ℕ) → ℕ
 minMultRefusal degree = firstRefusal (tooHigh planLimit degree ∷ [])
 
--- `min_mult_split`
+-- `min_mult_split`: MinMult's split of a degree
 unfoldable pub minMultCall : Parity → Basis → (degree : ℕ) → SplitChoice
 minMultCall parity basis degree =
     let refusal : ℕ = minMultRefusal degree in
@@ -47,14 +47,15 @@ minMultCall parity basis degree =
 
 -- ---- the pair at the chosen split
 
+-- after a refusal the pair (0, 0)
 abbrev pub noCounts : (refusal : ℕ) → OpCounts
 noCounts refusal = record { refusal = refusal; ct = 0; pt = 0 }
 
--- 2
+-- the first test that holds: 2
 abbrev pub countsRefusal : (degree : ℕ) → ℕ
 countsRefusal degree = firstRefusal (tooHigh planLimit degree ∷ [])
 
--- `bsgs_op_counts`
+-- `bsgs_op_counts`: the pair at the split that the strategy chooses
 unfoldable pub countsCall : SplitStrategy → Parity → Basis → (degree : ℕ) → OpCounts
 countsCall strategy parity basis degree =
     let refusal : ℕ = countsRefusal degree in
@@ -63,14 +64,15 @@ countsCall strategy parity basis degree =
 
 -- ---- the depth
 
+-- after a refusal depth 0
 abbrev pub noDepth : (refusal : ℕ) → EvalDepth
 noDepth refusal = record { refusal = refusal; depth = 0 }
 
--- 2
+-- the first test that holds: 2
 abbrev pub depthRefusal : (degree : ℕ) → ℕ
 depthRefusal degree = firstRefusal (tooHigh degreeLimit degree ∷ [])
 
--- `bsgs_eval_depth`
+-- `bsgs_eval_depth`: the depth of a degree
 unfoldable pub depthCall : SplitStrategy → (degree : ℕ) → EvalDepth
 depthCall strategy degree =
     let refusal : ℕ = depthRefusal degree in
@@ -78,14 +80,15 @@ depthCall strategy degree =
 
 -- ---- the bits
 
+-- after a refusal no bits
 abbrev pub noBits : (refusal : ℕ) → ConsumedBits
 noBits refusal = record { refusal = refusal; bits = 0 }
 
--- 2, and 10 where one of the two scales is above the limit
+-- the first test that holds: 2, then 10 for either of the two scales
 abbrev pub bitsRefusal : (degree input coeff : ℕ) → ℕ
 bitsRefusal degree input coeff = firstRefusal (tooHigh degreeLimit degree ∷ tooWide input ∷ tooWide coeff ∷ [])
 
--- `bsgs_consumed_bits`
+-- `bsgs_consumed_bits`: the bits of a degree, with the scales of input and coefficients
 unfoldable pub bitsCall : SplitStrategy → (degree input coeff : ℕ) → ConsumedBits
 bitsCall strategy degree input coeff =
     let refusal : ℕ = bitsRefusal degree input coeff in

@@ -1,4 +1,4 @@
--- Depth (document 01, "Depth, bits, evaluation, interpolation": as in the source).
+-- Depth (document 01, "Depth and bits": as in the source).
 use mathlib.Core.Bool.{cond}
 use Prim.Native.Nat.{ℕ, zero, suc, _+_, _-_, _/_, _^_}
 use lib.Dec.{leb}

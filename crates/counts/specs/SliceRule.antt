@@ -5,6 +5,7 @@ use Prim.Native.Nat.{ℕ, _-_, _^_, _≤_, _<_}
 use Rattle.number.specs.Bits.{topPower}
 use Rattle.counts.specs.Slices.{slicesOf}
 
+-- what the slices of a degree are at a split
 pub record SliceRule (degree split : ℕ) : Type 0 where
   -- a degree below the base is one slice
   pub one : degree < 2 ^ split → slicesOf degree split ≡ degree ∷ []
