@@ -1,7 +1,10 @@
-pub mod SliceLaws
+pub mod StrategyNumber
+pub mod SliceRule
+pub mod PlainCount
 pub mod TallyLaws
+pub mod PairLaws
 pub mod MinMultLaws
 pub mod ChoiceLaws
 pub mod DepthLaws
-pub mod Promised
-pub mod StarredTable
+pub mod ConsumedBits
+pub mod Promises

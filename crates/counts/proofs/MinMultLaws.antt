@@ -7,18 +7,19 @@ use Prim.Native.Nat.{ℕ, zero, suc, _+_, _-_, _≤_, _<_}
 use native.Mathlib.Decide.{decLe}
 use native.Mathlib.Nat.{le-antisymm, eq-or-lt-of-le}
 use native.Mathlib.Omega.{arith}
-use lib.Dec.{ltb, eqb}
 use borrow.Author.Tests.{ltb-true, ltb-false, eqb-true, eqb-false, le-leb, lt-leb}
+use lib.Dec.{ltb, eqb}
 use Rattle.algebra.specs.declared.Basis.{Basis}
 use Rattle.algebra.specs.declared.Parity.{Parity}
 use Rattle.number.specs.Bits.{bitLen}
+use Rattle.number.specs.Limits.{planLimit}
 use Rattle.number.specs.inside.Between.{Between}
 use Rattle.counts.specs.Pair.{pairAt}
 use Rattle.counts.specs.MinMult.{AtMost, Smallest, lessPair, better, bestOf, minMult}
 use Rattle.counts.specs.declared.pair.Pair.{Pair}
 use Rattle.counts.specs.declared.choice.Best.{Best}
 use Rattle.number.proofs.Bits.{few-digits}
-use Rattle.needed.proofs.MarkLaws.{by-test}
+use Rattle.needed.proofs.Flags.{by-test}
 
 -- ---- the order of pairs
 
@@ -28,7 +29,7 @@ Below p q = (p .ct < q .ct) ⊎ ((p .ct ≡ q .ct) × (p .pt < q .pt))
 
 module _ (p q : Pair) where
   -- what the test says
-  pub less-is : lessPair p q ≡ true → Below p q
+  less-is : lessPair p q ≡ true → Below p q
   less-is =
       by-test (λ (b : Bool). (b || (eqb (p .ct) (q .ct) && ltb (p .pt) (q .pt))) ≡ true → Below p q) (ltb (p .ct) (q .ct))
       (λ is holds. inl (ltb-true (p .ct) (q .ct) is))
@@ -40,17 +41,17 @@ module _ (p q : Pair) where
           (λ same holds. inr (eqb-true (p .ct) (q .ct) same, ltb-true (p .pt) (q .pt) holds))
           (λ other fails. let clash : _≡_ {A = ℕ} 0 1 = cc in absurd (omega arith))
 
-  pub less-not : lessPair p q ≡ false → AtMost q p
+  less-not : lessPair p q ≡ false → AtMost q p
   less-not =
       by-test (λ (b : Bool). (b || (eqb (p .ct) (q .ct) && ltb (p .pt) (q .pt))) ≡ false → AtMost q p) (ltb (p .ct) (q .ct))
       (λ is fails. let clash : _≡_ {A = ℕ} 0 1 = cc in absurd (omega arith))
       (λ is. by-equal (ltb-false (p .ct) (q .ct) is))
     where
       by-equal : q .ct ≤ p .ct → (eqb (p .ct) (q .ct) && ltb (p .pt) (q .pt)) ≡ false → AtMost q p
-      by-equal most =
+      by-equal at-most =
           by-test (λ (b : Bool). (b && ltb (p .pt) (q .pt)) ≡ false → AtMost q p) (eqb (p .ct) (q .ct))
           (λ same fails. inr (sym (eqb-true (p .ct) (q .ct) same), ltb-false (p .pt) (q .pt) fails))
-          (λ other fails. ⊎-elim (λ same. absurd (eqb-false (p .ct) (q .ct) other (sym same))) (λ under. inl under) (eq-or-lt-of-le most))
+          (λ other fails. ⊎-elim (λ same. absurd (eqb-false (p .ct) (q .ct) other (sym same))) (λ under. inl under) (eq-or-lt-of-le at-most))
 
 at-most-trans : (p q r : Pair) → AtMost p q → AtMost q r → AtMost p r
 at-most-trans p q r (inl pq) (inl qr) = inl (omega arith)
@@ -86,9 +87,9 @@ last-or k split to = ⊎-elim (λ same. inl same) (λ less. inr (omega arith)) (
 
 module _ (pairs : ℕ → Pair) where
   -- the best so far, with its pair
-  record BestTo (length : ℕ) (best : Best) : Type 0 where
+  record BestTo (bits : ℕ) (best : Best) : Type 0 where
     pub pair : best .pair ≡ pairs (best .split)
-    pub smallest : Smallest pairs length (best .split)
+    pub smallest : Smallest pairs bits (best .split)
 
   module _ (k : ℕ) (best : Best) (so-far : BestTo (suc k) best) where
     abbrev next : ℕ
@@ -147,15 +148,12 @@ module _ (pairs : ℕ → Pair) where
   }
   best-to (suc k) = more k (bestOf pairs k) (best-to k)
 
-  pub best-smallest : (k : ℕ) → Smallest pairs (suc k) (bestOf pairs k .split)
+  best-smallest : (k : ℕ) → Smallest pairs (suc k) (bestOf pairs k .split)
   best-smallest k = best-to k .smallest
 
-  pub best-pair : (k : ℕ) → bestOf pairs k .pair ≡ pairs (bestOf pairs k .split)
-  best-pair k = best-to k .pair
-
   -- there is one such split
-  pub smallest-one : (length s t : ℕ) → Smallest pairs length s → Smallest pairs length t → s ≡ t
-  smallest-one length s t one two =
+  smallest-one : (bits s t : ℕ) → Smallest pairs bits s → Smallest pairs bits t → s ≡ t
+  smallest-one bits s t one two =
       let same : pairs s ≡ pairs t = at-most-both (pairs s) (pairs t) (one .least t (two .from) (two .to)) (two .least s (one .from) (one .to)) in
       le-antisymm (one .first t (two .from) (two .to) (sym same)) (two .first s (one .from) (one .to) same)
 
@@ -182,24 +180,29 @@ module _ (parity : Parity) (basis : Basis) (degree : ℕ) where
 
   pub mult-best : 1 < bitLen degree → minMult parity basis degree ≡ bestOf (pairAt parity basis degree) (bitLen degree - 1) .split
   unfolding minMult
-  mult-best long = rw (lt-leb (bitLen degree) 1 long, minMult)
+  mult-best two-digits = rw (lt-leb (bitLen degree) 1 two-digits, minMult)
 
   -- the choice is the smallest split from 1 to the bit length with the least pair
   pub mult-smallest : 1 < bitLen degree → Smallest (pairAt parity basis degree) (bitLen degree) (minMult parity basis degree)
-  mult-smallest long =
+  mult-smallest two-digits =
       let whole : suc (bitLen degree - 1) ≡ bitLen degree = omega arith in
-      rw (mult-best long)
+      rw (mult-best two-digits)
       (subst
       (λ (x : ℕ). Smallest (pairAt parity basis degree) x (bestOf (pairAt parity basis degree) (bitLen degree - 1) .split))
       whole
       (best-smallest (pairAt parity basis degree) (bitLen degree - 1)))
 
-  pub mult-range : degree ≤ 4095 → Between 1 (minMult parity basis degree) 12
-  mult-range most = by-length (decLe (bitLen degree) 1)
+  -- and the only one
+  pub mult-only : 1 < bitLen degree → (s : ℕ) → Smallest (pairAt parity basis degree) (bitLen degree) s → s ≡ minMult parity basis degree
+  mult-only two-digits s smallest =
+      smallest-one (pairAt parity basis degree) (bitLen degree) s (minMult parity basis degree) smallest (mult-smallest two-digits)
+
+  pub mult-range : degree ≤ planLimit → Between 1 (minMult parity basis degree) 12
+  mult-range within = by-digits (decLe (bitLen degree) 1)
     where
-      by-length : Dec (bitLen degree ≤ 1) → Between 1 (minMult parity basis degree) 12
-      by-length (yes low) = let one = mult-low low in record { from = omega arith; to = omega arith }
-      by-length (no long) =
+      by-digits : Dec (bitLen degree ≤ 1) → Between 1 (minMult parity basis degree) 12
+      by-digits (yes low) = let one = mult-low low in record { from = omega arith; to = omega arith }
+      by-digits (no two-digits) =
           let smallest = mult-smallest (omega arith) in
-          let few = few-digits degree most in
+          let digits = few-digits degree within in
           record { from = smallest .from; to = omega (arith, smallest .to) }

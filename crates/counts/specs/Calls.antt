@@ -1,11 +1,12 @@
--- The public calls on a bare degree: refusals in document 01's order, and answers with zeros in a refusal.
+-- The public calls on a bare degree (document 01, "Refusals"): their tests in order, and their answers.
 use mathlib.Core.List.{[], _∷_}
-use Prim.Native.Nat.{ℕ, zero, suc}
-use lib.Dec.{ltb, eqb}
+use Prim.Native.Nat.{ℕ}
 use Rattle.algebra.specs.declared.Basis.{Basis}
 use Rattle.algebra.specs.declared.Parity.{Parity}
 use Rattle.number.specs.Bits.{bitLen}
-use Rattle.number.specs.Refusal.{firstRefusal}
+use Rattle.number.specs.Limits.{planLimit, degreeLimit}
+use Rattle.number.specs.Refusal.{firstRefusal, unlessRefused}
+use Rattle.number.specs.Tests.{noDegree, tooHigh, tooWide}
 use Rattle.counts.specs.MinDepth.{minDepth}
 use Rattle.counts.specs.MinMult.{minMult}
 use Rattle.counts.specs.Choice.{countsOf}
@@ -18,54 +19,77 @@ use Rattle.counts.specs.declared.choice.OpCounts.{OpCounts}
 use Rattle.counts.specs.declared.depth.EvalDepth.{EvalDepth}
 use Rattle.counts.specs.declared.consumed.ConsumedBits.{ConsumedBits}
 
--- 2: degree above the limit
-abbrev pub limitRefusal : ℕ → ℕ → ℕ
-limitRefusal limit degree = firstRefusal ((ltb limit degree, 2) ∷ [])
+-- ---- the split
 
--- 2, then 1: degree 0 for a MinDepth split
-abbrev pub minDepthRefusal : ℕ → ℕ
-minDepthRefusal degree = firstRefusal ((ltb 4294967295 degree, 2) ∷ (eqb degree 0, 1) ∷ [])
+-- after a refusal split 0
+abbrev pub noSplit : (refusal : ℕ) → SplitChoice
+noSplit refusal = record { refusal = refusal; split = 0 }
 
--- 2, then 10: a bit scale above 65,535
-abbrev pub bitsRefusal : ℕ → ℕ → ℕ → ℕ
-bitsRefusal degree input coeff = firstRefusal ((ltb 4294967295 degree, 2) ∷ (ltb 65535 input, 10) ∷ (ltb 65535 coeff, 10) ∷ [])
-
--- a split, or the refusal with zero
-abbrev pub splitAnswer : ℕ → ℕ → SplitChoice
-splitAnswer zero split = record { refusal = 0; split = split }
-splitAnswer (suc k) split = record { refusal = suc k; split = 0 }
-
--- a pair, or the refusal with zeros
-abbrev pub countsAnswer : ℕ → Pair → OpCounts
-countsAnswer zero pair = record { refusal = 0; ct = pair .ct; pt = pair .pt }
-countsAnswer (suc k) pair = record { refusal = suc k; ct = 0; pt = 0 }
-
--- a depth, or the refusal with zero
-abbrev pub depthAnswer : ℕ → ℕ → EvalDepth
-depthAnswer zero depth = record { refusal = 0; depth = depth }
-depthAnswer (suc k) depth = record { refusal = suc k; depth = 0 }
-
--- bits, or the refusal with zero
-abbrev pub bitsAnswer : ℕ → ℕ → ConsumedBits
-bitsAnswer zero bits = record { refusal = 0; bits = bits }
-bitsAnswer (suc k) bits = record { refusal = suc k; bits = 0 }
+-- the first test that holds for MinDepth's split: 2, then 1
+abbrev pub minDepthRefusal : (degree : ℕ) → ℕ
+minDepthRefusal degree = firstRefusal (tooHigh degreeLimit degree ∷ noDegree degree ∷ [])
 
 -- `min_depth_split`: MinDepth's split of a degree
 unfoldable pub minDepthCall : (degree : ℕ) → SplitChoice
-minDepthCall degree = splitAnswer (minDepthRefusal degree) (minDepth (bitLen degree))
+minDepthCall degree =
+    let refusal : ℕ = minDepthRefusal degree in
+    unlessRefused refusal (record { refusal = 0; split = minDepth (bitLen degree) }) (noSplit refusal)
+
+-- for MinMult's split: 2
+abbrev pub minMultRefusal : (degree : ℕ) → ℕ
+minMultRefusal degree = firstRefusal (tooHigh planLimit degree ∷ [])
 
 -- `min_mult_split`: MinMult's split of a degree
 unfoldable pub minMultCall : Parity → Basis → (degree : ℕ) → SplitChoice
-minMultCall parity basis degree = splitAnswer (limitRefusal 4095 degree) (minMult parity basis degree)
+minMultCall parity basis degree =
+    let refusal : ℕ = minMultRefusal degree in
+    unlessRefused refusal (record { refusal = 0; split = minMult parity basis degree }) (noSplit refusal)
 
--- `bsgs_op_counts`: the pair at the chosen split
+-- ---- the pair at the chosen split
+
+-- after a refusal the pair (0, 0)
+abbrev pub noCounts : (refusal : ℕ) → OpCounts
+noCounts refusal = record { refusal = refusal; ct = 0; pt = 0 }
+
+-- the first test that holds: 2
+abbrev pub countsRefusal : (degree : ℕ) → ℕ
+countsRefusal degree = firstRefusal (tooHigh planLimit degree ∷ [])
+
+-- `bsgs_op_counts`: the pair at the split that the strategy chooses
 unfoldable pub countsCall : SplitStrategy → Parity → Basis → (degree : ℕ) → OpCounts
-countsCall strategy parity basis degree = countsAnswer (limitRefusal 4095 degree) (countsOf strategy parity basis degree)
+countsCall strategy parity basis degree =
+    let refusal : ℕ = countsRefusal degree in
+    let pair : Pair = countsOf strategy parity basis degree in
+    unlessRefused refusal (record { refusal = 0; ct = pair .ct; pt = pair .pt }) (noCounts refusal)
 
--- `bsgs_eval_depth`: the depth
+-- ---- the depth
+
+-- after a refusal depth 0
+abbrev pub noDepth : (refusal : ℕ) → EvalDepth
+noDepth refusal = record { refusal = refusal; depth = 0 }
+
+-- the first test that holds: 2
+abbrev pub depthRefusal : (degree : ℕ) → ℕ
+depthRefusal degree = firstRefusal (tooHigh degreeLimit degree ∷ [])
+
+-- `bsgs_eval_depth`: the depth of a degree
 unfoldable pub depthCall : SplitStrategy → (degree : ℕ) → EvalDepth
-depthCall strategy degree = depthAnswer (limitRefusal 4294967295 degree) (depthOf strategy degree)
+depthCall strategy degree =
+    let refusal : ℕ = depthRefusal degree in
+    unlessRefused refusal (record { refusal = 0; depth = depthOf strategy degree }) (noDepth refusal)
 
--- `bsgs_consumed_bits`: the bits
+-- ---- the bits
+
+-- after a refusal no bits
+abbrev pub noBits : (refusal : ℕ) → ConsumedBits
+noBits refusal = record { refusal = refusal; bits = 0 }
+
+-- the first test that holds: 2, then 10 for either of the two scales
+abbrev pub bitsRefusal : (degree input coeff : ℕ) → ℕ
+bitsRefusal degree input coeff = firstRefusal (tooHigh degreeLimit degree ∷ tooWide input ∷ tooWide coeff ∷ [])
+
+-- `bsgs_consumed_bits`: the bits of a degree, with the scales of input and coefficients
 unfoldable pub bitsCall : SplitStrategy → (degree input coeff : ℕ) → ConsumedBits
-bitsCall strategy degree input coeff = bitsAnswer (bitsRefusal degree input coeff) (bitsOf strategy degree input coeff)
+bitsCall strategy degree input coeff =
+    let refusal : ℕ = bitsRefusal degree input coeff in
+    unlessRefused refusal (record { refusal = 0; bits = bitsOf strategy degree input coeff }) (noBits refusal)

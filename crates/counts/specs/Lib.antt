@@ -1,4 +1,6 @@
+pub mod StrategyNumber
 pub mod Slices
+pub mod SliceRule
 pub mod PlainCount
 pub mod Pair
 pub mod MinDepth
@@ -6,6 +8,6 @@ pub mod MinMult
 pub mod Choice
 pub mod Depth
 pub mod ConsumedBits
-pub mod Promises
 pub mod Calls
-pub mod Starred
+pub mod Promises
+pub mod inside

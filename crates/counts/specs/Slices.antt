@@ -3,8 +3,7 @@ use mathlib.Core.Bool.{true, false}
 use mathlib.Core.List.{List, [], _∷_, _++_}
 use Prim.Native.Nat.{ℕ, zero, suc, _-_, _^_}
 use lib.Dec.{ltb}
-use Rattle.number.specs.Bits.{bitLen}
-use Rattle.number.specs.Bits.{topPower}
+use Rattle.number.specs.Bits.{bitLen, topPower}
 
 -- degree below base is one slice; otherwise, with p the greatest power of two at most the degree, slice p − 1 and then degree − p.
 -- The first argument bounds the depth of the cuts.
@@ -21,7 +20,7 @@ unfoldable pub slicesOf : (degree split : ℕ) → List ℕ
 slicesOf degree split = slicesIn (bitLen degree) degree split
 
 -- the degree of the last slice
-unfoldable pub lastOf : List ℕ → ℕ
+unfoldable pub lastOf : (slices : List ℕ) → ℕ
 lastOf [] = 0
 lastOf (degree ∷ []) = degree
 lastOf (degree ∷ next ∷ rest) = lastOf (next ∷ rest)

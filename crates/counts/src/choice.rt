@@ -1,6 +1,7 @@
 // The choice of the split by either strategy, and the pair at the chosen split.
 ghost use mathlib.Core.Path.{_≡_};
 ghost use Prim.Native.Nat.{_-_, _≤_};
+ghost use Rattle.number.specs.Limits.{planLimit};
 ghost use Rattle.number.specs.inside.Between.{Between};
 ghost use Rattle.counts.specs.Pair.{pairAt};
 ghost use Rattle.counts.specs.MinDepth.{minDepth};
@@ -11,6 +12,8 @@ use super::pair::Pair;
 use super::pair::estimate_op_counts;
 use algebra::Basis;
 use algebra::Parity;
+use number::DEGREE_LIMIT;
+use number::PLAN_LIMIT;
 use number::bit_len;
 use number::power_of_two;
 
@@ -76,7 +79,7 @@ fn better_of(best: Best, split: usize, pair: Pair) -> Best
 
 // The smallest split from 1 to the bit length with the least pair.
 fn best_split(parity: Parity, basis: Basis, degree: usize, bits: usize) -> Best
-    requires { ⌜ Between 1 degree 4095 × Between 1 bits 12 ⌝ }
+    requires { ⌜ Between 1 degree planLimit × Between 1 bits 12 ⌝ }
     ensures { λ r. ⌜ r ≡ bestOf (pairAt parity basis degree) (bits - 1) ⌝ }
 {
     let first = estimate_op_counts(parity, basis, degree, 1);
@@ -95,7 +98,7 @@ fn best_split(parity: Parity, basis: Basis, degree: usize, bits: usize) -> Best
 
 // MinMult's split.
 fn min_mult(parity: Parity, basis: Basis, degree: usize) -> usize
-    requires { ⌜ degree ≤ 4095 ⌝ }
+    requires { ⌜ degree ≤ planLimit ⌝ }
     ensures { λ r. ⌜ r ≡ minMult parity basis degree ⌝ }
 {
     let bits = bit_len(degree);
@@ -113,7 +116,7 @@ pub fn split_for_strategy(
     basis: Basis,
     degree: usize,
 ) -> usize
-    requires { ⌜ Between 1 degree 4095 ⌝ }
+    requires { ⌜ Between 1 degree planLimit ⌝ }
     ensures { λ r. ⌜ r ≡ splitFor strategy parity basis degree ⌝ }
 {
     match strategy {
@@ -126,7 +129,7 @@ pub fn split_for_strategy(
 pub fn min_depth_split(degree: usize) -> SplitChoice
     ensures { λ r. ⌜ r ≡ minDepthCall degree ⌝ }
 {
-    if 4294967295 < degree {
+    if DEGREE_LIMIT < degree {
         return SplitChoice {
             refusal: 2,
             split: 0,
@@ -146,7 +149,7 @@ pub fn min_depth_split(degree: usize) -> SplitChoice
 pub fn min_mult_split(parity: Parity, basis: Basis, degree: usize) -> SplitChoice
     ensures { λ r. ⌜ r ≡ minMultCall parity basis degree ⌝ }
 {
-    if 4095 < degree {
+    if PLAN_LIMIT < degree {
         return SplitChoice {
             refusal: 2,
             split: 0,
@@ -165,7 +168,7 @@ pub fn bsgs_op_counts(
 ) -> OpCounts
     ensures { λ r. ⌜ r ≡ countsCall strategy parity basis degree ⌝ }
 {
-    if 4095 < degree {
+    if PLAN_LIMIT < degree {
         return OpCounts {
             refusal: 2,
             ct: 0,

@@ -1,11 +1,14 @@
 // The bits that an evaluation consumes: its heaviest chain, by the closed form.
 ghost use mathlib.Core.Path.{_≡_};
 ghost use Prim.Native.Nat.{_≤_, max};
+ghost use Rattle.number.specs.Limits.{degreeLimit, scaleLimit};
 ghost use Rattle.number.specs.inside.Between.{Between};
-ghost use Rattle.counts.specs.ConsumedBits.{Chain, pureChain, chainBefore, bitsOf};
+ghost use Rattle.counts.specs.ConsumedBits.{pureChain, chainBefore, bitsOf};
 ghost use Rattle.counts.specs.Calls.{bitsCall};
 use super::choice::SplitStrategy;
 use super::depth::depth_from_one;
+use number::DEGREE_LIMIT;
+use number::SCALE_LIMIT;
 use number::bit_len;
 use number::top_power;
 
@@ -17,21 +20,21 @@ pub struct ConsumedBits {
 
 // The ct-ct multiplications of the longest chain without a pt-ct.
 fn pure_chain(degree: usize) -> usize
-    requires { ⌜ Between 1 degree 4294967295 ⌝ }
-    ensures { λ r. ⌜ Chain (pureChain degree) r ⌝ }
+    requires { ⌜ Between 1 degree degreeLimit ⌝ }
+    ensures { λ r. ⌜ r ≡ pureChain degree ⌝ }
 {
-    let b = bit_len(degree);
+    let bits = bit_len(degree);
     if degree == top_power(degree) {
-        b - 1
+        bits - 1
     } else {
-        b
+        bits
     }
 }
 
 // The ct-ct multiplications of the longest chain with a pt-ct.
 fn chain_before(strategy: SplitStrategy, degree: usize) -> usize
-    requires { ⌜ Between 1 degree 4294967295 ⌝ }
-    ensures { λ r. ⌜ Chain (chainBefore strategy degree) r ⌝ }
+    requires { ⌜ Between 1 degree degreeLimit ⌝ }
+    ensures { λ r. ⌜ r ≡ chainBefore strategy degree ⌝ }
 {
     let depth = depth_from_one(strategy, degree);
     match strategy {
@@ -40,6 +43,7 @@ fn chain_before(strategy: SplitStrategy, degree: usize) -> usize
     }
 }
 
+// The greater of two numbers.
 fn greatest(a: usize, b: usize) -> usize
     ensures { λ r. ⌜ r ≡ max a b ⌝ }
 {
@@ -48,7 +52,7 @@ fn greatest(a: usize, b: usize) -> usize
 
 // The bits of a degree from 1: the heavier of the two chains.
 fn bits_from_one(strategy: SplitStrategy, degree: usize, input: usize, coeff: usize) -> usize
-    requires { ⌜ Between 1 degree 4294967295 × (input ≤ 65535) × (coeff ≤ 65535) ⌝ }
+    requires { ⌜ Between 1 degree degreeLimit × (input ≤ scaleLimit) × (coeff ≤ scaleLimit) ⌝ }
     ensures { λ r. ⌜ r ≡ bitsOf strategy degree input coeff ⌝ }
 {
     let pure = pure_chain(degree);
@@ -65,19 +69,19 @@ pub fn bsgs_consumed_bits(
 ) -> ConsumedBits
     ensures { λ r. ⌜ r ≡ bitsCall strategy degree input coeff ⌝ }
 {
-    if 4294967295 < degree {
+    if DEGREE_LIMIT < degree {
         return ConsumedBits {
             refusal: 2,
             bits: 0,
         };
     }
-    if 65535 < input {
+    if SCALE_LIMIT < input {
         return ConsumedBits {
             refusal: 10,
             bits: 0,
         };
     }
-    if 65535 < coeff {
+    if SCALE_LIMIT < coeff {
         return ConsumedBits {
             refusal: 10,
             bits: 0,

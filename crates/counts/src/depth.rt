@@ -1,9 +1,11 @@
 // The depth of an evaluation.
 ghost use mathlib.Core.Path.{_≡_};
+ghost use Rattle.number.specs.Limits.{degreeLimit};
 ghost use Rattle.number.specs.inside.Between.{Between};
-ghost use Rattle.counts.specs.Depth.{Deep};
+ghost use Rattle.counts.specs.Depth.{depthOf};
 ghost use Rattle.counts.specs.Calls.{depthCall};
 use super::choice::SplitStrategy;
+use number::DEGREE_LIMIT;
 use number::bit_len;
 use number::power_of_two;
 
@@ -15,15 +17,15 @@ pub struct EvalDepth {
 
 // The depth of a degree from 1.
 pub fn depth_from_one(strategy: SplitStrategy, degree: usize) -> usize
-    requires { ⌜ Between 1 degree 4294967295 ⌝ }
-    ensures { λ r. ⌜ Deep strategy degree r ⌝ }
+    requires { ⌜ Between 1 degree degreeLimit ⌝ }
+    ensures { λ r. ⌜ r ≡ depthOf strategy degree ⌝ }
 {
-    let b = bit_len(degree);
+    let bits = bit_len(degree);
     match strategy {
-        SplitStrategy::MinDepth => b,
+        SplitStrategy::MinDepth => bits,
         SplitStrategy::MinMult => {
-            let threshold = power_of_two(b) - power_of_two((b - 1) / 2) + 1;
-            if threshold <= degree { b + 1 } else { b }
+            let threshold = power_of_two(bits) - power_of_two((bits - 1) / 2) + 1;
+            if threshold <= degree { bits + 1 } else { bits }
         }
     }
 }
@@ -32,7 +34,7 @@ pub fn depth_from_one(strategy: SplitStrategy, degree: usize) -> usize
 pub fn bsgs_eval_depth(strategy: SplitStrategy, degree: usize) -> EvalDepth
     ensures { λ r. ⌜ r ≡ depthCall strategy degree ⌝ }
 {
-    if 4294967295 < degree {
+    if DEGREE_LIMIT < degree {
         return EvalDepth {
             refusal: 2,
             depth: 0,

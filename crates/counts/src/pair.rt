@@ -1,8 +1,9 @@
 // The pair (ct-ct, pt-ct) of a degree at a split.
 ghost use mathlib.Core.Path.{_≡_};
+ghost use Rattle.number.specs.Limits.{degreeLimit};
 ghost use Rattle.number.specs.inside.Between.{Between};
 ghost use Rattle.needed.specs.inside.Planned.{Planned};
-ghost use Rattle.counts.specs.Pair.{moves, pairAt};
+ghost use Rattle.counts.specs.Pair.{lastIsPlain, pairAt};
 use super::slices::count_slices;
 use algebra::Basis;
 use algebra::Parity;
@@ -15,10 +16,10 @@ pub struct Pair {
     pub pt: usize,
 }
 
-// Whether one multiplication moves from ct-ct to pt-ct.
-pub fn is_moved(degree: usize, slices: usize, last: usize) -> bool
-    requires { ⌜ Between 1 degree 4294967295 ⌝ }
-    ensures { λ r. ⌜ r ≡ moves degree slices last ⌝ }
+// Whether the last combine is plain: one multiplication then moves from ct-ct to pt-ct.
+fn last_is_plain(degree: usize, slices: usize, last: usize) -> bool
+    requires { ⌜ Between 1 degree degreeLimit ⌝ }
+    ensures { λ r. ⌜ r ≡ lastIsPlain degree slices last ⌝ }
 {
     if slices < 2 {
         return false;
@@ -36,7 +37,7 @@ pub fn estimate_op_counts(parity: Parity, basis: Basis, degree: usize, split: us
 {
     let tally = count_slices(parity, degree, split);
     let powers = count_needed(parity, basis, degree, split);
-    if is_moved(degree, tally.slices, tally.last) {
+    if last_is_plain(degree, tally.slices, tally.last) {
         return Pair {
             ct: tally.slices - 1 + powers - 1,
             pt: tally.pt + 1,

@@ -1,9 +1,11 @@
 // The slices of a degree, counted together with the plain multiplications that they take.
 ghost use Prim.Native.Nat.{_≤_};
 ghost use mathlib.Core.Path.{_≡_};
+ghost use Rattle.number.specs.Limits.{planLimit};
 ghost use Rattle.number.specs.inside.Between.{Between};
+ghost use Rattle.counts.specs.Slices.{slicesOf};
 ghost use Rattle.counts.specs.PlainCount.{allowedTo};
-ghost use Rattle.counts.specs.Pair.{Tallied};
+ghost use Rattle.counts.specs.inside.Tallies.{tallyOf};
 use algebra::Parity;
 use number::power_of_two;
 use number::top_power;
@@ -17,7 +19,7 @@ pub struct Tally {
 
 // How many of the powers 1 to the degree the parity allows.
 fn allowed_to(parity: Parity, degree: usize) -> usize
-    requires { ⌜ degree ≤ 4095 ⌝ }
+    requires { ⌜ degree ≤ planLimit ⌝ }
     ensures { λ r. ⌜ r ≡ allowedTo parity degree ⌝ }
 {
     match parity {
@@ -29,8 +31,8 @@ fn allowed_to(parity: Parity, degree: usize) -> usize
 
 // The slices at a split, counted over the low and the high part of each cut.
 pub fn count_slices(parity: Parity, degree: usize, split: usize) -> Tally
-    requires { ⌜ (degree ≤ 4095) × Between 1 split 12 ⌝ }
-    ensures { λ r. ⌜ Tallied parity degree split r ⌝ }
+    requires { ⌜ (degree ≤ planLimit) × Between 1 split 12 ⌝ }
+    ensures { λ r. ⌜ r ≡ tallyOf parity (slicesOf degree split) ⌝ }
 {
     let base = power_of_two(split);
     if degree < base {

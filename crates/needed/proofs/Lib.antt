@@ -1,6 +1,8 @@
+pub mod Flags
+pub mod Needed
 pub mod MarkLaws
 pub mod SweepLaws
 pub mod PlaceLaws
-pub mod NeededLaws
-pub mod ListLaws
-pub mod Promised
+pub mod NeededMarks
+pub mod NeededList
+pub mod Promises

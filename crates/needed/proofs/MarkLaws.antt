@@ -6,21 +6,17 @@ use mathlib.Core.Logic.{_⊎_, inl, inr, ⊎-elim, _≢_}
 use mathlib.Core.List.{List, [], _∷_}
 use Prim.Native.Nat.{ℕ, zero, suc, _≤_, _<_}
 use native.Mathlib.Omega.{arith}
+use borrow.Author.Tests.{lt-ltb, ltb-true}
 use lib.Dec.{ltb}
 use lib.ListN.{length, getD, set, length-set}
 use lib.Seq.{getD-set-same, getD-set-other}
-use borrow.Author.Tests.{lt-ltb, ltb-true}
 use Rattle.algebra.specs.declared.Basis.{Basis}
 use Rattle.algebra.specs.declared.Basis.the-variants.{Monomial, Chebyshev}
 use Rattle.number.specs.Split.{partsOf}
-use Rattle.number.proofs.SplitParts.{parted}
 use Rattle.needed.specs.Needed.{partsDistance, Part, first, second, apart}
-use Rattle.needed.specs.NeededMarks.{Marked, markAt, markApart, markParts, sweepAt}
-
--- by whether a test holds
-pub by-test : (P : Bool → Type 0) (test : Bool) → (test ≡ true → P true) → (test ≡ false → P false) → P test
-by-test P true holds fails = holds refl
-by-test P false holds fails = fails refl
+use Rattle.needed.specs.inside.Marks.{Marked, markAt, markApart, markParts, sweepAt}
+use Rattle.number.proofs.SplitParts.{parted}
+use Rattle.needed.proofs.Flags.{by-test}
 
 pub marked-below : (marks : List Bool) (n : ℕ) → Marked marks n → n < length marks
 marked-below [] n marked = let clash : _≡_ {A = ℕ} 0 1 = cc in omega arith
@@ -195,9 +191,3 @@ module _ (basis : Basis) (n : ℕ) (marks : List Bool) where
   pub place-unmarked : getD marks n false ≡ false → sweepAt basis n marks ≡ marks
   unfolding sweepAt
   place-unmarked unmarked = rw unmarked
-
--- parts and distance are smaller than what they are parts of
-pub part-less : (basis : Basis) (n m : ℕ) → 2 ≤ n → Part basis n m → m < n
-part-less basis n m from-two (first above is) = let two = parted n from-two in omega arith
-part-less basis n m from-two (second above is) = let two = parted n from-two in omega arith
-part-less basis n m from-two (apart in-chebyshev above is) = let two = parted n from-two in omega arith

@@ -7,15 +7,16 @@ use native.Mathlib.Decide.{decLt}
 use native.Mathlib.Numerals.{add-one}
 use native.Mathlib.Omega.{arith}
 use lib.Dec.{ltb}
-use lib.ListN.{length, getD, set, replicate, take, length-append, length-replicate, List·getD-append, List·getD-eq-default}
+use lib.ListN.{length, getD, set, replicate, take, List·getD-append, List·getD-eq-default}
 use lib.Seq.{set-append-left, set-at, take-at, take-suc}
 use Rattle.algebra.specs.declared.Basis.{Basis}
 use Rattle.algebra.specs.declared.Basis.the-variants.{Monomial, Chebyshev}
 use Rattle.number.specs.Split.{partsOf}
-use Rattle.number.proofs.SplitParts.{parted}
 use Rattle.needed.specs.Needed.{partsDistance}
-use Rattle.needed.specs.NeededMarks.{places, padded, markAt, markApart, markParts, sweepAt, sweepFrom, countMarks}
-use Rattle.needed.proofs.MarkLaws.{by-test, mark-length, apart-length, place-marked, place-unmarked}
+use Rattle.needed.specs.inside.Marks.{places, padded, markAt, markApart, markParts, sweepAt, sweepFrom, countMarks}
+use Rattle.number.proofs.SplitParts.{parted}
+use Rattle.needed.proofs.Flags.{by-test}
+use Rattle.needed.proofs.MarkLaws.{mark-length, apart-length, place-marked, place-unmarked}
 use Rattle.needed.proofs.SweepLaws.{sweep-length}
 
 -- ---- places
@@ -64,11 +65,6 @@ module _ (f : ℕ → Bool) where
   unfolding filled padded
   fill-end size i = rw (places-length 0 i)
 
-  pub fill-length : (size i : ℕ) → i ≤ size → length (filled size i) ≡ size
-  unfolding filled
-  fill-length size i inside =
-      omega (arith, length-append (places f 0 i) (replicate (size - i) false), places-length 0 i, length-replicate (size - i) false)
-
 -- ---- places without marks at the end
 
 none-at : (j i : ℕ) → getD (replicate j false) i false ≡ false
@@ -110,7 +106,7 @@ parts-pad basis n marks rest from-two inside =
     ∙ mark-pad (partsOf n .b) two-made rest (omega arith)
 
 -- a place past the end does nothing
-pub place-past : (basis : Basis) (n : ℕ) (marks : List Bool) → length marks ≤ n → sweepAt basis n marks ≡ marks
+place-past : (basis : Basis) (n : ℕ) (marks : List Bool) → length marks ≤ n → sweepAt basis n marks ≡ marks
 place-past basis n marks past = place-unmarked basis n marks (List·getD-eq-default marks false past)
 
 place-pad : (basis : Basis) (n : ℕ) (marks : List Bool) (j : ℕ) → 2 ≤ n
@@ -144,25 +140,6 @@ sweep-pad basis (suc (suc n)) marks j =
 pub sweep-padded : (basis : Basis) (n size : ℕ) (marks : List Bool) → sweepFrom basis n (padded size marks) ≡ padded size (sweepFrom basis n marks)
 unfolding padded
 sweep-padded basis n size marks = rw (sweep-length basis n marks) (sweep-pad basis n marks (size - length marks))
-
--- sweeping from above the last place changes nothing
-pub sweep-past : (basis : Basis) (more n : ℕ) (marks : List Bool) → length marks ≤ suc n → sweepFrom basis (more + n) marks ≡ sweepFrom basis n marks
-unfolding sweepFrom
-sweep-past basis zero n marks whole = let same : 0 + n ≡ n = omega arith in rw same
-sweep-past basis (suc more) zero marks whole = by-more more
-  where
-    by-more : (more : ℕ) → sweepFrom basis (suc more + 0) marks ≡ marks
-    by-more zero = refl
-    by-more (suc more) =
-        let same : suc (suc more) + 0 ≡ suc (suc (more + 0)) = omega arith in
-        let next : suc more + 0 ≡ suc (more + 0) = omega arith in
-        rw same (ap (sweepFrom basis (suc (more + 0))) (place-past basis (suc (suc (more + 0))) marks (omega arith)) ∙ (rw next at (by-more more)))
-sweep-past basis (suc more) (suc n) marks whole =
-    let same : suc more + suc n ≡ suc (suc (more + n)) = omega arith in
-    let next : more + suc n ≡ suc (more + n) = omega arith in
-    rw same
-    (ap (sweepFrom basis (suc (more + n))) (place-past basis (suc (suc (more + n))) marks (omega arith))
-    ∙ (rw next at (sweep-past basis more (suc n) marks whole)))
 
 -- the first places of padded marks
 pub take-padded : (size n : ℕ) (marks : List Bool) → length marks ≡ n → take n (padded size marks) ≡ marks

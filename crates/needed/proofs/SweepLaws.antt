@@ -10,8 +10,9 @@ use native.Mathlib.Omega.{arith}
 use lib.ListN.{length}
 use Rattle.algebra.specs.declared.Basis.{Basis}
 use Rattle.needed.specs.Needed.{Part, Needed, target, part}
-use Rattle.needed.specs.NeededMarks.{Marked, sweepAt, sweepFrom}
-use Rattle.needed.proofs.MarkLaws.{marked-below, part-less, place-length, place-keeps, place-above, place-here, place-only}
+use Rattle.needed.specs.inside.Marks.{Marked, sweepAt, sweepFrom}
+use Rattle.needed.proofs.Needed.{part-less}
+use Rattle.needed.proofs.MarkLaws.{marked-below, place-length, place-keeps, place-above, place-here, place-only}
 
 -- one place of the sweep, and the rest from the next lower
 pub sweep-place : (basis : Basis) (n : ℕ) (marks : List Bool) → 1 < n → sweepFrom basis n marks ≡ sweepFrom basis (n - 1) (sweepAt basis n marks)

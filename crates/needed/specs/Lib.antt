@@ -1,4 +1,4 @@
 pub mod Needed
-pub mod NeededMarks
+pub mod NeededList
 pub mod Promises
 pub mod inside

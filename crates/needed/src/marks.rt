@@ -2,9 +2,11 @@
 ghost use mathlib.Core.Path.{_≡_};
 ghost use Prim.Native.Nat.{_<_, _≤_, _+_};
 ghost use lib.ListN.{take};
-ghost use Rattle.needed.specs.inside.Planned.{Planned};
+ghost use Rattle.number.specs.Limits.{countLimit};
 ghost use Rattle.needed.specs.Needed.{babyLimit};
-ghost use Rattle.needed.specs.NeededMarks.{padded, isTarget, places, markAt, markParts, sweepFrom, countMarks, greatestTarget, neededMarks, neededCount};
+ghost use Rattle.needed.specs.NeededList.{neededCount};
+ghost use Rattle.needed.specs.inside.Planned.{Planned};
+ghost use Rattle.needed.specs.inside.Marks.{padded, isTarget, places, markAt, markParts, sweepFrom, countMarks, greatestTarget, neededMarks};
 use algebra::Basis;
 use algebra::Parity;
 use number::PLAN_LIMIT;
@@ -54,8 +56,8 @@ fn is_target(parity: Parity, top: usize, limit: usize, n: usize) -> bool
 
 // The marks of the powers that are needed at once, none of them above the last.
 fn target_marks(parity: Parity, top: usize, limit: usize, last: usize) -> [bool; MARKS]
-    requires { ⌜ last < 4096 ⌝ }
-    ensures { λ r. ⌜ r ≡ padded 4096 (places (isTarget parity top limit) 0 (last + 1)) ⌝ }
+    requires { ⌜ last < countLimit ⌝ }
+    ensures { λ r. ⌜ r ≡ padded countLimit (places (isTarget parity top limit) 0 (last + 1)) ⌝ }
 {
     let mut marks = [false; MARKS];
     let mut n = 0;
@@ -67,8 +69,8 @@ fn target_marks(parity: Parity, top: usize, limit: usize, last: usize) -> [bool;
 }
 
 // A mark at n, if n is above 1.
-fn mark(marks: &mut [bool; MARKS], n: usize)
-    requires { ⌜ n < 4096 ⌝ }
+fn mark(n: usize, marks: &mut [bool; MARKS])
+    requires { ⌜ n < countLimit ⌝ }
     ensures { λ _. ⌜ now (marks .exit) ≡ markAt n (now (marks .entry)) ⌝ }
 {
     if 1 < n {
@@ -77,8 +79,8 @@ fn mark(marks: &mut [bool; MARKS], n: usize)
 }
 
 // Marks at the parts of n, and in Chebyshev at their distance.
-fn mark_parts(marks: &mut [bool; MARKS], basis: Basis, n: usize)
-    requires { ⌜ (2 ≤ n) × (n < 4096) ⌝ }
+fn mark_parts(basis: Basis, n: usize, marks: &mut [bool; MARKS])
+    requires { ⌜ (2 ≤ n) × (n < countLimit) ⌝ }
     ensures { λ _. ⌜ now (marks .exit) ≡ markParts basis n (now (marks .entry)) ⌝ }
 {
     let parts = split_degree(n);
@@ -86,22 +88,22 @@ fn mark_parts(marks: &mut [bool; MARKS], basis: Basis, n: usize)
     let b = parts.b;
     match basis {
         Basis::Monomial => {}
-        Basis::Chebyshev => mark(marks, distance(a, b)),
+        Basis::Chebyshev => mark(distance(a, b), marks),
     }
-    mark(marks, a);
-    mark(marks, b);
+    mark(a, marks);
+    mark(b, marks);
 }
 
 // All that the marked powers need, swept from the last place down.
-fn sweep(targets: [bool; MARKS], basis: Basis, last: usize) -> [bool; MARKS]
-    requires { ⌜ last < 4096 ⌝ }
+fn sweep(basis: Basis, last: usize, targets: [bool; MARKS]) -> [bool; MARKS]
+    requires { ⌜ last < countLimit ⌝ }
     ensures { λ r. ⌜ r ≡ sweepFrom basis last targets ⌝ }
 {
     let mut marks = targets;
     let mut n = last;
     while 1 < n {
         if marks[n] {
-            mark_parts(&mut marks, basis, n);
+            mark_parts(basis, n, &mut marks);
         }
         n -= 1;
     }
@@ -111,18 +113,18 @@ fn sweep(targets: [bool; MARKS], basis: Basis, last: usize) -> [bool; MARKS]
 // The marks of all needed powers.
 pub fn needed_marks(parity: Parity, basis: Basis, degree: usize, split: usize) -> [bool; MARKS]
     requires { ⌜ Planned degree split ⌝ }
-    ensures { λ r. ⌜ r ≡ padded 4096 (neededMarks parity basis degree split) ⌝ }
+    ensures { λ r. ⌜ r ≡ padded countLimit (neededMarks parity basis degree split) ⌝ }
 {
     let top = top_power(degree);
     let limit = baby_limit(degree, split);
     let last = greatest_target(degree, split);
     let targets = target_marks(parity, top, limit, last);
-    sweep(targets, basis, last)
+    sweep(basis, last, targets)
 }
 
 // How many of the first places are marked.
 fn count_marks(marks: [bool; MARKS], places: usize) -> usize
-    requires { ⌜ places ≤ 4096 ⌝ }
+    requires { ⌜ places ≤ countLimit ⌝ }
     ensures { λ r. ⌜ r ≡ countMarks (take places marks) ⌝ }
 {
     let mut count = 0;

@@ -3,17 +3,18 @@
 use native.Mathlib.Omega.{arith}
 use borrow.Author.Needs.{needs}
 use borrow.Author.Tests.{lt-ltb, le-ltb, eq-eqb, ne-eqb}
+use Rattle.number.specs.Refusal.{unlessRefused}
 use Rattle.counts.specs.Calls.{minDepthCall}
 use Rattle.number.proofs.Bits.{digits-range}
 use Rattle.counts.proofs.choice.min_depth_split.Statement.{statement}
 use Rattle.counts.proofs.choice.min_depth_split.Tie as tie
 
 returns : tie.Need-returns
-unfolding minDepthCall
+unfolding minDepthCall unlessRefused
 returns c = rw (lt-ltb _ _ (c .if1 .taken))
 
 returns-2 : tie.Need-returns-2
-unfolding minDepthCall
+unfolding minDepthCall unlessRefused
 returns-2 c = rw (le-ltb _ _ (c .before .if1 .left), eq-eqb _ _ (c .if2 .taken))
 
 bit-len-requires : tie.Need-bit-len-requires
@@ -26,7 +27,7 @@ min-depth-requires c κs =
     record { from = omega (arith, c .bit-len .ensures); to = omega (arith, c .bit-len .ensures) }
 
 returns-3 : tie.Need-returns-3
-unfolding minDepthCall
+unfolding minDepthCall unlessRefused
 returns-3 c =
     let tests = c .before .before in
     rw (le-ltb _ _ (tests .before .if1 .left), ne-eqb _ _ (tests .if2 .left), c .min-depth .ensures, c .before .bit-len .ensures)

@@ -26,9 +26,9 @@ best-split-requires : tie.Need-best-split-requires
 best-split-requires c κs =
     let digits = c .before in
     let start = digits .before in
-    let few = few-digits (start .args .degree) (start .pre) in
-    let some = digit-some (start .args .degree) (omega (arith, digits .bit-len .ensures, c .if1 .left)) in (
-      record { from = some; to = start .pre },
+    let range = few-digits (start .args .degree) (start .pre) in
+    let positive = digit-some (start .args .degree) (omega (arith, digits .bit-len .ensures, c .if1 .left)) in (
+      record { from = positive; to = start .pre },
       record { from = omega (arith, c .if1 .left); to = omega (arith, digits .bit-len .ensures) },
     )
 
@@ -37,10 +37,10 @@ returns-2 c =
     let test = c .before in
     let digits = test .before in
     let args = digits .before .args in
-    let long : 1 < bitLen (args .degree) = omega (arith, digits .bit-len .ensures, test .if1 .left) in
+    let two-digits : 1 < bitLen (args .degree) = omega (arith, digits .bit-len .ensures, test .if1 .left) in
     ap (λ (best : Best). best .split) (c .best-split .ensures)
     ∙ ap (λ (l : ℕ). bestOf (pairAt (args .parity) (args .basis) (args .degree)) (l - 1) .split) (digits .bit-len .ensures)
-    ∙ sym (mult-best (args .parity) (args .basis) (args .degree) long)
+    ∙ sym (mult-best (args .parity) (args .basis) (args .degree) two-digits)
 
 pub min-mult-spec : {M : Type 1} → statement M
 min-mult-spec = tie.close (tie.spec bit-len-requires returns best-split-requires returns-2)

@@ -18,8 +18,8 @@ bit-len-requires c κs = search needs
 min-depth-requires : tie.Need-min-depth-requires
 min-depth-requires c κs =
     let start = c .before .before .before in
-    let some = some-digit (start .args .degree) (start .pre .from) in
-    let few = few-digits (start .args .degree) (start .pre .to) in
+    let from-one = some-digit (start .args .degree) (start .pre .from) in
+    let to-twelve = few-digits (start .args .degree) (start .pre .to) in
     record { from = omega (arith, c .bit-len .ensures); to = omega (arith, c .bit-len .ensures) }
 
 enum-told-2 : tie.Need-enum-told-2

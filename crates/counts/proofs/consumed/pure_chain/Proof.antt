@@ -3,7 +3,7 @@
 use native.Mathlib.Omega.{arith}
 use borrow.Author.Needs.{needs}
 use Rattle.number.proofs.Bits.{digits-range}
-use Rattle.counts.proofs.DepthLaws.{pure-less, pure-whole}
+use Rattle.counts.proofs.ConsumedBits.{pure-less, pure-whole}
 use Rattle.counts.proofs.consumed.pure_chain.Statement.{statement}
 use Rattle.counts.proofs.consumed.pure_chain.Tie as tie
 
@@ -15,18 +15,18 @@ top-power-requires c κs = search needs
 
 sub-result : tie.Need-sub-result
 sub-result c =
-    let length = c .before .before in
-    omega (arith, length .bit-len .ensures, digits-range (length .before .args .degree) (length .before .pre))
+    let digits = c .before .before in
+    omega (arith, digits .bit-len .ensures, digits-range (digits .before .args .degree) (digits .before .pre))
 
 returns : tie.Need-returns
 returns c =
-    let length = c .before .before in
-    pure-less (length .before .args .degree) (length .before .pre) (length .bit-len .ensures) (c .before .top-power .ensures) (c .if1 .taken)
+    let digits = c .before .before in
+    pure-less (digits .before .args .degree) (digits .bit-len .ensures) (c .before .top-power .ensures) (c .if1 .taken)
 
 returns-2 : tie.Need-returns-2
 returns-2 c =
-    let length = c .before .before in
-    pure-whole (length .before .args .degree) (length .before .pre) (length .bit-len .ensures) (c .before .top-power .ensures) (c .if1 .left)
+    let digits = c .before .before in
+    pure-whole (digits .before .args .degree) (digits .bit-len .ensures) (c .before .top-power .ensures) (c .if1 .left)
 
 pub pure-chain-spec : {M : Type 1} → statement M
 pure-chain-spec =

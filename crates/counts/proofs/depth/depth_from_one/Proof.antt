@@ -18,58 +18,58 @@ enum-told-2 c = search needs
 
 power-of-two-requires : tie.Need-power-of-two-requires
 power-of-two-requires c κs =
-    let length = c .before .before in
-    omega (arith, length .bit-len .ensures, digits-range (length .before .args .degree) (length .before .pre))
+    let digits = c .before .before in
+    omega (arith, digits .bit-len .ensures, digits-range (digits .before .args .degree) (digits .before .pre))
 
 sub-power-of-two : tie.Need-sub-power-of-two
 sub-power-of-two c =
-    let length = c .before .before .before in
-    omega (arith, length .bit-len .ensures, digits-range (length .before .args .degree) (length .before .pre))
+    let digits = c .before .before .before in
+    omega (arith, digits .bit-len .ensures, digits-range (digits .before .args .degree) (digits .before .pre))
 
 power-of-two-requires-2 : tie.Need-power-of-two-requires-2
 power-of-two-requires-2 c κs =
-    let length = c .before .before .before in
-    omega (arith, length .bit-len .ensures, digits-range (length .before .args .degree) (length .before .pre))
+    let digits = c .before .before .before in
+    omega (arith, digits .bit-len .ensures, digits-range (digits .before .args .degree) (digits .before .pre))
 
 sub-threshold : tie.Need-sub-threshold
 sub-threshold c =
-    let length = c .before .before .before .before in
-    half-fits (length .before .args .degree) (length .before .pre) (length .bit-len .ensures)
+    let digits = c .before .before .before .before in
+    half-fits (digits .before .args .degree) (digits .before .pre .from) (digits .bit-len .ensures)
     (c .before .power-of-two .ensures) (c .power-of-two2 .ensures)
 
 add-threshold : tie.Need-add-threshold
 add-threshold c =
     let digits = c .before .before .before .before in
-    let few = digits-range (digits .before .args .degree) (digits .before .pre) in
+    let range = digits-range (digits .before .args .degree) (digits .before .pre) in
     omega (arith, power-range (omega (arith, digits .bit-len .ensures)) (c .before .power-of-two .ensures))
 
 add-result : tie.Need-add-result
 add-result c =
     let powers = c .before in
-    let length = powers .before .before .before .before in
-    omega (arith, length .bit-len .ensures, digits-range (length .before .args .degree) (length .before .pre))
+    let digits = powers .before .before .before .before in
+    omega (arith, digits .bit-len .ensures, digits-range (digits .before .args .degree) (digits .before .pre))
 
 returns : tie.Need-returns
 returns c =
-    let length = c .before .before in
-    rw (c .enum-told .given .1) (depth-least (length .before .args .degree) (length .before .pre) (length .bit-len .ensures))
+    let digits = c .before .before in
+    rw (c .enum-told .given .1) (depth-least (digits .before .args .degree) (digits .before .pre .from) (digits .bit-len .ensures))
 
 returns-2 : tie.Need-returns-2
 returns-2 c =
     let powers = c .before in
     let arm = powers .before .before in
-    let length = arm .before .before in
+    let digits = arm .before .before in
     rw (arm .enum-told2 .given .1)
-    (depth-more (length .before .args .degree) (length .before .pre) (length .bit-len .ensures)
+    (depth-more (digits .before .args .degree) (digits .before .pre .from) (digits .bit-len .ensures)
     (powers .before .power-of-two .ensures) (powers .power-of-two2 .ensures) (c .if1 .taken))
 
 returns-3 : tie.Need-returns-3
 returns-3 c =
     let powers = c .before in
     let arm = powers .before .before in
-    let length = arm .before .before in
+    let digits = arm .before .before in
     rw (arm .enum-told2 .given .1)
-    (depth-same (length .before .args .degree) (length .before .pre) (length .bit-len .ensures)
+    (depth-same (digits .before .args .degree) (digits .before .pre .from) (digits .bit-len .ensures)
     (powers .before .power-of-two .ensures) (powers .power-of-two2 .ensures) (c .if1 .left))
 
 pub depth-from-one-spec : {M : Type 1} → statement M

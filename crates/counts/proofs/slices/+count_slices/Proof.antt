@@ -7,12 +7,12 @@ use borrow.Fn.Kinds.{In}
 use borrow.Fn.PlainCycle.{Measures, is, falls, and}
 use Rattle.number.specs.Bits.{bitLen}
 use Rattle.number.proofs.Bits.{from-base, cut-at}
-use Rattle.counts.proofs.TallyLaws.{tallied-one, tallied-cut}
+use Rattle.number.proofs.power_of_two.Reads as power-of-two-reads
+use Rattle.number.proofs.top_power.Reads as top-power-reads
+use Rattle.counts.proofs.TallyLaws.{tally-range, tally-one, tally-cut}
 use Rattle.counts.proofs.slices.count_slices.Reads as count-slices
 use Rattle.counts.proofs.slices.count_slices.Kinds as count-slices-kinds
 use Rattle.counts.proofs.slices.+count_slices.Lts-count_slices as count-slices-lts
-use Rattle.number.proofs.power_of_two.Reads as power-of-two-reads
-use Rattle.number.proofs.top_power.Reads as top-power-reads
 use Rattle.counts.proofs.slices.allowed_to.Reads as allowed-to-reads
 use Rattle.counts.proofs.slices.+count_slices.{statement}
 use Rattle.counts.proofs.slices.+count_slices.Tie.{close}
@@ -57,7 +57,7 @@ module _ (t : ℕ) where
       let base = c .before .before in
       let args = base .before .args in
       let under : args .degree < 2 ^ args .split = rw (base .power-of-two .ensures) at (c .before .if1 .taken) in
-      tallied-one (args .parity) (args .split) (args .degree) under (c .allowed-to .ensures)
+      tally-one (args .parity) (args .degree) (args .split) under (c .allowed-to .ensures)
 
   count-slices-top-power-requires : count-slices-lts.Need-top-power-requires (count-slices-calls t) (count-slices-at t) count-slices.Post
   count-slices-top-power-requires c κs =
@@ -98,7 +98,9 @@ module _ (t : ℕ) where
       let top = high .before .before in
       let test = top .before in
       let cut = cut-at (from-base _ (test .before .power-of-two .ensures) (test .if1 .left)) (top .top-power .ensures) in
-      omega (arith, high .before .count-slices .ensures .most, high .count-slices2 .ensures .most, test .before .before .pre .1 .0)
+      let low-range = tally-range _ _ _ (high .before .count-slices .ensures) in
+      let high-range = tally-range _ _ _ (high .count-slices2 .ensures) in
+      omega (arith, test .before .before .pre .1 .0)
 
   count-slices-add-t11 : count-slices-lts.Need-add-t11 (count-slices-calls t) (count-slices-at t) count-slices.Post
   count-slices-add-t11 c =
@@ -106,7 +108,9 @@ module _ (t : ℕ) where
       let top = high .before .before in
       let test = top .before in
       let cut = cut-at (from-base _ (test .before .power-of-two .ensures) (test .if1 .left)) (top .top-power .ensures) in
-      omega (arith, high .before .count-slices .ensures .most, high .count-slices2 .ensures .most, test .before .before .pre .1 .0)
+      let low-range = tally-range _ _ _ (high .before .count-slices .ensures) in
+      let high-range = tally-range _ _ _ (high .count-slices2 .ensures) in
+      omega (arith, test .before .before .pre .1 .0)
 
   count-slices-returns-2 : count-slices-lts.Need-returns-2 (count-slices-calls t) (count-slices-at t) count-slices.Post
   count-slices-returns-2 c =
@@ -115,7 +119,7 @@ module _ (t : ℕ) where
       let base = top .before .before in
       let args = base .before .args in
       let reached : 2 ^ args .split ≤ args .degree = rw (base .power-of-two .ensures) at (top .before .if1 .left) in
-      tallied-cut (args .parity) (args .split) (args .degree) reached (top .top-power .ensures)
+      tally-cut (args .parity) (args .degree) (args .split) reached (top .top-power .ensures)
       (high .before .count-slices .ensures) (high .count-slices2 .ensures)
 
 pub +count-slices-spec : {M : Type 1} → statement M

@@ -2,7 +2,7 @@
 -- (d + 1) / 2.
 use mathlib.Core.Path.{sym}
 use borrow.Author.Needs.{needs}
-use Rattle.counts.proofs.TallyLaws.{allowed-full, allowed-even, allowed-odd}
+use Rattle.counts.proofs.PlainCount.{allowed-counts}
 use Rattle.counts.proofs.slices.allowed_to.Statement.{statement}
 use Rattle.counts.proofs.slices.allowed_to.Tie as tie
 
@@ -19,13 +19,13 @@ add-result : tie.Need-add-result
 add-result c = search needs
 
 returns : tie.Need-returns
-returns c = sym (rw (c .enum-told .given .1) (allowed-full _))
+returns c = sym (rw (c .enum-told .given .1) (allowed-counts _ .full))
 
 returns-2 : tie.Need-returns-2
-returns-2 c = sym (rw (c .enum-told2 .given .1) (allowed-even _))
+returns-2 c = sym (rw (c .enum-told2 .given .1) (allowed-counts _ .even))
 
 returns-3 : tie.Need-returns-3
-returns-3 c = sym (rw (c .enum-told3 .given .1) (allowed-odd _))
+returns-3 c = sym (rw (c .enum-told3 .given .1) (allowed-counts _ .odd))
 
 pub allowed-to-spec : {M : Type 1} → statement M
 allowed-to-spec =

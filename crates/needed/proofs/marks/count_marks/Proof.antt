@@ -7,7 +7,8 @@ use Prim.Native.Nat.{ℕ, _-_, _≤_}
 use native.Mathlib.Omega.{arith}
 use borrow.Author.Needs.{needs}
 use lib.ListN.{length, take, getD}
-use Rattle.needed.specs.NeededMarks.{countMarks}
+use Rattle.number.specs.Limits.{countLimit}
+use Rattle.needed.specs.inside.Marks.{countMarks}
 use Rattle.needed.proofs.PlaceLaws.{count-none, count-step}
 use Rattle.needed.proofs.marks.count_marks.Statement.{statement}
 use Rattle.needed.proofs.marks.count_marks.Tie as tie
@@ -39,7 +40,7 @@ loop-again c =
     let n = c .before .before .loop .n in
     let marks = start .args .t1 in
     let good = start .good in
-    let size : length marks ≡ 4096 = search needs in
+    let size : length marks ≡ countLimit = search needs in
     let step = count-step marks n (omega (arith, start .pre)) in
     ⊎-elim
     (λ came.

@@ -4,9 +4,11 @@ use mathlib.Core.Path.{_∙_, ap}
 use Prim.Native.Nat.{_+_}
 use native.Mathlib.Omega.{arith}
 use borrow.Author.Needs.{needs}
-use Rattle.needed.specs.NeededMarks.{greatestTarget, countMarks, neededMarks, neededCount}
+use Rattle.number.specs.Limits.{countLimit}
+use Rattle.needed.specs.inside.Marks.{greatestTarget, countMarks, neededMarks}
 use Rattle.needed.proofs.PlaceLaws.{take-padded}
-use Rattle.needed.proofs.NeededLaws.{greatest-within, needed-length}
+use Rattle.needed.proofs.NeededMarks.{greatest-within, needed-length}
+use Rattle.needed.proofs.NeededList.{needed-counted}
 use Rattle.needed.proofs.marks.count_needed.Statement.{statement}
 use Rattle.needed.proofs.marks.count_needed.Tie as tie
 
@@ -19,17 +21,16 @@ greatest-target-requires c κs = search needs
 add-count-marks : tie.Need-add-count-marks
 add-count-marks c =
     let start = c .before .before in
-    let within = greatest-within (start .args .split) (start .args .degree) (start .pre .degrees .from) in
+    let within = greatest-within (start .args .degree) (start .args .split) (start .pre .degrees .from) in
     omega (arith, c .greatest-target .ensures, start .pre .degrees .to)
 
 count-marks-requires : tie.Need-count-marks-requires
 count-marks-requires c κs =
     let start = c .before .before in
-    let within = greatest-within (start .args .split) (start .args .degree) (start .pre .degrees .from) in
+    let within = greatest-within (start .args .degree) (start .args .split) (start .pre .degrees .from) in
     omega (arith, c .greatest-target .ensures, start .pre .degrees .to)
 
 returns : tie.Need-returns
-unfolding neededCount
 returns c =
     let last = c .before in
     let marks = last .before in
@@ -38,7 +39,8 @@ returns c =
     let size = greatestTarget (args .degree) (args .split) + 1 in
     c .count-marks .ensures
     ∙ rw (marks .needed-marks .ensures, last .greatest-target .ensures)
-    (ap countMarks (take-padded 4096 size whole (needed-length (args .parity) (args .basis) (args .split) (args .degree))))
+    (ap countMarks (take-padded countLimit size whole (needed-length (args .parity) (args .basis) (args .degree) (args .split)))
+    ∙ needed-counted (args .parity) (args .basis) (args .degree) (args .split))
 
 pub count-needed-spec : {M : Type 1} → statement M
 count-needed-spec =

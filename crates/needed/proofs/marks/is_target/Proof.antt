@@ -4,11 +4,11 @@ use mathlib.Core.Path.{_≡_, refl}
 use mathlib.Core.Bool.{Bool, true, false, _&&_, _||_}
 use Prim.Native.Nat.{ℕ}
 use native.Mathlib.Omega.{arith}
-use lib.Dec.{ltb, leb}
 use borrow.Author.Needs.{needs}
 use borrow.Author.Tests.{le-leb, lt-leb, leb-false, lt-ltb, le-ltb, eq-eqb, ne-eqb}
+use lib.Dec.{ltb, leb}
 use Rattle.algebra.specs.Allowed.{allows}
-use Rattle.needed.specs.NeededMarks.{isTarget}
+use Rattle.needed.specs.inside.Marks.{isTarget}
 use Rattle.needed.proofs.marks.is_target.Statement.{statement}
 use Rattle.needed.proofs.marks.is_target.Tie as tie
 

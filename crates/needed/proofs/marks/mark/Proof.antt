@@ -1,7 +1,7 @@
 -- `needed::marks::mark` meets its contract. Its one test is the definition's, and the place is inside the array.
 use borrow.Author.Needs.{needs}
 use borrow.Author.Tests.{lt-ltb, le-ltb}
-use Rattle.needed.specs.NeededMarks.{markAt}
+use Rattle.needed.specs.inside.Marks.{markAt}
 use Rattle.needed.proofs.marks.mark.Statement.{statement}
 use Rattle.needed.proofs.marks.mark.Tie as tie
 

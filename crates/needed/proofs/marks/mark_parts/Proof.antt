@@ -6,11 +6,12 @@ use Prim.Native.Nat.{ℕ, _≤_}
 use native.Mathlib.Omega.{arith}
 use borrow.Author.Needs.{needs}
 use denote.Ref.{now}
+use Rattle.algebra.specs.Distance.{distanceOf}
+use Rattle.number.specs.Limits.{degreeLimit}
 use Rattle.number.specs.Split.{splitOf, partsOf}
 use Rattle.number.specs.declared.split.Parts.{Parts}
+use Rattle.needed.specs.inside.Marks.{markAt, markApart, markParts}
 use Rattle.number.proofs.SplitParts.{Parted, split-accepted, parted}
-use Rattle.algebra.specs.Distance.{distanceOf}
-use Rattle.needed.specs.NeededMarks.{markAt, markApart, markParts}
 use Rattle.needed.proofs.MarkLaws.{apart-monomial, apart-chebyshev}
 use Rattle.needed.proofs.marks.mark_parts.Statement.{statement}
 use Rattle.needed.proofs.marks.mark_parts.Tie as tie
@@ -20,7 +21,7 @@ record Made (n : ℕ) (parts : Parts) : Type 0 where
   is : parts ≡ partsOf n
   two : Parted n parts
 
-made : {n : ℕ} {parts : Parts} → 2 ≤ n → n ≤ 4294967295 → parts ≡ splitOf n → Made n parts
+made : {n : ℕ} {parts : Parts} → 2 ≤ n → n ≤ degreeLimit → parts ≡ splitOf n → Made n parts
 made {n} from to is =
     let accepted = is ∙ split-accepted n from to in
     record { is = accepted; two = rw accepted (parted n from) }
@@ -39,9 +40,10 @@ distance-requires c κs = search needs
 
 mark-requires : tie.Need-mark-requires
 mark-requires c κs =
-    let split = c .before .before .before .before in
+    let distance = c .before in
+    let split = distance .before .before .before in
     let parts = made (split .before .pre .0) (omega (arith, split .before .pre)) (split .split-degree .ensures) in
-    omega (arith, c .distance .ensures, parts .two, split .before .pre)
+    omega (arith, distance .distance .ensures, parts .two, split .before .pre)
 
 mark-requires-2 : tie.Need-mark-requires-2
 mark-requires-2 c κs =
@@ -71,7 +73,7 @@ returns c =
     ⊎-elim
     (λ came. came .2 ∙ sym (apart-monomial n marks (came .1 .given .1)))
     (λ came.
-    came .5 ∙ came .4 .ensures ∙ ap (λ (x : ℕ). markAt x marks) (came .3 .ensures)
+    came .5 ∙ came .4 .ensures ∙ ap (λ (x : ℕ). markAt x marks) (came .2 .ensures)
     ∙ ap (λ (x : Parts). markAt (distanceOf (x .a) (x .b)) marks) parts-are
     ∙ sym (apart-chebyshev n marks (came .1 .given .1)))
     (arms .match .came) in

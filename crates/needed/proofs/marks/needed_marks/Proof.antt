@@ -3,9 +3,10 @@
 use mathlib.Core.Path.{_∙_}
 use native.Mathlib.Omega.{arith}
 use borrow.Author.Needs.{needs}
-use Rattle.needed.specs.NeededMarks.{greatestTarget, targetMarks, neededMarks}
+use Rattle.number.specs.Limits.{countLimit}
+use Rattle.needed.specs.inside.Marks.{greatestTarget, targetMarks, neededMarks}
 use Rattle.needed.proofs.PlaceLaws.{sweep-padded}
-use Rattle.needed.proofs.NeededLaws.{greatest-within}
+use Rattle.needed.proofs.NeededMarks.{greatest-within}
 use Rattle.needed.proofs.marks.needed_marks.Statement.{statement}
 use Rattle.needed.proofs.marks.needed_marks.Tie as tie
 
@@ -21,14 +22,14 @@ greatest-target-requires c κs = search needs
 target-marks-requires : tie.Need-target-marks-requires
 target-marks-requires c κs =
     let start = c .before .before .before in
-    let within = greatest-within (start .args .split) (start .args .degree) (start .pre .degrees .from) in
+    let within = greatest-within (start .args .degree) (start .args .split) (start .pre .degrees .from) in
     omega (arith, c .greatest-target .ensures, start .pre .degrees .to)
 
 sweep-requires : tie.Need-sweep-requires
 sweep-requires c κs =
     let last = c .before in
     let start = last .before .before .before in
-    let within = greatest-within (start .args .split) (start .args .degree) (start .pre .degrees .from) in
+    let within = greatest-within (start .args .degree) (start .args .split) (start .pre .degrees .from) in
     omega (arith, last .greatest-target .ensures, start .pre .degrees .to)
 
 returns : tie.Need-returns
@@ -41,7 +42,7 @@ returns c =
     let args = top .before .args in
     c .sweep .ensures
     ∙ rw (targets .target-marks .ensures, last .greatest-target .ensures, limit .baby-limit .ensures, top .top-power .ensures)
-    (sweep-padded (args .basis) (greatestTarget (args .degree) (args .split)) 4096 _)
+    (sweep-padded (args .basis) (greatestTarget (args .degree) (args .split)) countLimit _)
 
 pub needed-marks-spec : {M : Type 1} → statement M
 needed-marks-spec =

@@ -5,14 +5,15 @@ use mathlib.Core.Logic.{⊎-elim}
 use Prim.Native.Nat.{_-_, _≤_, _<_}
 use native.Mathlib.Omega.{arith}
 use borrow.Author.Needs.{needs}
-use Rattle.needed.specs.NeededMarks.{sweepFrom}
+use Rattle.number.specs.Limits.{countLimit}
+use Rattle.needed.specs.inside.Marks.{sweepFrom}
 use Rattle.needed.proofs.MarkLaws.{place-marked, place-unmarked}
 use Rattle.needed.proofs.SweepLaws.{sweep-place, sweep-end}
 use Rattle.needed.proofs.marks.sweep.Statement.{statement}
 use Rattle.needed.proofs.marks.sweep.Tie as tie
 
 abbrev Inv-loop : tie.InvT-loop
-Inv-loop basis last marks₀ n₀ marks n = (n < 4096) × (sweepFrom basis n marks ≡ sweepFrom basis last marks₀)
+Inv-loop basis last marks₀ n₀ marks n = (n < countLimit) × (sweepFrom basis n marks ≡ sweepFrom basis last marks₀)
 
 abbrev μ-loop : tie.MeasureT-loop
 μ-loop basis last marks₀ n₀ marks n = n

@@ -7,19 +7,20 @@ use Prim.Native.Nat.{_+_, _-_, _≤_, _<_}
 use native.Mathlib.Omega.{arith}
 use borrow.Author.Needs.{needs}
 use lib.ListN.{set}
-use Rattle.needed.specs.NeededMarks.{isTarget}
+use Rattle.number.specs.Limits.{countLimit}
+use Rattle.needed.specs.inside.Marks.{isTarget}
 use Rattle.needed.proofs.PlaceLaws.{filled, fill-start, fill-step, fill-end}
 use Rattle.needed.proofs.marks.target_marks.Statement.{statement}
 use Rattle.needed.proofs.marks.target_marks.Tie as tie
 
 abbrev Inv-loop : tie.InvT-loop
-Inv-loop parity top limit last marks₀ n₀ marks n = (n ≤ last + 1) × (marks ≡ filled (isTarget parity top limit) 4096 n)
+Inv-loop parity top limit last marks₀ n₀ marks n = (n ≤ last + 1) × (marks ≡ filled (isTarget parity top limit) countLimit n)
 
 abbrev μ-loop : tie.MeasureT-loop
 μ-loop parity top limit last marks₀ n₀ marks n = last + 1 - n
 
 loop-holds : tie.Need-loop-holds Inv-loop μ-loop
-loop-holds c = (omega arith, fill-start _ 4096)
+loop-holds c = (omega arith, fill-start _ countLimit)
 
 is-target-requires : tie.Need-is-target-requires Inv-loop μ-loop
 is-target-requires c κs = search needs
@@ -38,8 +39,8 @@ loop-again c =
     let loop = c .before .before .loop in
     let start = c .before .before .before in
     let test = isTarget (start .args .parity) (start .args .top) (start .args .limit) in
-    let inside : loop .n < 4096 = omega (arith, c .before .loop-test .taken, start .pre) in
-    let step = fill-step test 4096 (loop .n) inside (c .is-target .ensures) in
+    let inside : loop .n < countLimit = omega (arith, c .before .loop-test .taken, start .pre) in
+    let step = fill-step test countLimit (loop .n) inside (c .is-target .ensures) in
     (omega arith, ap (λ (marks : List Bool). set marks (loop .n) (c .is-target .result)) (loop .inv .1) ∙ step)
 
 returns : tie.Need-returns Inv-loop μ-loop
@@ -47,7 +48,7 @@ returns c =
     let start = c .before .before in
     let test = isTarget (start .args .parity) (start .args .top) (start .args .limit) in
     let end : c .before .loop .n ≡ start .args .last + 1 = omega arith in
-    c .before .loop .inv .1 ∙ ap (filled test 4096) end ∙ fill-end test 4096 (start .args .last + 1)
+    c .before .loop .inv .1 ∙ ap (filled test countLimit) end ∙ fill-end test countLimit (start .args .last + 1)
 
 pub target-marks-spec : {M : Type 1} → statement M
 target-marks-spec =

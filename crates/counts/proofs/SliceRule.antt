@@ -4,12 +4,12 @@ use mathlib.Core.Bool.{Bool, true, false}
 use mathlib.Core.List.{[], _∷_, _++_}
 use Prim.Native.Nat.{ℕ, zero, suc, _-_, _^_, _≤_, _<_}
 use native.Mathlib.Omega.{arith}
+use borrow.Author.Tests.{lt-ltb, le-ltb, ltb-false}
 use lib.Pow.{pow-pos}
 use lib.Dec.{ltb}
-use borrow.Author.Tests.{lt-ltb, le-ltb, ltb-false}
-use Rattle.number.specs.Bits.{bitLen}
-use Rattle.number.specs.Bits.{topPower}
+use Rattle.number.specs.Bits.{bitLen, topPower}
 use Rattle.counts.specs.Slices.{slicesIn, slicesOf}
+use Rattle.counts.specs.SliceRule.{SliceRule}
 use Rattle.number.proofs.Bits.{some-digit, sides-fall}
 
 -- without digits the degree is 0
@@ -34,8 +34,8 @@ same-slices (suc cuts) (suc more) split degree enough enough′ = by-test (ltb d
         → slicesIn (suc cuts) degree split ≡ slicesIn (suc more) degree split
     by-test true is sides = rw (is, slicesIn)
     by-test false is sides =
-        let some : 0 < degree = omega (arith, ltb-false degree (2 ^ split) is, pow-pos split) in
-        let fall = sides-fall degree some in
+        let positive : 0 < degree = omega (arith, ltb-false degree (2 ^ split) is, pow-pos split) in
+        let fall = sides-fall degree positive in
         rw (is, slicesIn) (ap₂ _++_ (sides (topPower degree - 1) (omega arith) (omega arith)) (sides (degree - topPower degree) (omega arith) (omega arith)))
 
 -- degree below base is one slice
@@ -53,14 +53,17 @@ pub slices-cut : (split degree : ℕ) → 2 ^ split ≤ degree
 unfolding slicesOf slicesIn
 slices-cut split degree reached = at-bound (bitLen degree) refl
   where
-    some : 0 < degree
-    some = omega (arith, pow-pos split)
+    positive : 0 < degree
+    positive = omega (arith, pow-pos split)
 
     at-bound : (cuts : ℕ) → bitLen degree ≡ cuts
         → slicesIn cuts degree split ≡ slicesOf (topPower degree - 1) split ++ slicesOf (degree - topPower degree) split
-    at-bound zero is = absurd (omega (arith, some-digit degree some))
+    at-bound zero is = absurd (omega (arith, some-digit degree positive))
     at-bound (suc cuts) is =
-        let fall = sides-fall degree some in
+        let fall = sides-fall degree positive in
         let low = same-slices cuts (bitLen (topPower degree - 1)) split (topPower degree - 1) (omega arith) (omega arith) in
         let high = same-slices cuts (bitLen (degree - topPower degree)) split (degree - topPower degree) (omega arith) (omega arith) in
         rw (le-ltb degree (2 ^ split) reached, slicesIn) (ap₂ _++_ low high)
+
+pub slice-rule : (degree split : ℕ) → SliceRule degree split
+slice-rule degree split = record { one = slices-one split degree; cut = slices-cut split degree }

@@ -14,7 +14,7 @@ use Rattle.number.specs.Bits.{topPower}
 use Rattle.needed.specs.Needed.{partsDistance, babyLimit}
 
 -- power n is marked
-abbrev pub Marked : List Bool → ℕ → Type 0
+abbrev pub Marked : List Bool → (n : ℕ) → Type 0
 Marked marks n = getD marks n false ≡ true
 
 -- whether n is the top power and at least 2, or an allowed power from 3 below the limit
@@ -25,30 +25,30 @@ isTarget parity top limit n = (eqb n top && leb 2 n) || (leb 3 n && (ltb n limit
 abbrev pub greatestTarget : (degree split : ℕ) → ℕ
 greatestTarget degree split = max (topPower degree) (babyLimit degree split - 1)
 
--- f i, f (i + 1), .., as many as the last argument says
-unfoldable pub places : (ℕ → Bool) → ℕ → ℕ → List Bool
-places f i zero = []
-places f i (suc n) = f i ∷ places f (suc i) n
+-- f first, f (first + 1), .., as many as the last argument says
+unfoldable pub places : (f : ℕ → Bool) → (first count : ℕ) → List Bool
+places f first zero = []
+places f first (suc count) = f first ∷ places f (suc first) count
 
 -- a mark at n, if n is above 1
-unfoldable pub markAt : ℕ → List Bool → List Bool
+unfoldable pub markAt : (n : ℕ) → List Bool → List Bool
 markAt n marks = cond (ltb 1 n) (set marks n true) marks
 
 -- in Chebyshev a mark at the distance of the parts of n
-unfoldable pub markApart : Basis → ℕ → List Bool → List Bool
+unfoldable pub markApart : Basis → (n : ℕ) → List Bool → List Bool
 markApart Monomial n marks = marks
 markApart Chebyshev n marks = markAt (partsDistance n) marks
 
 -- and marks at the parts
-unfoldable pub markParts : Basis → ℕ → List Bool → List Bool
+unfoldable pub markParts : Basis → (n : ℕ) → List Bool → List Bool
 markParts basis n marks = markAt (partsOf n .b) (markAt (partsOf n .a) (markApart basis n marks))
 
 -- one place of the sweep: where n is marked, so are its parts
-unfoldable pub sweepAt : Basis → ℕ → List Bool → List Bool
+unfoldable pub sweepAt : Basis → (n : ℕ) → List Bool → List Bool
 sweepAt basis n marks = cond (getD marks n false) (markParts basis n marks) marks
 
 -- the sweep from n down to 2
-unfoldable pub sweepFrom : Basis → ℕ → List Bool → List Bool
+unfoldable pub sweepFrom : Basis → (n : ℕ) → List Bool → List Bool
 sweepFrom basis zero marks = marks
 sweepFrom basis (suc zero) marks = marks
 sweepFrom basis (suc (suc n)) marks = sweepFrom basis (suc n) (sweepAt basis (suc (suc n)) marks)
@@ -62,24 +62,16 @@ unfoldable pub neededMarks : Parity → Basis → (degree split : ℕ) → List 
 neededMarks parity basis degree split = sweepFrom basis (greatestTarget degree split) (targetMarks parity degree split)
 
 -- the marked places, rising; the first argument is the place of the list's first mark
-unfoldable pub markedFrom : ℕ → List Bool → List ℕ
-markedFrom i [] = []
-markedFrom i (true ∷ marks) = i ∷ markedFrom (suc i) marks
-markedFrom i (false ∷ marks) = markedFrom (suc i) marks
-
--- the needed powers, rising
-unfoldable pub neededList : Parity → Basis → (degree split : ℕ) → List ℕ
-neededList parity basis degree split = markedFrom 0 (neededMarks parity basis degree split)
+unfoldable pub markedFrom : (first : ℕ) → List Bool → List ℕ
+markedFrom first [] = []
+markedFrom first (true ∷ marks) = first ∷ markedFrom (suc first) marks
+markedFrom first (false ∷ marks) = markedFrom (suc first) marks
 
 -- how many are marked
 unfoldable pub countMarks : List Bool → ℕ
 countMarks [] = 0
 countMarks (mark ∷ marks) = cond mark 1 0 + countMarks marks
 
--- the number of needed powers
-unfoldable pub neededCount : Parity → Basis → (degree split : ℕ) → ℕ
-neededCount parity basis degree split = countMarks (neededMarks parity basis degree split)
-
 -- a list of marks among as many places as an array has: no mark beyond the list
-unfoldable pub padded : ℕ → List Bool → List Bool
+unfoldable pub padded : (size : ℕ) → List Bool → List Bool
 padded size marks = marks ++ replicate (size - length marks) false

@@ -3,11 +3,13 @@ use Prim.Native.Nat.{ℕ}
 use Rattle.algebra.specs.declared.Basis.{Basis}
 use Rattle.algebra.specs.declared.Parity.{Parity}
 use Rattle.counts.specs.Promises.{Chosen}
-use Rattle.counts.proofs.MinMultLaws.{mult-smallest}
+use Rattle.counts.proofs.MinMultLaws.{mult-smallest, mult-only}
 use Rattle.counts.proofs.ChoiceLaws.{split-range}
 
 pub chosen : (parity : Parity) (basis : Basis) (degree : ℕ) → Chosen parity basis degree
 chosen parity basis degree = record {
   least-pair = mult-smallest parity basis degree;
-  in-range = λ strategy range. split-range strategy parity basis degree range;
+  only = mult-only parity basis degree;
+  from-one = λ strategy from to. split-range strategy parity basis degree (record { from = from; to = to }) .from;
+  to-twelve = λ strategy from to. split-range strategy parity basis degree (record { from = from; to = to }) .to;
 }

@@ -1,15 +1,24 @@
--- The list of the marked places: it holds exactly these, rises, and is as long as the count says.
+-- The list of the needed powers: it holds exactly the marked places, rises, and is as long as there are marks.
 use mathlib.Core.Path.{_≡_, refl, subst}
 use mathlib.Core.Bool.{Bool, true, false}
 use mathlib.Core.Logic.{⊎-elim, _↔_}
 use mathlib.Core.List.{List, [], _∷_, List·Memᴰ, List·Memᴰ·head, List·Memᴰ·tail, List·Memᴰ·not-nil, List·Memᴰ·cases-cons, Memᴰ·cast}
-use Prim.Native.Nat.{ℕ, zero, suc, _+_, _<_}
+use Prim.Native.Nat.{ℕ, zero, suc, _+_, _≤_, _<_}
 use native.Mathlib.Omega.{arith}
 use lib.ListN.{length}
-use Rattle.needed.specs.NeededMarks.{Marked, markedFrom, countMarks}
+use Rattle.algebra.specs.declared.Basis.{Basis}
+use Rattle.algebra.specs.declared.Parity.{Parity}
+use Rattle.number.specs.Limits.{planLimit, countLimit}
+use Rattle.number.specs.inside.Between.{Between}
+use Rattle.needed.specs.inside.Marks.{Marked, neededMarks, markedFrom, countMarks}
+use Rattle.needed.specs.NeededList.{neededList, neededCount}
+use Rattle.needed.specs.Needed.{NeededPower}
 use Rattle.needed.specs.Promises.{Rising, empty, single, next}
+use Rattle.needed.proofs.PlaceLaws.{count-most}
+use Rattle.needed.proofs.NeededMarks.{greatest-within, needed-length, marked-needed}
 
-pub marked-count : (i : ℕ) (marks : List Bool) → countMarks marks ≡ length (markedFrom i marks)
+-- its length is the number of marks
+marked-count : (i : ℕ) (marks : List Bool) → countMarks marks ≡ length (markedFrom i marks)
 unfolding countMarks markedFrom
 marked-count i [] = refl
 marked-count i (true ∷ marks) = omega (arith, marked-count (suc i) marks)
@@ -38,7 +47,7 @@ in-marked i (true ∷ marks) m member =
     (List·Memᴰ·cases-cons member)
 in-marked i (false ∷ marks) m member = let rest = in-marked (suc i) marks m member in (suc (rest .0), omega (arith, rest .1), rest .2)
 
-pub listed-marked : (marks : List Bool) (n : ℕ) → List·Memᴰ n (markedFrom 0 marks) ↔ Marked marks n
+listed-marked : (marks : List Bool) (n : ℕ) → List·Memᴰ n (markedFrom 0 marks) ↔ Marked marks n
 listed-marked marks n = (forth, back)
   where
     forth : List·Memᴰ n (markedFrom 0 marks) → Marked marks n
@@ -57,8 +66,32 @@ rising-more n i [] before rising = single
 rising-more n i (true ∷ marks) before rising = next before rising
 rising-more n i (false ∷ marks) before rising = rising-more n (suc i) marks (omega arith) rising
 
-pub marked-rising : (i : ℕ) (marks : List Bool) → Rising (markedFrom i marks)
+marked-rising : (i : ℕ) (marks : List Bool) → Rising (markedFrom i marks)
 unfolding markedFrom
 marked-rising i [] = empty
 marked-rising i (true ∷ marks) = rising-more i (suc i) marks (omega arith) (marked-rising (suc i) marks)
 marked-rising i (false ∷ marks) = marked-rising (suc i) marks
+
+-- ---- the needed powers
+
+module _ (parity : Parity) (basis : Basis) (degree split : ℕ) where
+  pub needed-listed : (n : ℕ) → List·Memᴰ n (neededList parity basis degree split) ↔ NeededPower parity basis degree split n
+  unfolding neededList
+  needed-listed n =
+      let marks = neededMarks parity basis degree split in
+      let marked = marked-needed parity basis degree split n in
+      (λ member. marked .0 (listed-marked marks n .0 member), λ needed. listed-marked marks n .1 (marked .1 needed))
+
+  pub needed-rising : Rising (neededList parity basis degree split)
+  unfolding neededList
+  needed-rising = marked-rising 0 (neededMarks parity basis degree split)
+
+  -- their number is that of the marks
+  pub needed-counted : countMarks (neededMarks parity basis degree split) ≡ neededCount parity basis degree split
+  unfolding neededList neededCount
+  needed-counted = marked-count 0 (neededMarks parity basis degree split)
+
+  pub count-needed-small : Between 1 degree planLimit → neededCount parity basis degree split ≤ countLimit
+  count-needed-small range =
+      let marks = neededMarks parity basis degree split in
+      omega (arith, needed-counted, count-most marks, needed-length parity basis degree split, greatest-within degree split (range .from))
