@@ -1,4 +1,4 @@
--- The slices obey document 01's rule without the bound on the cuts: one slice below the base, else those of the low and then the high side.
+-- The slices obey their rule without the bound on the cuts: one slice below the base, else those of the low and then the high side.
 use mathlib.Core.Path.{_≡_, refl, ap₂}
 use mathlib.Core.Bool.{Bool, true, false}
 use mathlib.Core.List.{[], _∷_, _++_}

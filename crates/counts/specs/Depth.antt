@@ -1,4 +1,4 @@
--- Depth (document 01, "Depth and bits": as in the source).
+-- Depth (docs/RULES.md, "Depth and bits").
 use mathlib.Core.Bool.{cond}
 use Prim.Native.Nat.{ℕ, zero, suc, _+_, _-_, _/_, _^_}
 use lib.Dec.{leb}

@@ -1,4 +1,4 @@
--- MinDepth's split (document 01, "Choosing the split"): the source's formulas a and b.
+-- MinDepth's split (docs/RULES.md, "Choosing the split"): the source's formulas a and b.
 use mathlib.Core.Bool.{Bool, cond}
 use Prim.Native.Nat.{ℕ, _+_, _-_, _/_, _^_}
 use lib.Dec.{ltb}

@@ -1,4 +1,4 @@
--- MinMult's split (document 01, "Choosing the split"): the smallest split from 1 to L with the least pair.
+-- MinMult's split (docs/RULES.md, "Choosing the split"): the smallest split from 1 to L with the least pair.
 use mathlib.Core.Path.{_≡_}
 use mathlib.Core.Bool.{Bool, true, false, cond, _&&_, _||_}
 use mathlib.Core.Logic.{_⊎_}

@@ -1,4 +1,4 @@
--- The pair (ct-ct, pt-ct) of a degree at a split (document 01, "Choosing the split").
+-- The pair (ct-ct, pt-ct) of a degree at a split (docs/RULES.md, "Choosing the split").
 use mathlib.Core.Bool.{Bool, cond, _&&_}
 use mathlib.Core.List.{List}
 use Prim.Native.Nat.{ℕ, _+_, _-_}

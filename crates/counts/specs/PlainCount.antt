@@ -1,4 +1,4 @@
--- pt-ct multiplications (document 01, "Choosing the split"): for each slice the allowed powers from 1 to its degree.
+-- pt-ct multiplications (docs/RULES.md, "Choosing the split"): for each slice the allowed powers from 1 to its degree.
 use mathlib.Core.Path.{_≡_}
 use mathlib.Core.Bool.{cond}
 use mathlib.Core.List.{List, [], _∷_}

@@ -1,4 +1,4 @@
--- The rule of the slices (document 01, "Choosing the split"), without the bound on the cuts.
+-- The rule of the slices (docs/RULES.md, "Choosing the split"), without the bound on the cuts.
 use mathlib.Core.Path.{_≡_}
 use mathlib.Core.List.{[], _∷_, _++_}
 use Prim.Native.Nat.{ℕ, _-_, _^_, _≤_, _<_}

@@ -1,4 +1,4 @@
--- The slices of a degree (document 01, "Choosing the split").
+-- The slices of a degree (docs/RULES.md, "Choosing the split").
 use mathlib.Core.Bool.{true, false}
 use mathlib.Core.List.{List, [], _∷_, _++_}
 use Prim.Native.Nat.{ℕ, zero, suc, _-_, _^_}

@@ -1,4 +1,4 @@
--- The number of each strategy (document 01, "Numbers of the kinds": in the source's order). Answers show it by this number.
+-- The number of each strategy (docs/RULES.md, "Numbers of the kinds"). Answers show it by this number.
 use mathlib.Core.Path.{_≡_}
 use Prim.Native.Nat.{ℕ}
 use Rattle.counts.specs.declared.choice.SplitStrategy.{SplitStrategy}

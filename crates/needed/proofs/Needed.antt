@@ -1,4 +1,4 @@
--- The needed powers are the least set of document 01's rule. None is below 2 or above the degree; all powers of two up to the top power are
+-- The needed powers are the least set of their rule. None is below 2 or above the degree; all powers of two up to the top power are
 -- among them, as each is a part of the next, and all allowed powers in the slices.
 use mathlib.Core.Path.{_≡_, ap, subst}
 use mathlib.Core.Bool.{true}

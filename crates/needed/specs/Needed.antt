@@ -1,4 +1,4 @@
--- The needed powers (document 01, "Choosing the split"), as the least set of their rule.
+-- The needed powers (docs/RULES.md, "Choosing the split"), as the least set of their rule.
 use mathlib.Core.Path.{_≡_}
 use mathlib.Core.Bool.{true}
 use Prim.Native.Nat.{ℕ, _+_, _^_, _≤_, _<_, min}
