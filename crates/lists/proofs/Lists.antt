@@ -41,7 +41,9 @@ module _ {A : Type 0} (𝓞 : Operations A) (basis : Basis) where
   count-in-order : (tree : Tree) (c : List A) → leavesOf tree ≡ length (listsOf 𝓞 basis tree c)
   unfolding leavesOf listsOf
   count-in-order leaf c = refl
-  count-in-order (cut p low high) c = rw length-append (ap₂ _+_ (count-in-order low (take p (cutAt 𝓞 basis p c))) (count-in-order high (drop p (cutAt 𝓞 basis p c))))
+  count-in-order (cut p low high) c =
+      let c₁ = cutAt 𝓞 basis p c in
+      rw length-append (ap₂ _+_ (count-in-order low (take p c₁)) (count-in-order high (drop p c₁)))
 
   module _ (base : ℕ) where
     -- arranging keeps the length

@@ -2,12 +2,11 @@
 -- so that Bounds and Same hold of both.
 use mathlib.Core.Path.{_≡_, ap, _∙_}
 use mathlib.Core.Bool.{true}
-use mathlib.Core.List.{List, map}
+use mathlib.Core.List.{List}
 use Prim.Native.Nat.{_≤_}
 use borrow.Author.Tests.{leb-true}
-use lib.Ieee.{Float}
 use lib.IntN.{ℤ}
-use lib.ListN.{length, length-map}
+use lib.ListN.{length-map}
 use Rattle.algebra.specs.Operations.{wholeOps}
 use Rattle.algebra.specs.Fold.{fold}
 use Rattle.algebra.specs.Magnitude.{sumAbs}

@@ -14,7 +14,7 @@ use Rattle.algebra.specs.Magnitude.{sumAbs}
 use Rattle.algebra.specs.declared.Basis.{Basis}
 use Rattle.algebra.proofs.CutPlaces.{cut-length}
 use Rattle.algebra.proofs.CutMagnitudes.{low-magnitude, high-magnitude}
-use Rattle.number.specs.Limits.{planLimit, sumLimit}
+use Rattle.number.specs.Limits.{planLimit, countLimit, sumLimit}
 use Rattle.number.specs.Exact.{AllTo52}
 use Rattle.number.specs.Room.{SumByLengthTo53}
 use Rattle.number.specs.Tests.{degreeOf}
@@ -23,7 +23,7 @@ use Rattle.number.proofs.Within.{within-sum}
 -- of coefficients within the limits: 2^30 times 4,096 is 2^42
 pub sum-by-length-start : (c : List ℤ) → sumAbs c ≤ sumLimit → degreeOf c ≤ planLimit → SumByLengthTo53 c
 unfolding SumByLengthTo53
-sum-by-length-start c small few = let most : length c ≤ 4096 = omega arith in le-trans (mul-le-mul small most) (omega arith)
+sum-by-length-start c small few = let most : length c ≤ countLimit = omega arith in le-trans (mul-le-mul small most) (omega arith)
 
 -- the sum alone
 pub sum-by-length-sum : (c : List ℤ) → SumByLengthTo53 c → sumAbs c ≤ 2 ^ 53

@@ -34,7 +34,7 @@ fn cut_coeffs_f64(basis: Basis, p: usize, c: &mut [f64])
 
 // The source's decompose_bsgs_coeffs: lists c, which stands from place `at` on behind n lists, at a split. `whole` is the degree of the
 // whole polynomial, and `leading` says that only high parts led here and that the strategy is MinDepth. Answers how many lists there are then.
-pub fn list_coeffs_f64(
+fn list_coeffs_f64(
     leading: bool,
     basis: Basis,
     whole: usize,

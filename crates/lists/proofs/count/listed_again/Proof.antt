@@ -1,6 +1,6 @@
 -- `lists::count::listed_again` meets its contract: each early answer is one test of the rule that fails, and the last line is the test on
 -- the whole degree, written as a sum.
-use mathlib.Core.Path.{_≡_, refl, ap, ap₂, sym, _∙_}
+use mathlib.Core.Path.{_≡_, ap, ap₂, sym, _∙_}
 use mathlib.Core.Bool.{true}
 use mathlib.Core.Logic.{⊎-elim}
 use Prim.Native.Nat.{ℕ, _+_, _^_, _<_}
