@@ -15,17 +15,17 @@ use Rattle.lists.specs.inside.Shape.{earlyTests, earlyRefusal, refusalBy
 
 -- ---- tests behind others
 
--- a refusal stands whatever tests follow
-stands : (tests more : List Test) → 0 < firstRefusal tests → firstRefusal (tests ++ more) ≡ firstRefusal tests
-stands [] more some = absurd (omega arith)
-stands ((true, k) ∷ tests) more some = refl
-stands ((false, k) ∷ tests) more some = stands tests more some
+-- a refusal is the same whatever tests follow
+first-kept : (tests more : List Test) → 0 < firstRefusal tests → firstRefusal (tests ++ more) ≡ firstRefusal tests
+first-kept [] more some = absurd (omega arith)
+first-kept ((true, k) ∷ tests) more some = refl
+first-kept ((false, k) ∷ tests) more some = first-kept tests more some
 
 -- where none holds, those that follow decide
-passed-on : (tests more : List Test) → Numbered tests → firstRefusal tests ≡ 0 → firstRefusal (tests ++ more) ≡ firstRefusal more
-passed-on [] more numbered none = refl
-passed-on ((true, k) ∷ tests) more numbered none = absurd (omega (arith, numbered .0))
-passed-on ((false, k) ∷ tests) more numbered none = passed-on tests more (numbered .1) none
+first-of-more : (tests more : List Test) → Numbered tests → firstRefusal tests ≡ 0 → firstRefusal (tests ++ more) ≡ firstRefusal more
+first-of-more [] more numbered none = refl
+first-of-more ((true, k) ∷ tests) more numbered none = absurd (omega (arith, numbered .0))
+first-of-more ((false, k) ∷ tests) more numbered none = first-of-more tests more (numbered .1) none
 
 -- ---- the tests of the list calls
 
@@ -54,12 +54,12 @@ module _ (n : ℕ) (small : Bool) (room : ℕ) where
     -- an early refusal is the call's
     pub early-refused : 0 < earlyRefusal n small room → refusalBy n small room boundaries lists ≡ earlyRefusal n small room
     unfolding earlyRefusal refusalBy
-    early-refused some = stands (earlyTests n small room) (noBoundaries boundaries lists ∷ []) some
+    early-refused some = first-kept (earlyTests n small room) (noBoundaries boundaries lists ∷ []) some
 
     module _ (none : earlyRefusal n small room ≡ 0) where
       late : refusalBy n small room boundaries lists ≡ firstRefusal (noBoundaries boundaries lists ∷ [])
       unfolding earlyRefusal refusalBy
-      late = passed-on (earlyTests n small room) (noBoundaries boundaries lists ∷ []) numbered none
+      late = first-of-more (earlyTests n small room) (noBoundaries boundaries lists ∷ []) numbered none
 
       -- too few boundaries
       pub late-refused : boundaries < lists → refusalBy n small room boundaries lists ≡ 22

@@ -22,7 +22,7 @@ noLists refusal = record { refusal = refusal; degree = 0; base = 0; coefficients
 
 module _ {A : Type 0} (numbers : Numbers A) (strategy : SplitStrategy) (parity : Parity) (basis : Basis) (c out : List A) (bounds : List ℕ) where
   -- how the coefficients are cut into lists
-  abbrev pub tree : Tree
+  abbrev tree : Tree
   tree = planTree strategy parity basis (degreeOf c)
 
   -- 2, 1, 3, then 21 and 22 for buffers without a place for each coefficient and a boundary for each list
@@ -35,6 +35,7 @@ module _ {A : Type 0} (numbers : Numbers A) (strategy : SplitStrategy) (parity :
       ∷ noBoundaries (length bounds) (leavesOf tree)
       ∷ []
 
+  -- the number of the first that holds, or 0
   unfoldable pub listRefusal : ℕ
   listRefusal = firstRefusal listTests
 

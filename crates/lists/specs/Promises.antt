@@ -52,7 +52,7 @@ abbrev pub ListsSame : Type 0
 ListsSame = (strategy : SplitStrategy) (parity : Parity) (basis : Basis) (c out : List ℤ) (bounds : List ℕ) → wholeNumbers .small c ≡ true
     → CallsSame strategy parity basis c out bounds
 
--- and folded as f64 and listed the same coefficients give equal numbers
+-- and the f64 fold of the same coefficients, whose magnitudes may sum above 2^30, is listed to equal numbers
 abbrev pub FoldedListsSame : Type 0
 FoldedListsSame = (leading : Bool) (parity : Parity) (basis : Basis) (whole split : ℕ) (c : List ℤ) → wholeNumbers .small c ≡ true
     → 0 < length (fold wholeOps parity basis c) → degreeOf c ≤ planLimit → 1 ≤ split

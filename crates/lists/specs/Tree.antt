@@ -22,8 +22,8 @@ listedAgain whole degree split =
     ltb 0 degree && (ltb 1 split && (ltb (minDepth (bitLen degree)) split && ltb (2 ^ bitLen whole - 2 ^ (split - 1)) whole))
 
 -- the tree of a degree at a split: below the base 2^split one list, or, for a leading slice, the tree at the smaller split; otherwise a cut at
--- the greatest power of two p at most the degree, into degrees p − 1 and degree − p. Only high parts lead on. The first argument bounds the
--- steps; specs/TreeRule says the same without it.
+-- the greatest power of two p at most the degree, into degrees p − 1 and degree − p, of which the low part is never leading. The first
+-- argument bounds the steps; specs/TreeRule says the same without it.
 unfoldable pub treeIn : (steps : ℕ) → (leading : Bool) → (whole degree split : ℕ) → Tree
 treeIn zero leading whole degree split = leaf
 treeIn (suc steps) leading whole degree split =

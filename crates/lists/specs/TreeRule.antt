@@ -12,7 +12,7 @@ pub record TreeRule (leading : Bool) (whole degree split : ℕ) : Type 0 where
   -- or, listed again, it has the tree at the smaller split
   pub listed-again : degree < 2 ^ split → (leading && listedAgain whole degree split) ≡ true
       → treeOf leading whole degree split ≡ treeOf leading whole degree (minDepth (bitLen degree))
-  -- from the base on the degree is cut at its greatest power of two, and only the high part leads on
+  -- from the base on the degree is cut at its greatest power of two; the low part is never leading, the high part if the whole is
   pub cut-at-top : 2 ^ split ≤ degree
       → treeOf leading whole degree split
       ≡ cut (topPower degree) (treeOf false whole (topPower degree - 1) split) (treeOf leading whole (degree - topPower degree) split)

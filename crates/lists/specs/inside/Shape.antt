@@ -18,10 +18,11 @@ use Rattle.lists.specs.declared.call.Shape.{Shape}
 abbrev pub earlyTests : (n : ℕ) → (small : Bool) → (room : ℕ) → List Test
 earlyTests n small room = tooHigh planLimit (n - 1) ∷ noDegree (n - 1) ∷ (not small, 3) ∷ noRoom room n ∷ []
 
+-- the number of the first of them that holds, or 0
 unfoldable pub earlyRefusal : (n : ℕ) → (small : Bool) → (room : ℕ) → ℕ
 earlyRefusal n small room = firstRefusal (earlyTests n small room)
 
--- all tests, for a boundary buffer of `boundaries` places
+-- and the same of all tests, for a boundary buffer of `boundaries` places
 unfoldable pub refusalBy : (n : ℕ) → (small : Bool) → (room boundaries lists : ℕ) → ℕ
 refusalBy n small room boundaries lists = firstRefusal (earlyTests n small room ++ (noBoundaries boundaries lists ∷ []))
 

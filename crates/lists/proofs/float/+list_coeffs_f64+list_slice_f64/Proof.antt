@@ -190,9 +190,10 @@ module _ (t : ℕ) where
       let made = cut-of low in
       let start = start-of (made .before .before) in
       let k = cutting made in
-      let lent = cuts.part-is k (low .list-coeffs-f64 .ensures) (low .list-coeffs-f64 .kept .1 .1 .1 .1 .1 .1 .0) in (
+      let kept = low .list-coeffs-f64 .kept .1 .1 .1 .1 .1 .1 in
+      let lent = cuts.part-is k (low .list-coeffs-f64 .ensures) (kept .0) in (
         omega (arith, ap length lent, cuts.high-length k, cuts.half k, cuts.under k, cuts.positive k, start .pre .0),
-        cuts.listable-high k (low .list-coeffs-f64 .ensures) (low .list-coeffs-f64 .kept .1 .1 .1 .1 .1 .1 .0) (low .list-coeffs-f64 .kept .1 .1 .1 .1 .1 .1 .1 .0),
+        cuts.listable-high k (low .list-coeffs-f64 .ensures) (kept .0) (kept .1 .0),
       )
 
   lister-same-length-3 : lister.Need-same-length-3 (lister-calls t) (lister-at t) lister-reads.Post
@@ -289,8 +290,8 @@ pub +list-coeffs-f64+list-slice-f64-spec : {M : Type 1} → statement M
     (lister-calls t) (lister-at t) lister-reads.Post (lister-power-of-two-requires t) (lister-sub-degree t) (lister-list-slice-f64-requires t)
     (lister-same-length t) (lister-same-length-2 t) (lister-returns t) (lister-top-power-requires t) (lister-cut-coeffs-f64-requires t)
     (lister-slice-relend-prefix-list-coeffs-f64 t) (lister-slice-aggregate-list-coeffs-f64 t) (lister-list-coeffs-f64-requires t)
-    (lister-add-list-coeffs-f64 t) (lister-mul-list-coeffs-f64 t) (lister-sub-list-coeffs-f64 t) (lister-part-list-coeffs-f64-start t) (lister-part-list-coeffs-f64-end t)
-    (lister-list-coeffs-f64-requires-2 t) (lister-same-length-3 t) (lister-same-length-4 t) (lister-returns-2 t))
+    (lister-add-list-coeffs-f64 t) (lister-mul-list-coeffs-f64 t) (lister-sub-list-coeffs-f64 t) (lister-part-list-coeffs-f64-start t)
+    (lister-part-list-coeffs-f64-end t) (lister-list-coeffs-f64-requires-2 t) (lister-same-length-3 t) (lister-same-length-4 t) (lister-returns-2 t))
     (λ t.
     slicer.spec
     (slicer-calls t) (slicer-at t) slicer-reads.Post (slicer-sub-degree t) (slicer-listed-again-requires t) (slicer-smaller-split-requires t)

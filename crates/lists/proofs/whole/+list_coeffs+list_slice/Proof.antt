@@ -188,10 +188,11 @@ module _ (t : ℕ) where
       let top = made .before .before in
       let start = start-of top in
       let k = cutting made in
-      let lent = cuts.part-is k (low .list-coeffs .ensures) (low .list-coeffs .kept .1 .1 .1 .1 .1 .1 .0) in (
+      let kept = low .list-coeffs .kept .1 .1 .1 .1 .1 .1 in
+      let lent = cuts.part-is k (low .list-coeffs .ensures) (kept .0) in (
         omega (arith, ap length lent, cuts.high-length k, cuts.half k, cuts.under k, cuts.positive k, start .pre .0),
         (
-          cuts.listable-high k (low .list-coeffs .ensures) (low .list-coeffs .kept .1 .1 .1 .1 .1 .1 .0) (low .list-coeffs .kept .1 .1 .1 .1 .1 .1 .1 .0),
+          cuts.listable-high k (low .list-coeffs .ensures) (kept .0) (kept .1 .0),
           rw (lent, k .parted)
               (sum-by-length-high (start .args .basis) (top .top-power .result) (start .args .c .now) (omega (arith, cuts.under k)) (cuts.half k)
               (start .pre .1 .1)),
@@ -292,8 +293,8 @@ pub +list-coeffs+list-slice-spec : {M : Type 1} → statement M
     lister.spec
     (lister-calls t) (lister-at t) lister-reads.Post (lister-power-of-two-requires t) (lister-sub-degree t) (lister-list-slice-requires t)
     (lister-same-length t) (lister-same-length-2 t) (lister-returns t) (lister-top-power-requires t) (lister-cut-coeffs-requires t)
-    (lister-slice-relend-prefix-list-coeffs t) (lister-slice-aggregate-list-coeffs t) (lister-list-coeffs-requires t) (lister-add-list-coeffs t) (lister-mul-list-coeffs t)
-    (lister-sub-list-coeffs t) (lister-part-list-coeffs-start t) (lister-part-list-coeffs-end t)
+    (lister-slice-relend-prefix-list-coeffs t) (lister-slice-aggregate-list-coeffs t) (lister-list-coeffs-requires t) (lister-add-list-coeffs t)
+    (lister-mul-list-coeffs t) (lister-sub-list-coeffs t) (lister-part-list-coeffs-start t) (lister-part-list-coeffs-end t)
     (lister-list-coeffs-requires-2 t) (lister-same-length-3 t) (lister-same-length-4 t) (lister-returns-2 t))
     (λ t.
     slicer.spec
