@@ -15,8 +15,8 @@ use Rattle.number.specs.Bits.{topPower}
 use Rattle.number.proofs.Bits.{top-power}
 use Rattle.lists.specs.Tree.{Tree, leaf, cut, treeOf}
 use Rattle.lists.specs.Arrange.{arranged, leavesOf, endsOf}
-use Rattle.lists.specs.Listing.{Left}
-use Rattle.lists.proofs.TreeLaws.{tree-holds}
+use Rattle.lists.specs.inside.Listing.{InPlace}
+use Rattle.lists.proofs.TreeRule.{tree-holds}
 
 -- there are as many boundaries as lists
 pub length-ends : (tree : Tree) (at n : ℕ) → length (endsOf tree at n) ≡ leavesOf tree
@@ -30,14 +30,17 @@ some-leaves leaf = omega arith
 some-leaves (cut p low high) = omega (arith, some-leaves low)
 
 -- no more lists than coefficients
-pub leaves-most : (whole s : ℕ) (lead : Bool) (d : ℕ) → leavesOf (treeOf lead whole d s) ≤ suc d
+pub leaves-most : (leading : Bool) (whole degree split : ℕ) → leavesOf (treeOf leading whole degree split) ≤ suc degree
 unfolding leavesOf
-leaves-most whole =
-    tree-holds whole (λ s lead d tree. leavesOf tree ≤ suc d) (λ s lead d below. omega arith) (λ s lead d tree leading again most. most) both-parts
+leaves-most leading whole =
+    tree-holds whole (λ leading degree split tree. leavesOf tree ≤ suc degree) (λ leading degree split below. omega arith)
+    (λ leading degree split tree leads again most. most) both-parts leading
   where
-    both-parts : (s : ℕ) (lead : Bool) (d : ℕ) (low high : Tree) → 2 ^ s ≤ d → leavesOf low ≤ suc (topPower d - 1)
-        → leavesOf high ≤ suc (d - topPower d) → leavesOf (cut (topPower d) low high) ≤ suc d
-    both-parts s lead d low high above low-most high-most = let bounds = top-power d (omega (arith, pow-pos s)) in omega arith
+    both-parts : (leading : Bool) (degree split : ℕ) (low high : Tree) → 2 ^ split ≤ degree → leavesOf low ≤ suc (topPower degree - 1)
+        → leavesOf high ≤ suc (degree - topPower degree) → leavesOf (cut (topPower degree) low high) ≤ suc degree
+    both-parts leading degree split low high above low-most high-most =
+        let bounds = top-power degree (omega (arith, pow-pos split)) in
+        omega arith
 
 -- the lengths of the two parts of a cut
 module _ {A : Type 0} (𝓞 : Operations A) (basis : Basis) (p : ℕ) (c : List A) (under : p < length c) where
@@ -53,22 +56,22 @@ sets-append b [] ys n m behind = ap (λ (k : ℕ). sets b k ys) (omega arith)
 sets-append b (x ∷ xs) ys n m behind = sets-append (set b n x) xs ys (suc n) m (omega arith)
 
 module _ {A : Type 0} {𝓞 : Operations A} {basis : Basis} where
-  pub left-leaf : {at n : ℕ} {b : List ℕ} (c : List A) → Left 𝓞 basis leaf at n c b c (set b n (at + length c)) (n + 1)
+  pub place-leaf : {at n : ℕ} {b : List ℕ} (c : List A) → InPlace 𝓞 basis leaf at n c b (n + 1) c (set b n (at + length c))
   unfolding arranged endsOf leavesOf
-  left-leaf c = record { coeffs = refl; ends = refl; count = refl }
+  place-leaf c = record { coefficients = refl; boundaries = refl; count = refl }
 
   -- low is listed first, and high behind it
-  pub left-cut : {low high : Tree} {at n : ℕ} {b b₁ b₂ : List ℕ} {c y z : List A} {m r : ℕ} (p : ℕ)
+  pub place-cut : {low high : Tree} {at n : ℕ} {b b₁ b₂ : List ℕ} {c y z : List A} {m r : ℕ} (p : ℕ)
       → length (take p (cutAt 𝓞 basis p c)) ≡ p → length (drop p (cutAt 𝓞 basis p c)) ≡ length c - p
-      → Left 𝓞 basis low at n (take p (cutAt 𝓞 basis p c)) b y b₁ m
-      → Left 𝓞 basis high (at + p) m (drop p (cutAt 𝓞 basis p c)) b₁ z b₂ r
-      → Left 𝓞 basis (cut p low high) at n c b (y ++ z) b₂ r
+      → InPlace 𝓞 basis low at n (take p (cutAt 𝓞 basis p c)) b m y b₁
+      → InPlace 𝓞 basis high (at + p) m (drop p (cutAt 𝓞 basis p c)) b₁ r z b₂
+      → InPlace 𝓞 basis (cut p low high) at n c b r (y ++ z) b₂
   unfolding arranged endsOf leavesOf
-  left-cut {low} {high} {at} {n} {b} {b₁} {b₂} {c} {y} {z} {m} {r} p low-size high-size first then = record {
-    coeffs = ap₂ _++_ (first .coeffs) (then .coeffs);
-    ends =
-        then .ends
-        ∙ rw (first .ends, low-size, high-size, first .count)
+  place-cut {low} {high} {at} {n} {b} {b₁} {b₂} {c} {y} {z} {m} {r} p low-size high-size first then = record {
+    coefficients = ap₂ _++_ (first .coefficients) (then .coefficients);
+    boundaries =
+        then .boundaries
+        ∙ rw (first .boundaries, low-size, high-size, first .count)
         (sets-append b (endsOf low at p) (endsOf high (at + p) (length c - p)) n (n + leavesOf low) (omega (arith, length-ends low at p)));
     count = omega (arith, first .count, then .count);
   }

@@ -2,23 +2,22 @@
 use mathlib.Core.Path.{_≡_, ap₂, _∙_}
 use mathlib.Core.Bool.{Bool, true, false, _&&_}
 use Prim.Native.Nat.{ℕ, _+_, _-_, _^_, _≤_, _<_}
-use Rattle.number.specs.Bits.{bitLen}
-use Rattle.number.specs.Bits.{topPower}
+use Rattle.number.specs.Bits.{bitLen, topPower}
 use Rattle.counts.specs.MinDepth.{minDepth}
 use Rattle.lists.specs.Tree.{listedAgain, treeOf}
 use Rattle.lists.specs.Arrange.{leavesOf}
-use Rattle.lists.proofs.TreeLaws.{tree-leaf, tree-again, tree-cut}
+use Rattle.lists.proofs.TreeRule.{tree-leaf, tree-again, tree-cut}
 
-module _ (whole s : ℕ) (lead : Bool) (d : ℕ) where
-  pub counted-cut : (p : ℕ) {low high : ℕ} → 2 ^ s ≤ d → p ≡ topPower d → low ≡ leavesOf (treeOf false whole (p - 1) s)
-      → high ≡ leavesOf (treeOf lead whole (d - p) s) → low + high ≡ leavesOf (treeOf lead whole d s)
+module _ (leading : Bool) (whole degree split : ℕ) where
+  pub counted-cut : (p : ℕ) {low high : ℕ} → 2 ^ split ≤ degree → p ≡ topPower degree → low ≡ leavesOf (treeOf false whole (p - 1) split)
+      → high ≡ leavesOf (treeOf leading whole (degree - p) split) → low + high ≡ leavesOf (treeOf leading whole degree split)
   unfolding leavesOf
-  counted-cut p from power low-is high-is = ap₂ _+_ low-is high-is ∙ rw (tree-cut whole s lead d from, ← power)
+  counted-cut p from power low-is high-is = ap₂ _+_ low-is high-is ∙ rw (tree-cut leading whole degree split from, ← power)
 
-  pub counted-again : {t r : ℕ} → d < 2 ^ s → (lead && listedAgain whole d s) ≡ true → t ≡ minDepth (bitLen d)
-      → r ≡ leavesOf (treeOf lead whole d t) → r ≡ leavesOf (treeOf lead whole d s)
-  counted-again below again split r-is = r-is ∙ rw (tree-again whole s lead d below again, split)
+  pub counted-again : {t r : ℕ} → degree < 2 ^ split → (leading && listedAgain whole degree split) ≡ true → t ≡ minDepth (bitLen degree)
+      → r ≡ leavesOf (treeOf leading whole degree t) → r ≡ leavesOf (treeOf leading whole degree split)
+  counted-again below again split-is r-is = r-is ∙ rw (tree-again leading whole degree split below again, split-is)
 
-  pub counted-one : d < 2 ^ s → (lead && listedAgain whole d s) ≡ false → 1 ≡ leavesOf (treeOf lead whole d s)
+  pub counted-one : degree < 2 ^ split → (leading && listedAgain whole degree split) ≡ false → 1 ≡ leavesOf (treeOf leading whole degree split)
   unfolding leavesOf
-  counted-one below once = rw (tree-leaf whole s lead d below once)
+  counted-one below once = rw (tree-leaf leading whole degree split below once)

@@ -1,13 +1,13 @@
-pub mod TreeLaws
-pub mod TreeFactsProved
-pub mod Rooms
+pub mod TreeRule
+pub mod TreeFacts
+pub mod SumByLength
 pub mod Arranging
 mod Counting
-mod Relisting
-mod Refusals
-mod Steps
-pub mod Calls
+mod ListedAgain
+mod Shape
+mod ListerCuts
+pub mod ListCall
+pub mod Lists
 pub mod Bounds
 pub mod Same
-pub mod ListsStanding
-pub mod StarredProved
+pub mod Promises

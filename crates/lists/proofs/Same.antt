@@ -1,9 +1,9 @@
 -- The f64 call writes equal numbers: `num` carries whole numbers up to 2^53 to f64 and keeps doubling and subtraction, and all numbers at a cut
 -- are within 2^53. So each cut, the whole arrangement and both buffers are carried over; answer and boundaries see no coefficient at all.
 use mathlib.Core.Path.{_≡_, refl, ap, ap₂, _∙_}
-use mathlib.Core.Bool.{true}
+use mathlib.Core.Bool.{Bool, true}
 use mathlib.Core.List.{List, _++_, map, map-append}
-use Prim.Native.Nat.{ℕ, zero, suc, _+_, _-_, _^_, _<_}
+use Prim.Native.Nat.{ℕ, zero, suc, _+_, _^_, _≤_, _<_}
 use native.Mathlib.Omega.{arith}
 use borrow.Author.Tests.{leb-true}
 use lib.IntN.{ℤ}
@@ -14,28 +14,27 @@ use Rattle.algebra.specs.Cut.{cutAt}
 use Rattle.algebra.specs.Magnitude.{sumAbs}
 use Rattle.algebra.specs.declared.Basis.{Basis}
 use Rattle.algebra.specs.declared.Parity.{Parity}
+use Rattle.number.specs.Limits.{planLimit, sumLimit}
+use Rattle.number.specs.Numbers.{wholeNumbers, floatOps, floatNumbers}
 use Rattle.number.specs.Exact.{num}
-use Rattle.number.specs.SumLimit.{sumFits}
-use Rattle.number.specs.Numbers.{floatOps}
 use Rattle.number.specs.Refusal.{unlessRefused}
 use Rattle.number.specs.Room.{SumByLengthTo53}
+use Rattle.number.specs.Tests.{degreeOf}
 use Rattle.number.proofs.CutSame.{cuts-same}
 use Rattle.number.proofs.Within.{within-sum}
 use Rattle.number.proofs.Maps.{map-take, map-drop, map-sets}
 use Rattle.counts.specs.Choice.{splitFor}
 use Rattle.counts.specs.declared.choice.SplitStrategy.{SplitStrategy}
 use Rattle.counts.proofs.ChoiceLaws.{split-range}
-use Rattle.lists.specs.Tree.{Tree, leaf, cut, treeOf, leads, planTree}
-use Rattle.lists.specs.Arrange.{arranged, leavesOf}
+use Rattle.lists.specs.Tree.{Tree, leaf, cut, treeOf, relists, planTree}
+use Rattle.lists.specs.Arrange.{arranged}
 use Rattle.lists.specs.TreeFacts.{Sound}
-use Rattle.lists.specs.ListCall.{anySum, callRefusal, callAnswer, callCoefficients, callBoundaries}
-use Rattle.lists.specs.Promises.{ListsSame, ArrangedSame}
-use Rattle.lists.proofs.Rooms.{sum-by-length-to-52, sum-by-length-low, sum-by-length-high}
-use Rattle.lists.proofs.Refusals.{all-passed}
-use Rattle.lists.proofs.Calls.{sum-by-length-start}
-use Rattle.lists.proofs.Bounds.{sum-by-length-sum}
+use Rattle.lists.specs.ListCall.{listRefusal, listAnswer, listCoefficients, listBoundaries}
+use Rattle.lists.specs.Promises.{listedAs, CallsSame}
 use Rattle.lists.proofs.Arranging.{low-size, high-size}
-use Rattle.lists.proofs.TreeFactsProved.{trees-sound}
+use Rattle.lists.proofs.SumByLength.{sum-by-length-start, sum-by-length-sum, sum-by-length-to-52, sum-by-length-low, sum-by-length-high}
+use Rattle.lists.proofs.ListCall.{list-passed}
+use Rattle.lists.proofs.Bounds.{sound-for}
 
 -- ---- a tree
 
@@ -54,58 +53,52 @@ same-tree basis base (cut p low high) c sound room =
     (same-tree basis base high (drop p c₁) (rw (high-size wholeOps basis p c under) (sound .high))
     (sum-by-length-high basis p c (omega arith) (sound .half) room)))
 
-pub arranged-same : ArrangedSame
-arranged-same basis whole s lead c room some few from =
-    let degree : suc (length c - 1) ≡ length c = omega arith in
-    same-tree basis (2 ^ s) (treeOf lead whole (length c - 1) s) c
-    (rw degree at (trees-sound whole s lead (length c - 1) from (omega arith))) room
+-- the lister alone, on any coefficients whose magnitudes sum to a number that times their count is at most 2^53
+pub arranged-same : (leading : Bool) (basis : Basis) (whole split : ℕ) (c : List ℤ) → SumByLengthTo53 c → 0 < length c → degreeOf c ≤ planLimit
+    → 1 ≤ split → arranged floatOps basis (treeOf leading whole (degreeOf c) split) (map num c) ≡ map num (listedAs wholeOps leading basis whole split c)
+arranged-same leading basis whole split c room nonempty few from =
+    same-tree basis (2 ^ split) (treeOf leading whole (degreeOf c) split) c (sound-for leading whole split c nonempty few from) room
 
 -- ---- the calls
 
-module _ (basis : Basis) (parity : Parity) (strategy : SplitStrategy) (c out : List ℤ) (bounds : List ℕ) (fits : sumFits c ≡ true) where
+module _ (strategy : SplitStrategy) (parity : Parity) (basis : Basis) (c out : List ℤ) (bounds : List ℕ) (small : wholeNumbers .small c ≡ true) where
   abbrev tree : Tree
-  tree = planTree strategy parity basis (length c - 1)
+  tree = planTree strategy parity basis (degreeOf c)
 
-  same-refusal : callRefusal anySum basis parity strategy (map num c) (map num out) bounds ≡ callRefusal sumFits basis parity strategy c out bounds
-  unfolding callRefusal
-  same-refusal = rw (length-map c num, length-map out num, fits)
+  same-refusal : listRefusal floatNumbers strategy parity basis (map num c) (map num out) bounds
+      ≡ listRefusal wholeNumbers strategy parity basis c out bounds
+  unfolding listRefusal
+  same-refusal = rw (length-map c num, length-map out num, small)
 
-  same-answer : callAnswer floatOps anySum basis parity strategy (map num c) (map num out) bounds
-      ≡ callAnswer wholeOps sumFits basis parity strategy c out bounds
-  unfolding callAnswer
+  same-answer : listAnswer floatNumbers strategy parity basis (map num c) (map num out) bounds
+      ≡ listAnswer wholeNumbers strategy parity basis c out bounds
+  unfolding listAnswer
   same-answer = rw (same-refusal, length-map c num)
 
-  same-boundaries : callBoundaries floatOps anySum basis parity strategy (map num c) (map num out) bounds
-      ≡ callBoundaries wholeOps sumFits basis parity strategy c out bounds
-  unfolding callBoundaries
+  same-boundaries : listBoundaries floatNumbers strategy parity basis (map num c) (map num out) bounds
+      ≡ listBoundaries wholeNumbers strategy parity basis c out bounds
+  unfolding listBoundaries
   same-boundaries = rw (same-refusal, length-map c num)
 
   -- without a refusal the whole listing is carried over
-  same-listing : callRefusal sumFits basis parity strategy c out bounds ≡ 0
+  same-listing : listRefusal wholeNumbers strategy parity basis c out bounds ≡ 0
       → arranged floatOps basis tree (map num c) ≡ map num (arranged wholeOps basis tree c)
-  unfolding callRefusal
   same-listing none =
-      let passed = all-passed (sumFits c) (length c) (length out) (leavesOf tree) (length bounds) none .0 in
-      let several = passed .several in
-      let few = passed .few in
-      arranged-same basis (length c - 1) (splitFor strategy parity basis (length c - 1)) (leads strategy) c
-      (sum-by-length-start c (leb-true (sumAbs c) (2 ^ 30) fits) few) (omega arith) few
-      (split-range strategy parity basis (length c - 1) (record { from = omega arith; to = omega arith }) .from)
+      let degree = list-passed wholeNumbers strategy parity basis c out bounds none .0 .degree in
+      arranged-same (relists strategy) basis (degreeOf c) (splitFor strategy parity basis (degreeOf c)) c
+      (sum-by-length-start c (leb-true (sumAbs c) sumLimit small) (degree .to)) (omega arith) (degree .to)
+      (split-range strategy parity basis (degreeOf c) degree .from)
 
-  same-coefficients : callCoefficients floatOps anySum basis parity strategy (map num c) (map num out) bounds
-      ≡ map num (callCoefficients wholeOps sumFits basis parity strategy c out bounds)
-  unfolding callCoefficients unlessRefused
-  same-coefficients = rw (same-refusal, length-map c num) (by-refusal (callRefusal sumFits basis parity strategy c out bounds) refl)
+  same-coefficients : listCoefficients floatNumbers strategy parity basis (map num c) (map num out) bounds
+      ≡ map num (listCoefficients wholeNumbers strategy parity basis c out bounds)
+  unfolding listCoefficients unlessRefused
+  same-coefficients = rw (same-refusal, length-map c num) (by-refusal (listRefusal wholeNumbers strategy parity basis c out bounds) refl)
     where
-      by-refusal : (k : ℕ) → callRefusal sumFits basis parity strategy c out bounds ≡ k
+      by-refusal : (k : ℕ) → listRefusal wholeNumbers strategy parity basis c out bounds ≡ k
           → unlessRefused k (sets (map num out) 0 (arranged floatOps basis tree (map num c))) (map num out)
           ≡ map num (unlessRefused k (sets out 0 (arranged wholeOps basis tree c)) out)
       by-refusal zero none = ap (sets (map num out) 0) (same-listing none) ∙ map-sets num (arranged wholeOps basis tree c) out 0
       by-refusal (suc k) refused = refl
 
-pub lists-same : ListsSame
-lists-same basis parity strategy c out bounds fits = record {
-  answer = same-answer basis parity strategy c out bounds fits;
-  coefficients = same-coefficients basis parity strategy c out bounds fits;
-  boundaries = same-boundaries basis parity strategy c out bounds fits;
-}
+  pub calls-same : CallsSame strategy parity basis c out bounds
+  calls-same = record { answer = same-answer; coefficients = same-coefficients; boundaries = same-boundaries }

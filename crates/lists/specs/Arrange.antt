@@ -19,11 +19,11 @@ leavesOf leaf = 1
 leavesOf (cut p low high) = leavesOf low + leavesOf high
 
 -- the lengths of the lists of n coefficients
-unfoldable pub lengthsOf : Tree → ℕ → List ℕ
+unfoldable pub lengthsOf : Tree → (n : ℕ) → List ℕ
 lengthsOf leaf n = n ∷ []
 lengthsOf (cut p low high) n = lengthsOf low p ++ lengthsOf high (n - p)
 
 -- boundary i is the place just past list i; the n coefficients stand from place `at` on
-unfoldable pub endsOf : Tree → ℕ → ℕ → List ℕ
+unfoldable pub endsOf : Tree → (at n : ℕ) → List ℕ
 endsOf leaf at n = (at + n) ∷ []
 endsOf (cut p low high) at n = endsOf low at p ++ endsOf high (at + p) (n - p)

@@ -1,9 +1,8 @@
 pub mod Tree
+pub mod TreeRule
 pub mod Arrange
 pub mod TreeFacts
-pub mod Listing
-pub mod ListCall
-pub mod Shape
-pub mod Promises
-pub mod Starred
 pub mod Lists
+pub mod ListCall
+pub mod Promises
+pub mod inside

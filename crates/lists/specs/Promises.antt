@@ -3,50 +3,58 @@
 use mathlib.Core.Path.{_≡_}
 use mathlib.Core.Bool.{Bool, true}
 use mathlib.Core.List.{List, map}
-use Prim.Native.Nat.{ℕ, _-_, _≤_, _<_}
+use Prim.Native.Nat.{ℕ, _≤_, _<_}
 use lib.IntN.{ℤ}
 use lib.ListN.{length}
-use Rattle.algebra.specs.Operations.{wholeOps}
+use Rattle.algebra.specs.Operations.{Operations, wholeOps}
 use Rattle.algebra.specs.Fold.{fold}
 use Rattle.algebra.specs.declared.Basis.{Basis}
 use Rattle.algebra.specs.declared.Parity.{Parity}
-use Rattle.number.specs.Numbers.{floatOps}
+use Rattle.number.specs.Limits.{planLimit}
+use Rattle.number.specs.Numbers.{wholeNumbers, floatOps, floatNumbers}
 use Rattle.number.specs.Exact.{num, AllTo53}
-use Rattle.number.specs.SumLimit.{sumFits}
-use Rattle.number.specs.Room.{SumByLengthTo53}
+use Rattle.number.specs.Tests.{degreeOf}
 use Rattle.counts.specs.declared.choice.SplitStrategy.{SplitStrategy}
 use Rattle.lists.specs.Tree.{treeOf}
 use Rattle.lists.specs.Arrange.{arranged}
-use Rattle.lists.specs.ListCall.{anySum, callAnswer, callCoefficients, callBoundaries}
+use Rattle.lists.specs.ListCall.{listAnswer, listCoefficients, listBoundaries}
 
--- what a listing writes at any split from 1 up, listed again or not
-abbrev pub listedAs : Basis → ℕ → ℕ → Bool → List ℤ → List ℤ
-listedAs basis whole s lead c = arranged wholeOps basis (treeOf lead whole (length c - 1) s) c
+-- what a listing writes at a split, with a leading slice listed again or not
+abbrev pub listedAs : {A : Type 0} → Operations A → (leading : Bool) → Basis → (whole split : ℕ) → List A → List A
+listedAs 𝓞 leading basis whole split c = arranged 𝓞 basis (treeOf leading whole (degreeOf c) split) c
+
+-- ---- magnitudes at most 2^53
 
 -- from coefficients with magnitudes summing to at most 2^30
 abbrev pub ListsTo53 : Type 0
-ListsTo53 = (basis : Basis) (whole s : ℕ) (lead : Bool) (c : List ℤ) → sumFits c ≡ true → 0 < length c → length c ≤ 4096 → 1 ≤ s
-    → AllTo53 (listedAs basis whole s lead c)
+ListsTo53 = (leading : Bool) (basis : Basis) (whole split : ℕ) (c : List ℤ) → wholeNumbers .small c ≡ true → 0 < length c
+    → degreeOf c ≤ planLimit → 1 ≤ split → AllTo53 (listedAs wholeOps leading basis whole split c)
 
 -- and from the same coefficients folded, whose magnitudes may sum above 2^30
 abbrev pub FoldedListsTo53 : Type 0
-FoldedListsTo53 = (basis : Basis) (parity : Parity) (whole s : ℕ) (lead : Bool) (c : List ℤ) → sumFits c ≡ true
-    → 0 < length (fold wholeOps parity basis c) → length c ≤ 4096 → 1 ≤ s → AllTo53 (listedAs basis whole s lead (fold wholeOps parity basis c))
+FoldedListsTo53 = (leading : Bool) (parity : Parity) (basis : Basis) (whole split : ℕ) (c : List ℤ) → wholeNumbers .small c ≡ true
+    → 0 < length (fold wholeOps parity basis c) → degreeOf c ≤ planLimit → 1 ≤ split
+    → AllTo53 (listedAs wholeOps leading basis whole split (fold wholeOps parity basis c))
+
+-- ---- equal numbers
 
 -- the f64 call on the same coefficients, and buffers with the same numbers: an equal answer, equal numbers, equal boundaries
-pub record CallsSame (basis : Basis) (parity : Parity) (strategy : SplitStrategy) (c out : List ℤ) (bounds : List ℕ) : Type 0 where
-  pub answer : callAnswer floatOps anySum basis parity strategy (map num c) (map num out) bounds
-      ≡ callAnswer wholeOps sumFits basis parity strategy c out bounds
-  pub coefficients : callCoefficients floatOps anySum basis parity strategy (map num c) (map num out) bounds
-      ≡ map num (callCoefficients wholeOps sumFits basis parity strategy c out bounds)
-  pub boundaries : callBoundaries floatOps anySum basis parity strategy (map num c) (map num out) bounds
-      ≡ callBoundaries wholeOps sumFits basis parity strategy c out bounds
+pub record CallsSame (strategy : SplitStrategy) (parity : Parity) (basis : Basis) (c out : List ℤ) (bounds : List ℕ) : Type 0 where
+  pub answer : listAnswer floatNumbers strategy parity basis (map num c) (map num out) bounds
+      ≡ listAnswer wholeNumbers strategy parity basis c out bounds
+  pub coefficients : listCoefficients floatNumbers strategy parity basis (map num c) (map num out) bounds
+      ≡ map num (listCoefficients wholeNumbers strategy parity basis c out bounds)
+  pub boundaries : listBoundaries floatNumbers strategy parity basis (map num c) (map num out) bounds
+      ≡ listBoundaries wholeNumbers strategy parity basis c out bounds
 
+-- with magnitudes summing to at most 2^30
 abbrev pub ListsSame : Type 0
-ListsSame = (basis : Basis) (parity : Parity) (strategy : SplitStrategy) (c out : List ℤ) (bounds : List ℕ) → sumFits c ≡ true
-    → CallsSame basis parity strategy c out bounds
+ListsSame = (strategy : SplitStrategy) (parity : Parity) (basis : Basis) (c out : List ℤ) (bounds : List ℕ) → wholeNumbers .small c ≡ true
+    → CallsSame strategy parity basis c out bounds
 
--- the same for the lister alone, on any coefficients whose magnitudes sum to a number that times their count is at most 2^53
-abbrev pub ArrangedSame : Type 0
-ArrangedSame = (basis : Basis) (whole s : ℕ) (lead : Bool) (c : List ℤ) → SumByLengthTo53 c → 0 < length c → length c ≤ 4096 → 1 ≤ s
-    → arranged floatOps basis (treeOf lead whole (length c - 1) s) (map num c) ≡ map num (listedAs basis whole s lead c)
+-- and the f64 fold of the same coefficients, whose magnitudes may sum above 2^30, is listed to equal numbers
+abbrev pub FoldedListsSame : Type 0
+FoldedListsSame = (leading : Bool) (parity : Parity) (basis : Basis) (whole split : ℕ) (c : List ℤ) → wholeNumbers .small c ≡ true
+    → 0 < length (fold wholeOps parity basis c) → degreeOf c ≤ planLimit → 1 ≤ split
+    → listedAs floatOps leading basis whole split (fold floatOps parity basis (map num c))
+    ≡ map num (listedAs wholeOps leading basis whole split (fold wholeOps parity basis c))

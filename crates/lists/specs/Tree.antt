@@ -4,8 +4,7 @@ use Prim.Native.Nat.{ℕ, zero, suc, _+_, _-_, _^_}
 use lib.Dec.{ltb}
 use Rattle.algebra.specs.declared.Basis.{Basis}
 use Rattle.algebra.specs.declared.Parity.{Parity}
-use Rattle.number.specs.Bits.{bitLen}
-use Rattle.number.specs.Bits.{topPower}
+use Rattle.number.specs.Bits.{bitLen, topPower}
 use Rattle.counts.specs.MinDepth.{minDepth}
 use Rattle.counts.specs.Choice.{splitFor}
 use Rattle.counts.specs.declared.choice.SplitStrategy.{SplitStrategy}
@@ -14,36 +13,39 @@ use Rattle.counts.specs.declared.choice.SplitStrategy.the-variants.{MinDepth, M
 -- one list; or a cut at p, with a low and a high part
 pub data Tree : Type 0 where
   leaf : Tree
-  cut : ℕ → Tree → Tree → Tree
+  cut : (p : ℕ) → (low high : Tree) → Tree
 
 -- a leading slice of degree d ≥ 1 at split s > 1 is listed again at split MinDepth(bit_len(d)), if that is below s and the whole degree
 -- exceeds 2^L − 2^(s−1)
 unfoldable pub listedAgain : (whole degree split : ℕ) → Bool
-listedAgain whole d s = ltb 0 d && (ltb 1 s && (ltb (minDepth (bitLen d)) s && ltb (2 ^ bitLen whole - 2 ^ (s - 1)) whole))
+listedAgain whole degree split =
+    ltb 0 degree && (ltb 1 split && (ltb (minDepth (bitLen degree)) split && ltb (2 ^ bitLen whole - 2 ^ (split - 1)) whole))
 
--- the tree of degree d at split s: below the base 2^s one list, or, for a leading slice, the tree at the smaller split; otherwise a cut at
--- the greatest power of two p at most d, into degrees p − 1 and d − p. Only high parts lead on. The first argument bounds the steps.
-unfoldable pub treeIn : ℕ → Bool → (whole degree split : ℕ) → Tree
-treeIn zero lead whole d s = leaf
-treeIn (suc steps) lead whole d s =
-    elim (ltb d (2 ^ s)) [
+-- the tree of a degree at a split: below the base 2^split one list, or, for a leading slice, the tree at the smaller split; otherwise a cut at
+-- the greatest power of two p at most the degree, into degrees p − 1 and degree − p, of which the low part is never leading. The first
+-- argument bounds the steps; specs/TreeRule says the same without it.
+unfoldable pub treeIn : (steps : ℕ) → (leading : Bool) → (whole degree split : ℕ) → Tree
+treeIn zero leading whole degree split = leaf
+treeIn (suc steps) leading whole degree split =
+    elim (ltb degree (2 ^ split)) [
       | true ↦
-          elim (lead && listedAgain whole d s) [
-            | true ↦ treeIn steps lead whole d (minDepth (bitLen d))
+          elim (leading && listedAgain whole degree split) [
+            | true ↦ treeIn steps leading whole degree (minDepth (bitLen degree))
             | false ↦ leaf
           ]
-      | false ↦ cut (topPower d) (treeIn steps false whole (topPower d - 1) s) (treeIn steps lead whole (d - topPower d) s)
+      | false ↦
+          cut (topPower degree) (treeIn steps false whole (topPower degree - 1) split) (treeIn steps leading whole (degree - topPower degree) split)
     ]
 
--- each cut takes a binary digit off both parts, and each relisting makes the split smaller: so many steps are enough
-unfoldable pub treeOf : Bool → (whole degree split : ℕ) → Tree
-treeOf lead whole d s = treeIn (suc (bitLen d + s)) lead whole d s
+-- each cut takes a binary digit off both parts, and each slice listed again has a smaller split: so many steps are enough
+unfoldable pub treeOf : (leading : Bool) → (whole degree split : ℕ) → Tree
+treeOf leading whole degree split = treeIn (suc (bitLen degree + split)) leading whole degree split
 
--- only MinDepth lists again
-abbrev pub leads : SplitStrategy → Bool
-leads MinDepth = true
-leads MinMult = false
+-- only MinDepth lists a leading slice again
+abbrev pub relists : SplitStrategy → Bool
+relists MinDepth = true
+relists MinMult = false
 
--- the tree of a whole polynomial of degree d
-abbrev pub planTree : SplitStrategy → Parity → Basis → ℕ → Tree
-planTree strategy parity basis d = treeOf (leads strategy) d d (splitFor strategy parity basis d)
+-- the tree of a whole polynomial
+abbrev pub planTree : SplitStrategy → Parity → Basis → (degree : ℕ) → Tree
+planTree strategy parity basis degree = treeOf (relists strategy) degree degree (splitFor strategy parity basis degree)

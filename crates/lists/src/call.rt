@@ -1,15 +1,16 @@
 // The list calls' answer, which numbers alone decide.
 use super::count::count_lists;
+use super::count::relists;
 use counts::SplitStrategy;
 use counts::split_for_strategy;
 use number::Basis;
+use number::PLAN_LIMIT;
 use number::Parity;
+use number::degree_of;
 use number::power_of_two;
 ghost use mathlib.Core.Path.{_≡_};
 ghost use Prim.Native.Nat.{_<_};
-ghost use Rattle.lists.specs.Tree.{leads};
-ghost use Rattle.lists.specs.ListCall.{earlyRefusal};
-ghost use Rattle.lists.specs.Shape.{shapeOf, planShape};
+ghost use Rattle.lists.specs.inside.Shape.{earlyRefusal, shapeOf, planShape};
 
 // What a list call answers: 0 or the refusal, then degree, base and the numbers of coefficients and lists, all zero after a refusal.
 pub struct Listed {
@@ -26,27 +27,18 @@ pub struct Shape {
     pub answer: Listed,
 }
 
-// Whether the strategy lists a leading slice again.
-pub fn leads_on(strategy: SplitStrategy) -> bool
-    ensures { λ r. ⌜ r ≡ leads strategy ⌝ }
+// The first test ahead of the boundaries that holds for n coefficients, small enough or not, and `room` places; or 0.
+fn early_refusal(n: usize, small: bool, room: usize) -> u8
+    ensures { λ r. ⌜ r ≡ earlyRefusal n small room ⌝ }
 {
-    match strategy {
-        SplitStrategy::MinDepth => true,
-        SplitStrategy::MinMult => false,
-    }
-}
-
-// The first test ahead of the boundaries that holds for n coefficients and `room` places, or 0.
-fn early_refusal(fits: bool, n: usize, room: usize) -> u8
-    ensures { λ r. ⌜ r ≡ earlyRefusal fits n room ⌝ }
-{
-    if 4096 < n {
+    let degree = degree_of(n);
+    if PLAN_LIMIT < degree {
         return 2;
     }
-    if n < 2 {
+    if degree == 0 {
         return 1;
     }
-    if !fits {
+    if !small {
         return 3;
     }
     if room < n { 21 } else { 0 }
@@ -74,20 +66,20 @@ pub fn shape_for(
     strategy: SplitStrategy,
     parity: Parity,
     basis: Basis,
-    fits: bool,
     n: usize,
+    small: bool,
     room: usize,
     boundaries: usize,
 ) -> Shape
-    ensures { λ r. ⌜ r ≡ planShape strategy parity basis fits n room boundaries ⌝ }
+    ensures { λ r. ⌜ r ≡ planShape strategy parity basis n small room boundaries ⌝ }
 {
-    let early = early_refusal(fits, n, room);
+    let early = early_refusal(n, small, room);
     if 0 < early {
         return refused(early);
     }
     let degree = n - 1;
-    let split = split_for_strategy(strategy, degree, parity, basis);
-    let lists = count_lists(degree, degree, split, leads_on(strategy));
+    let split = split_for_strategy(strategy, parity, basis, degree);
+    let lists = count_lists(relists(strategy), degree, degree, split);
     if boundaries < lists {
         return refused(22);
     }

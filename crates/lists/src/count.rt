@@ -1,4 +1,5 @@
 // How many lists a degree gives: the plan tree without any coefficient.
+use counts::SplitStrategy;
 use counts::min_depth_split;
 use number::bit_len;
 use number::power_of_two;
@@ -7,14 +8,27 @@ ghost use mathlib.Core.Path.{_≡_};
 ghost use mathlib.Core.Bool.{_&&_};
 ghost use Prim.Native.Nat.{_<_, _^_};
 ghost use Rattle.number.specs.Bits.{bitLen};
+ghost use Rattle.number.specs.Limits.{planLimit};
+ghost use Rattle.number.specs.inside.Between.{Between};
 ghost use Rattle.counts.specs.MinDepth.{minDepth};
 ghost use Rattle.lists.specs.Tree.{listedAgain, treeOf};
+ghost use Rattle.lists.specs.Tree as tree;
 ghost use Rattle.lists.specs.Arrange.{leavesOf};
-ghost use Rattle.lists.specs.Listing.{Ranges};
+ghost use Rattle.lists.specs.inside.Listing.{Ranges};
+
+// Whether the strategy lists a leading slice again.
+pub fn relists(strategy: SplitStrategy) -> bool
+    ensures { λ r. ⌜ r ≡ tree.relists strategy ⌝ }
+{
+    match strategy {
+        SplitStrategy::MinDepth => true,
+        SplitStrategy::MinMult => false,
+    }
+}
 
 // The split at which a slice is listed again.
 pub fn smaller_split(degree: usize) -> usize
-    requires { ⌜ (0 < degree) × (degree < 4096) ⌝ }
+    requires { ⌜ Between 1 degree planLimit ⌝ }
     ensures { λ r. ⌜ r ≡ minDepth (bitLen degree) ⌝ }
 {
     let choice = min_depth_split(degree);
@@ -22,11 +36,11 @@ pub fn smaller_split(degree: usize) -> usize
 }
 
 // Whether a slice is listed again at a smaller split: the leading one, near the end of the whole degree's power of two.
-pub fn listed_again(whole: usize, split: usize, lead: bool, degree: usize) -> bool
-    requires { ⌜ Ranges whole split degree ⌝ }
-    ensures { λ r. ⌜ r ≡ (lead && listedAgain whole degree split) ⌝ }
+pub fn listed_again(leading: bool, whole: usize, degree: usize, split: usize) -> bool
+    requires { ⌜ Ranges whole degree split ⌝ }
+    ensures { λ r. ⌜ r ≡ (leading && listedAgain whole degree split) ⌝ }
 {
-    if !lead || degree < 1 || split < 2 {
+    if !leading || degree < 1 || split < 2 {
         return false;
     }
     if split <= smaller_split(degree) {
@@ -36,27 +50,27 @@ pub fn listed_again(whole: usize, split: usize, lead: bool, degree: usize) -> bo
 }
 
 // The number of lists of a part of a degree, at a split.
-pub fn count_lists(degree: usize, whole: usize, split: usize, lead: bool) -> usize
-    requires { ⌜ Ranges whole split degree ⌝ }
-    ensures { λ r. ⌜ r ≡ leavesOf (treeOf lead whole degree split) ⌝ }
+pub fn count_lists(leading: bool, whole: usize, degree: usize, split: usize) -> usize
+    requires { ⌜ Ranges whole degree split ⌝ }
+    ensures { λ r. ⌜ r ≡ leavesOf (treeOf leading whole degree split) ⌝ }
 {
     let base = power_of_two(split);
     if degree < base {
-        return count_slice(degree, whole, split, lead);
+        return count_slice(leading, whole, degree, split);
     }
     let p = top_power(degree);
-    let low = count_lists(p - 1, whole, split, false);
-    let high = count_lists(degree - p, whole, split, lead);
+    let low = count_lists(false, whole, p - 1, split);
+    let high = count_lists(leading, whole, degree - p, split);
     low + high
 }
 
 // The number of lists of a slice: one, or those at the smaller split.
-fn count_slice(degree: usize, whole: usize, split: usize, lead: bool) -> usize
-    requires { ⌜ Ranges whole split degree × (degree < 2 ^ split) ⌝ }
-    ensures { λ r. ⌜ r ≡ leavesOf (treeOf lead whole degree split) ⌝ }
+fn count_slice(leading: bool, whole: usize, degree: usize, split: usize) -> usize
+    requires { ⌜ Ranges whole degree split × (degree < 2 ^ split) ⌝ }
+    ensures { λ r. ⌜ r ≡ leavesOf (treeOf leading whole degree split) ⌝ }
 {
-    if listed_again(whole, split, lead, degree) {
-        return count_lists(degree, whole, smaller_split(degree), lead);
+    if listed_again(leading, whole, degree, split) {
+        return count_lists(leading, whole, degree, smaller_split(degree));
     }
     1
 }

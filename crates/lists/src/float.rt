@@ -1,8 +1,8 @@
 // Listing f64 coefficients in place: the functions of whole.rt over floats. Nothing is asked of the coefficients.
 use super::call::Listed;
-use super::call::leads_on;
 use super::call::shape_for;
 use super::count::listed_again;
+use super::count::relists;
 use super::count::smaller_split;
 use counts::SplitStrategy;
 use number::Basis;
@@ -11,16 +11,18 @@ use number::factorize_coeffs_chebyshev_f64;
 use number::power_of_two;
 use number::top_power;
 ghost use mathlib.Core.Path.{_≡_};
-ghost use Prim.Native.Nat.{_+_, _-_, _≤_, _<_, _^_};
+ghost use Prim.Native.Nat.{_+_, _≤_, _<_, _^_};
 ghost use lib.ListN.{length};
 ghost use lib.Seq.{sets};
 ghost use Rattle.algebra.specs.Cut.{cutAt};
-ghost use Rattle.number.specs.Numbers.{floatOps};
-ghost use Rattle.lists.specs.Listing.{Ready, Lists};
-ghost use Rattle.lists.specs.ListCall.{anySum, ListCall};
+ghost use Rattle.number.specs.Numbers.{floatOps, floatNumbers};
+ghost use Rattle.number.specs.Tests.{degreeOf};
+ghost use Rattle.lists.specs.Tree.{treeOf};
+ghost use Rattle.lists.specs.ListCall.{ListCall};
+ghost use Rattle.lists.specs.inside.Listing.{Listable, InPlace};
 
 // The coefficients cut at p.
-fn cut_coeffs_f64(basis: Basis, c: &mut [f64], p: usize)
+fn cut_coeffs_f64(basis: Basis, p: usize, c: &mut [f64])
     requires { ⌜ (p < length (now c)) × (length (now c) ≤ p + p) ⌝ }
     ensures { λ _. ⌜ now (c .exit) ≡ cutAt floatOps basis p (now (c .entry)) ⌝ }
 {
@@ -31,49 +33,51 @@ fn cut_coeffs_f64(basis: Basis, c: &mut [f64], p: usize)
 }
 
 // The source's decompose_bsgs_coeffs: lists c, which stands from place `at` on behind n lists, at a split. `whole` is the degree of the
-// whole polynomial, and `lead` says that only high parts led here and that the strategy is MinDepth. Answers how many lists there are then.
-pub fn list_coeffs_f64(
+// whole polynomial, and `leading` says that only high parts led here and that the strategy is MinDepth. Answers how many lists there are then.
+fn list_coeffs_f64(
+    leading: bool,
     basis: Basis,
-    c: &mut [f64],
-    bounds: &mut [u16],
     whole: usize,
     split: usize,
-    lead: bool,
     at: usize,
     n: usize,
+    c: &mut [f64],
+    bounds: &mut [u16],
 ) -> usize
-    requires { ⌜ Ready whole split lead at n (now c) (now bounds) ⌝ }
-    ensures { λ r. ⌜ Lists floatOps basis whole split lead at n (now (c .entry)) (now (bounds .entry)) (now (c .exit)) (now (bounds .exit)) r ⌝ }
+    requires { ⌜ Listable leading whole split at n (now c) (now bounds) ⌝ }
+    ensures { λ r. ⌜ InPlace floatOps basis (treeOf leading whole (degreeOf (now (c .entry))) split) at n (now (c .entry)) (now (bounds .entry))
+        r (now (c .exit)) (now (bounds .exit)) ⌝ }
 {
     let base = power_of_two(split);
     let degree = c.len() - 1;
     if degree < base {
-        return list_slice_f64(basis, c, bounds, whole, split, lead, at, n);
+        return list_slice_f64(leading, basis, whole, split, at, n, c, bounds);
     }
     let p = top_power(degree);
-    cut_coeffs_f64(basis, c, p);
-    let m = list_coeffs_f64(basis, &mut c[..p], bounds, whole, split, false, at, n);
-    list_coeffs_f64(basis, &mut c[p..], bounds, whole, split, lead, at + p, m)
+    cut_coeffs_f64(basis, p, c);
+    let m = list_coeffs_f64(false, basis, whole, split, at, n, &mut c[..p], bounds);
+    list_coeffs_f64(leading, basis, whole, split, at + p, m, &mut c[p..], bounds)
 }
 
 // Lists a slice: one list, or, if it is the leading one, again at a smaller split.
 fn list_slice_f64(
+    leading: bool,
     basis: Basis,
-    c: &mut [f64],
-    bounds: &mut [u16],
     whole: usize,
     split: usize,
-    lead: bool,
     at: usize,
     n: usize,
+    c: &mut [f64],
+    bounds: &mut [u16],
 ) -> usize
-    requires { ⌜ Ready whole split lead at n (now c) (now bounds) × (length (now c) - 1 < 2 ^ split) ⌝ }
-    ensures { λ r. ⌜ Lists floatOps basis whole split lead at n (now (c .entry)) (now (bounds .entry)) (now (c .exit)) (now (bounds .exit)) r ⌝ }
+    requires { ⌜ Listable leading whole split at n (now c) (now bounds) × (degreeOf (now c) < 2 ^ split) ⌝ }
+    ensures { λ r. ⌜ InPlace floatOps basis (treeOf leading whole (degreeOf (now (c .entry))) split) at n (now (c .entry)) (now (bounds .entry))
+        r (now (c .exit)) (now (bounds .exit)) ⌝ }
 {
     let degree = c.len() - 1;
-    if listed_again(whole, split, lead, degree) {
+    if listed_again(leading, whole, degree, split) {
         let smaller = smaller_split(degree);
-        return list_coeffs_f64(basis, c, bounds, whole, smaller, lead, at, n);
+        return list_coeffs_f64(leading, basis, whole, smaller, at, n, c, bounds);
     }
     bounds[n] = (at + c.len()) as u16;
     n + 1
@@ -93,32 +97,32 @@ fn copy_coeffs_f64(c: &[f64], out: &mut [f64])
 
 // The list call: the lists of c one after another in `out`, and in `bounds` the place just past each.
 pub fn decompose_bsgs_f64(
-    c: &[f64],
-    basis: Basis,
-    parity: Parity,
     strategy: SplitStrategy,
+    parity: Parity,
+    basis: Basis,
+    c: &[f64],
     out: &mut [f64],
     bounds: &mut [u16],
 ) -> Listed
-    ensures { λ r. ⌜ ListCall floatOps anySum basis parity strategy (now (c .entry)) (now (out .entry)) (now (bounds .entry))
-        (now (out .exit)) (now (bounds .exit)) r ⌝ }
+    ensures { λ r. ⌜ ListCall floatNumbers strategy parity basis (now (c .entry)) (now (out .entry)) (now (bounds .entry))
+        r (now (out .exit)) (now (bounds .exit)) ⌝ }
 {
     let n = c.len();
-    let shape = shape_for(strategy, parity, basis, true, n, out.len(), bounds.len());
+    let shape = shape_for(strategy, parity, basis, n, true, out.len(), bounds.len());
     let answer = shape.answer;
     if 0 < answer.refusal {
         return answer;
     }
     copy_coeffs_f64(c, out);
     list_coeffs_f64(
+        relists(strategy),
         basis,
-        &mut out[..n],
-        bounds,
         n - 1,
         shape.split,
-        leads_on(strategy),
         0,
         0,
+        &mut out[..n],
+        bounds,
     );
     answer
 }

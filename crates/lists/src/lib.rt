@@ -5,14 +5,14 @@ pub mod float;
 pub mod whole;
 
 pub use call::Listed;
-pub use call::Shape;
-pub use call::leads_on;
-pub use call::shape_for;
-pub use count::count_lists;
 pub use counts::SplitStrategy;
 pub use float::decompose_bsgs_f64;
-pub use float::list_coeffs_f64;
 pub use number::Basis;
 pub use number::Parity;
 pub use whole::decompose_bsgs;
+// What serves planning, which calls it within its ranges.
+pub use count::count_lists;
+pub use count::listed_again;
+pub use count::relists;
+pub use count::smaller_split;
 pub use whole::list_coeffs;

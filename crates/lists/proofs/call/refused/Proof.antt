@@ -1,5 +1,5 @@
 -- `lists::call::refused` meets its contract: after a refusal every other number is 0.
-use Rattle.lists.proofs.Refusals.{zero-shape}
+use Rattle.lists.proofs.Shape.{zero-shape}
 use Rattle.lists.proofs.call.refused.Statement.{statement}
 use Rattle.lists.proofs.call.refused.Tie as tie
 

@@ -10,8 +10,7 @@ use borrow.Fn.PlainCycle.{Measures, is, falls, and}
 use lib.Pow.{pow-pos}
 use Rattle.number.specs.Bits.{topPower}
 use Rattle.number.proofs.Bits.{Top, top-power}
-use Rattle.lists.specs.Tree.{listedAgain}
-use Rattle.lists.proofs.TreeLaws.{Again, again-facts, and-right}
+use Rattle.lists.proofs.TreeRule.{Again, leading-again}
 use Rattle.lists.proofs.Arranging.{leaves-most}
 use Rattle.lists.proofs.Counting.{counted-cut, counted-again, counted-one}
 use Rattle.lists.proofs.count.count_lists.Reads as counter-reads
@@ -20,18 +19,18 @@ use Rattle.lists.proofs.count.+count_lists+count_slice.Lts-count_lists 
 use Rattle.lists.proofs.count.count_slice.Reads as slicer-reads
 use Rattle.lists.proofs.count.count_slice.Kinds as slicer-kinds
 use Rattle.lists.proofs.count.+count_lists+count_slice.Lts-count_slice as slicer
-use Rattle.needed.proofs.power_of_two.Reads as power-of-two-reads
-use Rattle.needed.proofs.top_power.Reads as top-power-reads
+use Rattle.number.proofs.power_of_two.Reads as power-of-two-reads
+use Rattle.number.proofs.top_power.Reads as top-power-reads
 use Rattle.lists.proofs.count.listed_again.Reads as listed-again-reads
 use Rattle.lists.proofs.count.smaller_split.Reads as smaller-split-reads
 use Rattle.lists.proofs.count.+count_lists+count_slice.{statement}
 use Rattle.lists.proofs.count.+count_lists+count_slice.Tie.{close}
 
 abbrev μ-counter : Measures 0 counter-kinds.ps ℕ
-μ-counter κs a = 2 * (a .0 * 64 + a .1 .1 .0) + 1
+μ-counter κs a = 2 * (a .1 .1 .0 * 64 + a .1 .1 .1 .0) + 1
 
 abbrev μ-slicer : Measures 0 slicer-kinds.ps ℕ
-μ-slicer κs a = 2 * (a .0 * 64 + a .1 .1 .0)
+μ-slicer κs a = 2 * (a .1 .1 .0 * 64 + a .1 .1 .1 .0)
 
 abbrev counter-at : ℕ → In 0 counter-kinds.ps
 counter-at t =
@@ -78,11 +77,10 @@ module _ (t : ℕ) where
 
   -- a slice that the test says is listed again
   again : (c : slicer.After-listed-again (slicer-calls t) (slicer-at t) slicer-reads.Post) → c .listed-again .result ≡ true
-      → Again (c .before .args .whole) (c .before .args .split) (c .before .args .degree)
+      → Again (c .before .args .whole) (c .before .args .degree) (c .before .args .split)
   again c told =
-      again-facts (c .before .args .whole) (c .before .args .split) (c .before .args .degree)
-      (and-right (c .before .args .lead) (listedAgain (c .before .args .whole) (c .before .args .degree) (c .before .args .split))
-      (sym (c .listed-again .ensures) ∙ told))
+      leading-again (c .before .args .leading) (c .before .args .whole) (c .before .args .degree) (c .before .args .split)
+      (sym (c .listed-again .ensures) ∙ told)
 
   counter-power-of-two-requires : counter.Need-power-of-two-requires (counter-calls t) (counter-at t) counter-reads.Post
   counter-power-of-two-requires c κs = search needs
@@ -96,7 +94,7 @@ module _ (t : ℕ) where
   counter-top-power-requires : counter.Need-top-power-requires (counter-calls t) (counter-at t) counter-reads.Post
   counter-top-power-requires c κs =
       let start = c .before .before in
-      record { from = omega (arith, pow-pos (start .args .split)); to = omega arith }
+      omega (arith, pow-pos (start .args .split))
 
   counter-sub-count-lists : counter.Need-sub-count-lists (counter-calls t) (counter-at t) counter-reads.Post
   counter-sub-count-lists c =
@@ -105,7 +103,7 @@ module _ (t : ℕ) where
   counter-count-lists-requires : counter.Need-count-lists-requires (counter-calls t) (counter-at t) counter-reads.Post
   counter-count-lists-requires c κs =
       let below = bounds (c .before) in
-      (omega arith, record { some = omega arith; few = omega arith; split = omega arith; part = omega arith })
+      (omega arith, record { positive = omega arith; whole-limit = omega arith; part-limit = omega arith; split-limit = omega arith })
 
   counter-sub-count-lists-2 : counter.Need-sub-count-lists-2 (counter-calls t) (counter-at t) counter-reads.Post
   counter-sub-count-lists-2 c =
@@ -114,21 +112,21 @@ module _ (t : ℕ) where
   counter-count-lists-requires-2 : counter.Need-count-lists-requires-2 (counter-calls t) (counter-at t) counter-reads.Post
   counter-count-lists-requires-2 c κs =
       let below = bounds (c .before .before) in
-      (omega arith, record { some = omega arith; few = omega arith; split = omega arith; part = omega arith })
+      (omega arith, record { positive = omega arith; whole-limit = omega arith; part-limit = omega arith; split-limit = omega arith })
 
   counter-add-result : counter.Need-add-result (counter-calls t) (counter-at t) counter-reads.Post
   counter-add-result c =
       let test = c .before .before .before in
       let start = test .before .before in
-      let low = leaves-most (start .args .whole) (start .args .split) false (c .before .before .top-power .result - 1) in
-      let high = leaves-most (start .args .whole) (start .args .split) (start .args .lead) (start .args .degree - c .before .before .top-power .result) in
+      let low = leaves-most false (start .args .whole) (c .before .before .top-power .result - 1) (start .args .split) in
+      let high = leaves-most (start .args .leading) (start .args .whole) (start .args .degree - c .before .before .top-power .result) (start .args .split) in
       omega (arith, bounds test)
 
   counter-returns-2 : counter.Need-returns-2 (counter-calls t) (counter-at t) counter-reads.Post
   counter-returns-2 c =
       let test = c .before .before .before in
       let start = test .before .before in
-      counted-cut (start .args .whole) (start .args .split) (start .args .lead) (start .args .degree) (c .before .before .top-power .result)
+      counted-cut (start .args .leading) (start .args .whole) (start .args .degree) (start .args .split) (c .before .before .top-power .result)
       (from-base test) (c .before .before .top-power .ensures) (c .before .count-lists .ensures) (c .count-lists2 .ensures)
 
   slicer-listed-again-requires : slicer.Need-listed-again-requires (slicer-calls t) (slicer-at t) slicer-reads.Post
@@ -137,25 +135,25 @@ module _ (t : ℕ) where
   slicer-smaller-split-requires : slicer.Need-smaller-split-requires (slicer-calls t) (slicer-at t) slicer-reads.Post
   slicer-smaller-split-requires c κs =
       let facts = again (c .before) (c .if1 .taken) in
-      (facts .some, c .before .before .pre .1 .0 .part)
+      record { from = facts .positive; to = c .before .before .pre .1 .0 .part-limit }
 
   slicer-count-lists-requires : slicer.Need-count-lists-requires (slicer-calls t) (slicer-at t) slicer-reads.Post
   slicer-count-lists-requires c κs =
       let facts = again (c .before .before) (c .before .if1 .taken) in
       let is = c .smaller-split .ensures in
-      (omega arith, record { some = omega arith; few = omega arith; split = omega arith; part = omega arith })
+      (omega arith, record { positive = omega arith; whole-limit = omega arith; part-limit = omega arith; split-limit = omega arith })
 
   slicer-returns : slicer.Need-returns (slicer-calls t) (slicer-at t) slicer-reads.Post
   slicer-returns c =
       let test = c .before .before in
       let start = test .before .before in
-      counted-again (start .args .whole) (start .args .split) (start .args .lead) (start .args .degree) (start .pre .1 .1)
+      counted-again (start .args .leading) (start .args .whole) (start .args .degree) (start .args .split) (start .pre .1 .1)
       (sym (test .before .listed-again .ensures) ∙ test .if1 .taken) (c .before .smaller-split .ensures) (c .count-lists .ensures)
 
   slicer-returns-2 : slicer.Need-returns-2 (slicer-calls t) (slicer-at t) slicer-reads.Post
   slicer-returns-2 c =
       let start = c .before .before in
-      counted-one (start .args .whole) (start .args .split) (start .args .lead) (start .args .degree) (start .pre .1 .1)
+      counted-one (start .args .leading) (start .args .whole) (start .args .degree) (start .args .split) (start .pre .1 .1)
       (sym (c .before .listed-again .ensures) ∙ c .if1 .left)
 
 pub +count-lists+count-slice-spec : {M : Type 1} → statement M

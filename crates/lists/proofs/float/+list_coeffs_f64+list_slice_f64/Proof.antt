@@ -12,18 +12,19 @@ use lib.Pow.{pow-pos}
 use lib.ListN.{length}
 use Rattle.algebra.specs.Cut.{cutAt}
 use Rattle.number.specs.Numbers.{floatOps}
+use Rattle.number.specs.Tests.{degreeOf}
 use Rattle.lists.specs.Tree.{listedAgain}
-use Rattle.lists.proofs.TreeLaws.{Again, again-facts, and-right}
-use Rattle.lists.proofs.Steps as steps
-use Rattle.lists.proofs.Steps.{Cutting}
+use Rattle.lists.proofs.TreeRule.{Again, leading-again}
+use Rattle.lists.proofs.ListerCuts as cuts
+use Rattle.lists.proofs.ListerCuts.{Cutting}
 use Rattle.lists.proofs.float.list_coeffs_f64.Reads as lister-reads
 use Rattle.lists.proofs.float.list_coeffs_f64.Kinds as lister-kinds
 use Rattle.lists.proofs.float.+list_coeffs_f64+list_slice_f64.Lts-list_coeffs_f64 as lister
 use Rattle.lists.proofs.float.list_slice_f64.Reads as slicer-reads
 use Rattle.lists.proofs.float.list_slice_f64.Kinds as slicer-kinds
 use Rattle.lists.proofs.float.+list_coeffs_f64+list_slice_f64.Lts-list_slice_f64 as slicer
-use Rattle.needed.proofs.power_of_two.Reads as power-of-two-reads
-use Rattle.needed.proofs.top_power.Reads as top-power-reads
+use Rattle.number.proofs.power_of_two.Reads as power-of-two-reads
+use Rattle.number.proofs.top_power.Reads as top-power-reads
 use Rattle.lists.proofs.count.listed_again.Reads as listed-again-reads
 use Rattle.lists.proofs.count.smaller_split.Reads as smaller-split-reads
 use Rattle.lists.proofs.float.cut_coeffs_f64.Reads as cut-coeffs-f64-reads
@@ -31,10 +32,10 @@ use Rattle.lists.proofs.float.+list_coeffs_f64+list_slice_f64.{statemen
 use Rattle.lists.proofs.float.+list_coeffs_f64+list_slice_f64.Tie.{close}
 
 abbrev μ-lister : Measures 2 lister-kinds.ps ℕ
-μ-lister κs a = 2 * (length (a .1 .0 .now) * 64 + a .1 .1 .1 .1 .0) + 1
+μ-lister κs a = 2 * (length (a .1 .1 .1 .1 .1 .1 .0 .now) * 64 + a .1 .1 .1 .0) + 1
 
 abbrev μ-slicer : Measures 2 slicer-kinds.ps ℕ
-μ-slicer κs a = 2 * (length (a .1 .0 .now) * 64 + a .1 .1 .1 .1 .0)
+μ-slicer κs a = 2 * (length (a .1 .1 .1 .1 .1 .1 .0 .now) * 64 + a .1 .1 .1 .0)
 
 abbrev lister-at : ℕ → In 2 lister-kinds.ps
 lister-at t =
@@ -95,26 +96,26 @@ module _ (t : ℕ) where
 
   uncut : (top : lister.After-top-power (lister-calls t) (lister-at t) lister-reads.Post)
       → let args = start-of top .args in
-      Cutting floatOps (args .basis) (args .whole) (args .split) (args .lead) (args .at) (args .n) (args .c .now) (args .bounds .now)
+      Cutting floatOps (args .leading) (args .basis) (args .whole) (args .split) (args .at) (args .n) (args .c .now) (args .bounds .now)
       (top .top-power .result) (cutAt floatOps (args .basis) (top .top-power .result) (args .c .now))
-  uncut top = record { ready = start-of top .pre .1; from = omega arith; power = top .top-power .ensures; parted = refl }
+  uncut top = record { listable = start-of top .pre .1; from = omega arith; power = top .top-power .ensures; parted = refl }
 
   cutting : (k : lister.After-cut-coeffs-f64 (lister-calls t) (lister-at t) lister-reads.Post)
       → let top = k .before .before in let args = start-of top .args in
-      Cutting floatOps (args .basis) (args .whole) (args .split) (args .lead) (args .at) (args .n) (args .c .now) (args .bounds .now)
-      (top .top-power .result) (k .cut-coeffs-f64 .last .1 .0)
+      Cutting floatOps (args .leading) (args .basis) (args .whole) (args .split) (args .at) (args .n) (args .c .now) (args .bounds .now)
+      (top .top-power .result) (k .cut-coeffs-f64 .last .1 .1 .0)
   cutting k =
       let before = uncut (k .before .before) in
-      record { ready = before .ready; from = before .from; power = before .power; parted = k .cut-coeffs-f64 .ensures }
+      record { listable = before .listable; from = before .from; power = before .power; parted = k .cut-coeffs-f64 .ensures }
 
   -- the cut behind the first call, and the first call behind the second one's arguments
   abbrev cut-of : lister.After-list-coeffs-f64 (lister-calls t) (lister-at t) lister-reads.Post
       → lister.After-cut-coeffs-f64 (lister-calls t) (lister-at t) lister-reads.Post
   cut-of low = let lent = low .before .before in lent .before .before .before
 
-  abbrev first-call : lister.After-list-coeffs-f64-arg4 (lister-calls t) (lister-at t) lister-reads.Post
+  abbrev first-call : lister.After-slice-known7 (lister-calls t) (lister-at t) lister-reads.Post
       → lister.After-list-coeffs-f64 (lister-calls t) (lister-at t) lister-reads.Post
-  first-call c = let known = c .before .before in known .before .before .before .before
+  first-call known = let bounds = known .before in bounds .before .before .before
 
   lister-power-of-two-requires : lister.Need-power-of-two-requires (lister-calls t) (lister-at t) lister-reads.Post
   lister-power-of-two-requires c κs = search needs
@@ -137,42 +138,42 @@ module _ (t : ℕ) where
   lister-top-power-requires : lister.Need-top-power-requires (lister-calls t) (lister-at t) lister-reads.Post
   lister-top-power-requires c κs =
       let start = c .before .before .before .before in
-      record { from = omega (arith, pow-pos (start .args .split)); to = omega arith }
+      omega (arith, pow-pos (start .args .split))
 
   lister-cut-coeffs-f64-requires : lister.Need-cut-coeffs-f64-requires (lister-calls t) (lister-at t) lister-reads.Post
   lister-cut-coeffs-f64-requires c κs =
-      (steps.under (uncut (c .before)), steps.half (uncut (c .before)))
+      (cuts.under (uncut (c .before)), cuts.half (uncut (c .before)))
 
   lister-slice-relend-prefix-list-coeffs-f64 : lister.Need-slice-relend-prefix-list-coeffs-f64 (lister-calls t) (lister-at t) lister-reads.Post
   lister-slice-relend-prefix-list-coeffs-f64 c =
       let k = cutting (c .before .before) in
-      omega (arith, steps.under k, steps.same-length k)
+      omega (arith, cuts.under k, cuts.same-length k)
 
   lister-slice-aggregate-list-coeffs-f64 : lister.Need-slice-aggregate-list-coeffs-f64 (lister-calls t) (lister-at t) lister-reads.Post
-  lister-slice-aggregate-list-coeffs-f64 c = sym (steps.low-length (cutting (c .before .before .before)))
+  lister-slice-aggregate-list-coeffs-f64 c = sym (cuts.low-length (cutting (c .before .before .before)))
 
   lister-list-coeffs-f64-requires : lister.Need-list-coeffs-f64-requires (lister-calls t) (lister-at t) lister-reads.Post
   lister-list-coeffs-f64-requires c κs =
       let made = c .before .before .before .before in
       let k = cutting made in
-      (omega (arith, steps.low-length k, steps.under k, start-of (made .before .before) .pre .0), steps.ready-low k)
+      (omega (arith, cuts.low-length k, cuts.under k, start-of (made .before .before) .pre .0), cuts.listable-low k)
 
   lister-mul-list-coeffs-f64 : lister.Need-mul-list-coeffs-f64 (lister-calls t) (lister-at t) lister-reads.Post
   lister-mul-list-coeffs-f64 c =
-      let k = cutting (cut-of (c .before .before .before .before)) in
-      omega (arith, steps.under k, k .ready .few)
+      let k = cutting (cut-of (first-call c)) in
+      omega (arith, cuts.under k, k .listable .ends-fit)
 
   lister-sub-list-coeffs-f64 : lister.Need-sub-list-coeffs-f64 (lister-calls t) (lister-at t) lister-reads.Post
   lister-sub-list-coeffs-f64 c =
-      let low = c .before .before .before .before in
+      let low = first-call c in
       let k = cutting (cut-of low) in
-      omega (arith, steps.under k, steps.joined-length k (low .list-coeffs-f64 .ensures) (low .list-coeffs-f64 .kept .1 .0))
+      omega (arith, cuts.under k, cuts.joined-length k (low .list-coeffs-f64 .ensures) (low .list-coeffs-f64 .kept .1 .1 .1 .1 .1 .1 .0))
 
   lister-part-list-coeffs-f64-start : lister.Need-part-list-coeffs-f64-start (lister-calls t) (lister-at t) lister-reads.Post
   lister-part-list-coeffs-f64-start c =
-      let low = c .before .before .before .before in
+      let low = first-call c in
       let k = cutting (cut-of low) in
-      omega (arith, steps.under k, steps.joined-length k (low .list-coeffs-f64 .ensures) (low .list-coeffs-f64 .kept .1 .0))
+      omega (arith, cuts.under k, cuts.joined-length k (low .list-coeffs-f64 .ensures) (low .list-coeffs-f64 .kept .1 .1 .1 .1 .1 .1 .0))
 
   lister-part-list-coeffs-f64-end : lister.Need-part-list-coeffs-f64-end (lister-calls t) (lister-at t) lister-reads.Post
   lister-part-list-coeffs-f64-end c = search needs
@@ -181,17 +182,18 @@ module _ (t : ℕ) where
   lister-add-list-coeffs-f64 c =
       let low = first-call c in
       let k = cutting (cut-of low) in
-      omega (arith, steps.under k, k .ready .few)
+      omega (arith, cuts.under k, k .listable .ends-fit)
 
   lister-list-coeffs-f64-requires-2 : lister.Need-list-coeffs-f64-requires-2 (lister-calls t) (lister-at t) lister-reads.Post
   lister-list-coeffs-f64-requires-2 c κs =
-      let low = first-call c in
+      let low = first-call (c .before .before) in
       let made = cut-of low in
       let start = start-of (made .before .before) in
       let k = cutting made in
-      let lent = steps.part-is k (low .list-coeffs-f64 .ensures) (low .list-coeffs-f64 .kept .1 .0) in (
-        omega (arith, ap length lent, steps.high-length k, steps.half k, steps.under k, steps.positive k, start .pre .0),
-        steps.ready-high k (low .list-coeffs-f64 .ensures) (low .list-coeffs-f64 .kept .1 .0) (low .list-coeffs-f64 .kept .1 .1 .0),
+      let kept = low .list-coeffs-f64 .kept .1 .1 .1 .1 .1 .1 in
+      let lent = cuts.part-is k (low .list-coeffs-f64 .ensures) (kept .0) in (
+        omega (arith, ap length lent, cuts.high-length k, cuts.half k, cuts.under k, cuts.positive k, start .pre .0),
+        cuts.listable-high k (low .list-coeffs-f64 .ensures) (kept .0) (kept .1 .0),
       )
 
   lister-same-length-3 : lister.Need-same-length-3 (lister-calls t) (lister-at t) lister-reads.Post
@@ -203,18 +205,20 @@ module _ (t : ℕ) where
   lister-returns-2 : lister.Need-returns-2 (lister-calls t) (lister-at t) lister-reads.Post
   lister-returns-2 c =
       let high = c .before .before .before .before in
-      let low = first-call (high .before) in
-      steps.left-both (cutting (cut-of low)) (low .list-coeffs-f64 .ensures) (low .list-coeffs-f64 .kept .1 .0) (high .list-coeffs-f642 .ensures)
+      let low = first-call (high .before .before .before) in
+      cuts.place-both (cutting (cut-of low)) (low .list-coeffs-f64 .ensures) (low .list-coeffs-f64 .kept .1 .1 .1 .1 .1 .1 .0) (high .list-coeffs-f642 .ensures)
 
   -- a slice that the test says is listed again
   told-again : (c : slicer.After-listed-again (slicer-calls t) (slicer-at t) slicer-reads.Post) → c .listed-again .result ≡ true
       → let start = c .before .before .before in
-      (start .args .lead && listedAgain (start .args .whole) (length (start .args .c .now) - 1) (start .args .split)) ≡ true
+      (start .args .leading && listedAgain (start .args .whole) (degreeOf (start .args .c .now)) (start .args .split)) ≡ true
   told-again c told = sym (c .listed-again .ensures) ∙ told
 
   again : (c : slicer.After-listed-again (slicer-calls t) (slicer-at t) slicer-reads.Post) → c .listed-again .result ≡ true
-      → let start = c .before .before .before in Again (start .args .whole) (start .args .split) (length (start .args .c .now) - 1)
-  again c told = let start = c .before .before .before in again-facts _ _ _ (and-right (start .args .lead) _ (told-again c told))
+      → let start = c .before .before .before in Again (start .args .whole) (degreeOf (start .args .c .now)) (start .args .split)
+  again c told =
+      let start = c .before .before .before in
+      leading-again (start .args .leading) (start .args .whole) (degreeOf (start .args .c .now)) (start .args .split) (told-again c told)
 
   slicer-sub-degree : slicer.Need-sub-degree (slicer-calls t) (slicer-at t) slicer-reads.Post
   slicer-sub-degree c = search needs
@@ -225,17 +229,17 @@ module _ (t : ℕ) where
   slicer-smaller-split-requires : slicer.Need-smaller-split-requires (slicer-calls t) (slicer-at t) slicer-reads.Post
   slicer-smaller-split-requires c κs =
       let start = c .before .before .before .before in
-      (again (c .before) (c .if1 .taken) .some, start .pre .1 .0 .ranges .part)
+      record { from = again (c .before) (c .if1 .taken) .positive; to = start .pre .1 .0 .ranges .part-limit }
 
   slicer-list-coeffs-f64-requires : slicer.Need-list-coeffs-f64-requires (slicer-calls t) (slicer-at t) slicer-reads.Post
   slicer-list-coeffs-f64-requires c κs =
       let asked = c .before .before in
       let test = asked .before in
       let start = test .before .before .before .before in
-      let smaller = steps.smaller (start .pre .1 .0) (start .pre .1 .1) (told-again (asked .before .before) (asked .before .if1 .taken)) in (
+      let smaller = cuts.smaller (start .pre .1 .0) (start .pre .1 .1) (told-again (asked .before .before) (asked .before .if1 .taken)) in (
         omega (arith, asked .smaller-split .ensures, start .pre .0),
         rw (asked .smaller-split .ensures)
-            (steps.ready-again (start .pre .1 .0) (start .pre .1 .1) (told-again (asked .before .before) (asked .before .if1 .taken))),
+            (cuts.listable-again (start .pre .1 .0) (start .pre .1 .1) (told-again (asked .before .before) (asked .before .if1 .taken))),
       )
 
   slicer-same-length : slicer.Need-same-length (slicer-calls t) (slicer-at t) slicer-reads.Post
@@ -250,7 +254,7 @@ module _ (t : ℕ) where
       let asked = call .before .before .before in
       let test = asked .before in
       let start = test .before .before .before .before in
-      steps.left-again (start .pre .1 .0) (start .pre .1 .1) (told-again (asked .before .before) (asked .before .if1 .taken))
+      cuts.place-again (start .pre .1 .0) (start .pre .1 .1) (told-again (asked .before .before) (asked .before .if1 .taken))
       (rw (asked .smaller-split .ensures) at (call .list-coeffs-f64 .ensures))
 
   slicer-add-bounds : slicer.Need-add-bounds (slicer-calls t) (slicer-at t) slicer-reads.Post
@@ -263,7 +267,7 @@ module _ (t : ℕ) where
   slicer-mul-bounds c = search needs
 
   slicer-slice-write-bounds : slicer.Need-slice-write-bounds (slicer-calls t) (slicer-at t) slicer-reads.Post
-  slicer-slice-write-bounds c = steps.room-for-one (c .before .before .before .before .pre .1 .0)
+  slicer-slice-write-bounds c = cuts.room-for-one (c .before .before .before .before .pre .1 .0)
 
   slicer-add-result : slicer.Need-add-result (slicer-calls t) (slicer-at t) slicer-reads.Post
   slicer-add-result c = search needs
@@ -274,7 +278,7 @@ module _ (t : ℕ) where
   slicer-returns-2 : slicer.Need-returns-2 (slicer-calls t) (slicer-at t) slicer-reads.Post
   slicer-returns-2 c =
       let start = c .before .before .before .before in
-      steps.left-slice (start .pre .1 .0) (start .pre .1 .1) (sym (c .before .listed-again .ensures) ∙ c .if1 .left)
+      cuts.place-slice (start .pre .1 .0) (start .pre .1 .1) (sym (c .before .listed-again .ensures) ∙ c .if1 .left)
 
 pub +list-coeffs-f64+list-slice-f64-spec : {M : Type 1} → statement M
 +list-coeffs-f64+list-slice-f64-spec =
@@ -286,8 +290,8 @@ pub +list-coeffs-f64+list-slice-f64-spec : {M : Type 1} → statement M
     (lister-calls t) (lister-at t) lister-reads.Post (lister-power-of-two-requires t) (lister-sub-degree t) (lister-list-slice-f64-requires t)
     (lister-same-length t) (lister-same-length-2 t) (lister-returns t) (lister-top-power-requires t) (lister-cut-coeffs-f64-requires t)
     (lister-slice-relend-prefix-list-coeffs-f64 t) (lister-slice-aggregate-list-coeffs-f64 t) (lister-list-coeffs-f64-requires t)
-    (lister-mul-list-coeffs-f64 t) (lister-sub-list-coeffs-f64 t) (lister-part-list-coeffs-f64-start t) (lister-part-list-coeffs-f64-end t)
-    (lister-add-list-coeffs-f64 t) (lister-list-coeffs-f64-requires-2 t) (lister-same-length-3 t) (lister-same-length-4 t) (lister-returns-2 t))
+    (lister-add-list-coeffs-f64 t) (lister-mul-list-coeffs-f64 t) (lister-sub-list-coeffs-f64 t) (lister-part-list-coeffs-f64-start t)
+    (lister-part-list-coeffs-f64-end t) (lister-list-coeffs-f64-requires-2 t) (lister-same-length-3 t) (lister-same-length-4 t) (lister-returns-2 t))
     (λ t.
     slicer.spec
     (slicer-calls t) (slicer-at t) slicer-reads.Post (slicer-sub-degree t) (slicer-listed-again-requires t) (slicer-smaller-split-requires t)

@@ -12,19 +12,20 @@ use lib.Pow.{pow-pos}
 use lib.ListN.{length}
 use Rattle.algebra.specs.Operations.{wholeOps}
 use Rattle.algebra.specs.Cut.{cutAt}
+use Rattle.number.specs.Tests.{degreeOf}
 use Rattle.lists.specs.Tree.{listedAgain}
-use Rattle.lists.proofs.TreeLaws.{Again, again-facts, and-right}
-use Rattle.lists.proofs.Rooms.{sum-by-length-to-52, sum-by-length-low, sum-by-length-high}
-use Rattle.lists.proofs.Steps as steps
-use Rattle.lists.proofs.Steps.{Cutting}
+use Rattle.lists.proofs.TreeRule.{Again, leading-again}
+use Rattle.lists.proofs.SumByLength.{sum-by-length-to-52, sum-by-length-low, sum-by-length-high}
+use Rattle.lists.proofs.ListerCuts as cuts
+use Rattle.lists.proofs.ListerCuts.{Cutting}
 use Rattle.lists.proofs.whole.list_coeffs.Reads as lister-reads
 use Rattle.lists.proofs.whole.list_coeffs.Kinds as lister-kinds
 use Rattle.lists.proofs.whole.+list_coeffs+list_slice.Lts-list_coeffs as lister
 use Rattle.lists.proofs.whole.list_slice.Reads as slicer-reads
 use Rattle.lists.proofs.whole.list_slice.Kinds as slicer-kinds
 use Rattle.lists.proofs.whole.+list_coeffs+list_slice.Lts-list_slice as slicer
-use Rattle.needed.proofs.power_of_two.Reads as power-of-two-reads
-use Rattle.needed.proofs.top_power.Reads as top-power-reads
+use Rattle.number.proofs.power_of_two.Reads as power-of-two-reads
+use Rattle.number.proofs.top_power.Reads as top-power-reads
 use Rattle.lists.proofs.count.listed_again.Reads as listed-again-reads
 use Rattle.lists.proofs.count.smaller_split.Reads as smaller-split-reads
 use Rattle.lists.proofs.whole.cut_coeffs.Reads as cut-coeffs-reads
@@ -32,10 +33,10 @@ use Rattle.lists.proofs.whole.+list_coeffs+list_slice.{statement}
 use Rattle.lists.proofs.whole.+list_coeffs+list_slice.Tie.{close}
 
 abbrev μ-lister : Measures 2 lister-kinds.ps ℕ
-μ-lister κs a = 2 * (length (a .1 .0 .now) * 64 + a .1 .1 .1 .1 .0) + 1
+μ-lister κs a = 2 * (length (a .1 .1 .1 .1 .1 .1 .0 .now) * 64 + a .1 .1 .1 .0) + 1
 
 abbrev μ-slicer : Measures 2 slicer-kinds.ps ℕ
-μ-slicer κs a = 2 * (length (a .1 .0 .now) * 64 + a .1 .1 .1 .1 .0)
+μ-slicer κs a = 2 * (length (a .1 .1 .1 .1 .1 .1 .0 .now) * 64 + a .1 .1 .1 .0)
 
 abbrev lister-at : ℕ → In 2 lister-kinds.ps
 lister-at t =
@@ -80,26 +81,26 @@ module _ (t : ℕ) where
 
   uncut : (top : lister.After-top-power (lister-calls t) (lister-at t) lister-reads.Post)
       → let args = start-of top .args in
-      Cutting wholeOps (args .basis) (args .whole) (args .split) (args .lead) (args .at) (args .n) (args .c .now) (args .bounds .now)
+      Cutting wholeOps (args .leading) (args .basis) (args .whole) (args .split) (args .at) (args .n) (args .c .now) (args .bounds .now)
       (top .top-power .result) (cutAt wholeOps (args .basis) (top .top-power .result) (args .c .now))
-  uncut top = record { ready = start-of top .pre .1 .0; from = omega arith; power = top .top-power .ensures; parted = refl }
+  uncut top = record { listable = start-of top .pre .1 .0; from = omega arith; power = top .top-power .ensures; parted = refl }
 
   cutting : (k : lister.After-cut-coeffs (lister-calls t) (lister-at t) lister-reads.Post)
       → let top = k .before .before in let args = start-of top .args in
-      Cutting wholeOps (args .basis) (args .whole) (args .split) (args .lead) (args .at) (args .n) (args .c .now) (args .bounds .now)
-      (top .top-power .result) (k .cut-coeffs .last .1 .0)
+      Cutting wholeOps (args .leading) (args .basis) (args .whole) (args .split) (args .at) (args .n) (args .c .now) (args .bounds .now)
+      (top .top-power .result) (k .cut-coeffs .last .1 .1 .0)
   cutting k =
       let before = uncut (k .before .before) in
-      record { ready = before .ready; from = before .from; power = before .power; parted = k .cut-coeffs .ensures }
+      record { listable = before .listable; from = before .from; power = before .power; parted = k .cut-coeffs .ensures }
 
   -- the cut behind the first call, and the first call behind the second one's arguments
   abbrev cut-of : lister.After-list-coeffs (lister-calls t) (lister-at t) lister-reads.Post
       → lister.After-cut-coeffs (lister-calls t) (lister-at t) lister-reads.Post
   cut-of low = let lent = low .before .before in lent .before .before
 
-  abbrev first-call : lister.After-list-coeffs-arg4 (lister-calls t) (lister-at t) lister-reads.Post
+  abbrev first-call : lister.After-slice-known3 (lister-calls t) (lister-at t) lister-reads.Post
       → lister.After-list-coeffs (lister-calls t) (lister-at t) lister-reads.Post
-  first-call c = let known = c .before .before in known .before .before .before
+  first-call known = known .before .before .before
 
   lister-power-of-two-requires : lister.Need-power-of-two-requires (lister-calls t) (lister-at t) lister-reads.Post
   lister-power-of-two-requires c κs = search needs
@@ -125,20 +126,20 @@ module _ (t : ℕ) where
   lister-top-power-requires : lister.Need-top-power-requires (lister-calls t) (lister-at t) lister-reads.Post
   lister-top-power-requires c κs =
       let start = c .before .before .before in
-      record { from = omega (arith, pow-pos (start .args .split)); to = omega arith }
+      omega (arith, pow-pos (start .args .split))
 
   lister-cut-coeffs-requires : lister.Need-cut-coeffs-requires (lister-calls t) (lister-at t) lister-reads.Post
   lister-cut-coeffs-requires c κs =
       let k = uncut (c .before) in
-      (steps.under k, (steps.half k, sum-by-length-to-52 _ (omega (arith, steps.positive k, steps.under k)) (start-of (c .before) .pre .1 .1)))
+      (cuts.under k, (cuts.half k, sum-by-length-to-52 _ (omega (arith, cuts.positive k, cuts.under k)) (start-of (c .before) .pre .1 .1)))
 
   lister-slice-relend-prefix-list-coeffs : lister.Need-slice-relend-prefix-list-coeffs (lister-calls t) (lister-at t) lister-reads.Post
   lister-slice-relend-prefix-list-coeffs c =
       let k = cutting (c .before) in
-      omega (arith, steps.under k, steps.same-length k)
+      omega (arith, cuts.under k, cuts.same-length k)
 
   lister-slice-aggregate-list-coeffs : lister.Need-slice-aggregate-list-coeffs (lister-calls t) (lister-at t) lister-reads.Post
-  lister-slice-aggregate-list-coeffs c = sym (steps.low-length (cutting (c .before .before)))
+  lister-slice-aggregate-list-coeffs c = sym (cuts.low-length (cutting (c .before .before)))
 
   lister-list-coeffs-requires : lister.Need-list-coeffs-requires (lister-calls t) (lister-at t) lister-reads.Post
   lister-list-coeffs-requires c κs =
@@ -146,30 +147,30 @@ module _ (t : ℕ) where
       let top = made .before .before in
       let start = start-of top in
       let k = cutting made in (
-        omega (arith, steps.low-length k, steps.under k, start .pre .0),
+        omega (arith, cuts.low-length k, cuts.under k, start .pre .0),
         (
-          steps.ready-low k,
+          cuts.listable-low k,
           rw (k .parted)
-              (sum-by-length-low (start .args .basis) (top .top-power .result) (start .args .c .now) (omega (arith, steps.under k)) (start .pre .1 .1)),
+              (sum-by-length-low (start .args .basis) (top .top-power .result) (start .args .c .now) (omega (arith, cuts.under k)) (start .pre .1 .1)),
         ),
       )
 
   lister-mul-list-coeffs : lister.Need-mul-list-coeffs (lister-calls t) (lister-at t) lister-reads.Post
   lister-mul-list-coeffs c =
-      let k = cutting (cut-of (c .before .before .before)) in
-      omega (arith, steps.under k, k .ready .few)
+      let k = cutting (cut-of (first-call c)) in
+      omega (arith, cuts.under k, k .listable .ends-fit)
 
   lister-sub-list-coeffs : lister.Need-sub-list-coeffs (lister-calls t) (lister-at t) lister-reads.Post
   lister-sub-list-coeffs c =
-      let low = c .before .before .before in
+      let low = first-call c in
       let k = cutting (cut-of low) in
-      omega (arith, steps.under k, steps.joined-length k (low .list-coeffs .ensures) (low .list-coeffs .kept .1 .0))
+      omega (arith, cuts.under k, cuts.joined-length k (low .list-coeffs .ensures) (low .list-coeffs .kept .1 .1 .1 .1 .1 .1 .0))
 
   lister-part-list-coeffs-start : lister.Need-part-list-coeffs-start (lister-calls t) (lister-at t) lister-reads.Post
   lister-part-list-coeffs-start c =
-      let low = c .before .before .before in
+      let low = first-call c in
       let k = cutting (cut-of low) in
-      omega (arith, steps.under k, steps.joined-length k (low .list-coeffs .ensures) (low .list-coeffs .kept .1 .0))
+      omega (arith, cuts.under k, cuts.joined-length k (low .list-coeffs .ensures) (low .list-coeffs .kept .1 .1 .1 .1 .1 .1 .0))
 
   lister-part-list-coeffs-end : lister.Need-part-list-coeffs-end (lister-calls t) (lister-at t) lister-reads.Post
   lister-part-list-coeffs-end c = search needs
@@ -178,21 +179,22 @@ module _ (t : ℕ) where
   lister-add-list-coeffs c =
       let low = first-call c in
       let k = cutting (cut-of low) in
-      omega (arith, steps.under k, k .ready .few)
+      omega (arith, cuts.under k, k .listable .ends-fit)
 
   lister-list-coeffs-requires-2 : lister.Need-list-coeffs-requires-2 (lister-calls t) (lister-at t) lister-reads.Post
   lister-list-coeffs-requires-2 c κs =
-      let low = first-call c in
+      let low = first-call (c .before .before) in
       let made = cut-of low in
       let top = made .before .before in
       let start = start-of top in
       let k = cutting made in
-      let lent = steps.part-is k (low .list-coeffs .ensures) (low .list-coeffs .kept .1 .0) in (
-        omega (arith, ap length lent, steps.high-length k, steps.half k, steps.under k, steps.positive k, start .pre .0),
+      let kept = low .list-coeffs .kept .1 .1 .1 .1 .1 .1 in
+      let lent = cuts.part-is k (low .list-coeffs .ensures) (kept .0) in (
+        omega (arith, ap length lent, cuts.high-length k, cuts.half k, cuts.under k, cuts.positive k, start .pre .0),
         (
-          steps.ready-high k (low .list-coeffs .ensures) (low .list-coeffs .kept .1 .0) (low .list-coeffs .kept .1 .1 .0),
+          cuts.listable-high k (low .list-coeffs .ensures) (kept .0) (kept .1 .0),
           rw (lent, k .parted)
-              (sum-by-length-high (start .args .basis) (top .top-power .result) (start .args .c .now) (omega (arith, steps.under k)) (steps.half k)
+              (sum-by-length-high (start .args .basis) (top .top-power .result) (start .args .c .now) (omega (arith, cuts.under k)) (cuts.half k)
               (start .pre .1 .1)),
         ),
       )
@@ -206,18 +208,20 @@ module _ (t : ℕ) where
   lister-returns-2 : lister.Need-returns-2 (lister-calls t) (lister-at t) lister-reads.Post
   lister-returns-2 c =
       let high = c .before .before .before in
-      let low = first-call (high .before) in
-      steps.left-both (cutting (cut-of low)) (low .list-coeffs .ensures) (low .list-coeffs .kept .1 .0) (high .list-coeffs2 .ensures)
+      let low = first-call (high .before .before .before) in
+      cuts.place-both (cutting (cut-of low)) (low .list-coeffs .ensures) (low .list-coeffs .kept .1 .1 .1 .1 .1 .1 .0) (high .list-coeffs2 .ensures)
 
   -- a slice that the test says is listed again
   told-again : (c : slicer.After-listed-again (slicer-calls t) (slicer-at t) slicer-reads.Post) → c .listed-again .result ≡ true
       → let start = c .before .before in
-      (start .args .lead && listedAgain (start .args .whole) (length (start .args .c .now) - 1) (start .args .split)) ≡ true
+      (start .args .leading && listedAgain (start .args .whole) (degreeOf (start .args .c .now)) (start .args .split)) ≡ true
   told-again c told = sym (c .listed-again .ensures) ∙ told
 
   again : (c : slicer.After-listed-again (slicer-calls t) (slicer-at t) slicer-reads.Post) → c .listed-again .result ≡ true
-      → let start = c .before .before in Again (start .args .whole) (start .args .split) (length (start .args .c .now) - 1)
-  again c told = let start = c .before .before in again-facts _ _ _ (and-right (start .args .lead) _ (told-again c told))
+      → let start = c .before .before in Again (start .args .whole) (degreeOf (start .args .c .now)) (start .args .split)
+  again c told =
+      let start = c .before .before in
+      leading-again (start .args .leading) (start .args .whole) (degreeOf (start .args .c .now)) (start .args .split) (told-again c told)
 
   slicer-sub-degree : slicer.Need-sub-degree (slicer-calls t) (slicer-at t) slicer-reads.Post
   slicer-sub-degree c = search needs
@@ -228,17 +232,17 @@ module _ (t : ℕ) where
   slicer-smaller-split-requires : slicer.Need-smaller-split-requires (slicer-calls t) (slicer-at t) slicer-reads.Post
   slicer-smaller-split-requires c κs =
       let start = c .before .before .before in
-      (again (c .before) (c .if1 .taken) .some, start .pre .1 .0 .ranges .part)
+      record { from = again (c .before) (c .if1 .taken) .positive; to = start .pre .1 .0 .ranges .part-limit }
 
   slicer-list-coeffs-requires : slicer.Need-list-coeffs-requires (slicer-calls t) (slicer-at t) slicer-reads.Post
   slicer-list-coeffs-requires c κs =
       let asked = c .before .before in
       let start = asked .before .before .before .before in
-      let smaller = steps.smaller (start .pre .1 .0) (start .pre .1 .1 .1) (told-again (asked .before .before) (asked .before .if1 .taken)) in (
+      let smaller = cuts.smaller (start .pre .1 .0) (start .pre .1 .1 .1) (told-again (asked .before .before) (asked .before .if1 .taken)) in (
         omega (arith, asked .smaller-split .ensures, start .pre .0),
         (
           rw (asked .smaller-split .ensures)
-              (steps.ready-again (start .pre .1 .0) (start .pre .1 .1 .1) (told-again (asked .before .before) (asked .before .if1 .taken))),
+              (cuts.listable-again (start .pre .1 .0) (start .pre .1 .1 .1) (told-again (asked .before .before) (asked .before .if1 .taken))),
           start .pre .1 .1 .0,
         ),
       )
@@ -254,7 +258,7 @@ module _ (t : ℕ) where
       let call = c .before .before .before in
       let asked = call .before .before .before in
       let start = asked .before .before .before .before in
-      steps.left-again (start .pre .1 .0) (start .pre .1 .1 .1) (told-again (asked .before .before) (asked .before .if1 .taken))
+      cuts.place-again (start .pre .1 .0) (start .pre .1 .1 .1) (told-again (asked .before .before) (asked .before .if1 .taken))
       (rw (asked .smaller-split .ensures) at (call .list-coeffs .ensures))
 
   slicer-add-bounds : slicer.Need-add-bounds (slicer-calls t) (slicer-at t) slicer-reads.Post
@@ -267,7 +271,7 @@ module _ (t : ℕ) where
   slicer-mul-bounds c = search needs
 
   slicer-slice-write-bounds : slicer.Need-slice-write-bounds (slicer-calls t) (slicer-at t) slicer-reads.Post
-  slicer-slice-write-bounds c = steps.room-for-one (c .before .before .before .pre .1 .0)
+  slicer-slice-write-bounds c = cuts.room-for-one (c .before .before .before .pre .1 .0)
 
   slicer-add-result : slicer.Need-add-result (slicer-calls t) (slicer-at t) slicer-reads.Post
   slicer-add-result c = search needs
@@ -278,7 +282,7 @@ module _ (t : ℕ) where
   slicer-returns-2 : slicer.Need-returns-2 (slicer-calls t) (slicer-at t) slicer-reads.Post
   slicer-returns-2 c =
       let start = c .before .before .before in
-      steps.left-slice (start .pre .1 .0) (start .pre .1 .1 .1) (sym (c .before .listed-again .ensures) ∙ c .if1 .left)
+      cuts.place-slice (start .pre .1 .0) (start .pre .1 .1 .1) (sym (c .before .listed-again .ensures) ∙ c .if1 .left)
 
 pub +list-coeffs+list-slice-spec : {M : Type 1} → statement M
 +list-coeffs+list-slice-spec =
@@ -289,8 +293,8 @@ pub +list-coeffs+list-slice-spec : {M : Type 1} → statement M
     lister.spec
     (lister-calls t) (lister-at t) lister-reads.Post (lister-power-of-two-requires t) (lister-sub-degree t) (lister-list-slice-requires t)
     (lister-same-length t) (lister-same-length-2 t) (lister-returns t) (lister-top-power-requires t) (lister-cut-coeffs-requires t)
-    (lister-slice-relend-prefix-list-coeffs t) (lister-slice-aggregate-list-coeffs t) (lister-list-coeffs-requires t) (lister-mul-list-coeffs t)
-    (lister-sub-list-coeffs t) (lister-part-list-coeffs-start t) (lister-part-list-coeffs-end t) (lister-add-list-coeffs t)
+    (lister-slice-relend-prefix-list-coeffs t) (lister-slice-aggregate-list-coeffs t) (lister-list-coeffs-requires t) (lister-add-list-coeffs t)
+    (lister-mul-list-coeffs t) (lister-sub-list-coeffs t) (lister-part-list-coeffs-start t) (lister-part-list-coeffs-end t)
     (lister-list-coeffs-requires-2 t) (lister-same-length-3 t) (lister-same-length-4 t) (lister-returns-2 t))
     (λ t.
     slicer.spec

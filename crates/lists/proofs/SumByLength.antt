@@ -1,9 +1,9 @@
--- The sum of the magnitudes times the number of coefficients is at most 2^53 after every cut too: low has at most the sum, high at most
+-- The sum of the magnitudes times the number of coefficients is at most 2^53 at the start, and after every cut too: low has at most the sum, high at most
 -- twice the sum on at most half the places.
 use mathlib.Core.Path.{_≡_, ap, _∙_}
-use mathlib.Core.List.{List}
-use Prim.Native.Nat.{ℕ, _+_, _*_, _≤_, _^_}
-use native.Mathlib.Nat.{mul-le-mul, mul-le-mul-left, mul-le-mul-right, add-mul, mul-add, le-trans}
+use mathlib.Core.List.{List, [], _∷_}
+use Prim.Native.Nat.{ℕ, suc, _+_, _*_, _≤_, _^_}
+use native.Mathlib.Nat.{mul-le-mul, mul-le-mul-left, mul-le-mul-right, add-mul, mul-add, le-trans, le-mul-of-pos-right}
 use native.Mathlib.Omega.{arith}
 use lib.IntN.{ℤ}
 use lib.ListN.{length, take, drop, length-drop}
@@ -14,9 +14,22 @@ use Rattle.algebra.specs.Magnitude.{sumAbs}
 use Rattle.algebra.specs.declared.Basis.{Basis}
 use Rattle.algebra.proofs.CutPlaces.{cut-length}
 use Rattle.algebra.proofs.CutMagnitudes.{low-magnitude, high-magnitude}
+use Rattle.number.specs.Limits.{planLimit, countLimit, sumLimit}
 use Rattle.number.specs.Exact.{AllTo52}
 use Rattle.number.specs.Room.{SumByLengthTo53}
+use Rattle.number.specs.Tests.{degreeOf}
 use Rattle.number.proofs.Within.{within-sum}
+
+-- of coefficients within the limits: 2^30 times 4,096 is 2^42
+pub sum-by-length-start : (c : List ℤ) → sumAbs c ≤ sumLimit → degreeOf c ≤ planLimit → SumByLengthTo53 c
+unfolding SumByLengthTo53
+sum-by-length-start c small few = let most : length c ≤ countLimit = omega arith in le-trans (mul-le-mul small most) (omega arith)
+
+-- the sum alone
+pub sum-by-length-sum : (c : List ℤ) → SumByLengthTo53 c → sumAbs c ≤ 2 ^ 53
+unfolding SumByLengthTo53 sumAbs
+sum-by-length-sum [] room = omega arith
+sum-by-length-sum (x ∷ c) room = le-trans (le-mul-of-pos-right {m = suc (length c)} (sumAbs (x ∷ c)) (omega arith)) room
 
 -- with two coefficients or more the sum is at most 2^52
 pub sum-by-length-half : (c : List ℤ) → 2 ≤ length c → SumByLengthTo53 c → sumAbs c ≤ 2 ^ 52
