@@ -21,7 +21,7 @@ use Rattle.algebra.proofs.FoldMagnitudes.{abs-addR, sumAbs-everySecond}
 use Rattle.algebra.proofs.Magnitudes.{sumAbs-drop}
 use Rattle.number.specs.Limits.{planLimit, sumLimit}
 use Rattle.number.specs.Exact.{AllTo53}
-use Rattle.number.specs.Room.{SumByLengthTo53}
+use Rattle.number.specs.inside.Room.{SumByLengthTo53}
 use Rattle.number.specs.Tests.{degreeOf}
 use Rattle.number.proofs.Within.{within-append, within-sum}
 use Rattle.lists.specs.Tree.{Tree, leaf, cut, treeOf}

@@ -18,7 +18,7 @@ use Rattle.number.specs.Limits.{planLimit, sumLimit}
 use Rattle.number.specs.Numbers.{wholeNumbers, floatOps, floatNumbers}
 use Rattle.number.specs.Exact.{num}
 use Rattle.number.specs.Refusal.{unlessRefused}
-use Rattle.number.specs.Room.{SumByLengthTo53}
+use Rattle.number.specs.inside.Room.{SumByLengthTo53}
 use Rattle.number.specs.Tests.{degreeOf}
 use Rattle.number.proofs.CutSame.{cuts-same}
 use Rattle.number.proofs.Within.{within-sum}

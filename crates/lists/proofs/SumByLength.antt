@@ -16,7 +16,7 @@ use Rattle.algebra.proofs.CutPlaces.{cut-length}
 use Rattle.algebra.proofs.CutMagnitudes.{low-magnitude, high-magnitude}
 use Rattle.number.specs.Limits.{planLimit, countLimit, sumLimit}
 use Rattle.number.specs.Exact.{AllTo52}
-use Rattle.number.specs.Room.{SumByLengthTo53}
+use Rattle.number.specs.inside.Room.{SumByLengthTo53}
 use Rattle.number.specs.Tests.{degreeOf}
 use Rattle.number.proofs.Within.{within-sum}
 

@@ -11,7 +11,7 @@ use Rattle.number.specs.Limits.{planLimit}
 use Rattle.number.proofs.Bits.{len-above, some-digit, few-digits, top-power, sides-fall}
 use Rattle.counts.specs.Slices.{slicesOf}
 use Rattle.counts.specs.MinDepth.{minDepth}
-use Rattle.counts.proofs.SliceLaws.{slices-one, slices-cut}
+use Rattle.counts.proofs.SliceRule.{slices-one, slices-cut}
 use Rattle.counts.proofs.ChoiceLaws.{depth-range}
 use Rattle.lists.specs.Tree.{Tree, leaf, cut}
 use Rattle.lists.specs.Arrange.{lengthsOf}

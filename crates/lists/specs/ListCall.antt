@@ -1,4 +1,4 @@
--- The list calls (document 01, "Factorising and listing" and "Refusals"): their tests in order, their answer, and what they leave in the buffers.
+-- The list calls (docs/RULES.md, "Factorising and listing" and "Refusals"): their tests in order, their answer, and what they leave in the buffers.
 use mathlib.Core.Path.{_≡_}
 use mathlib.Core.List.{List, [], _∷_}
 use Prim.Native.Nat.{ℕ, _^_}

@@ -1,4 +1,4 @@
--- The lists themselves (document 01, "Steps and the walk"): they stand one after another in the coefficient buffer, and boundary i is the
+-- The lists themselves (docs/RULES.md, "Steps and the walk"): they stand one after another in the coefficient buffer, and boundary i is the
 -- place just past list i.
 use mathlib.Core.Path.{_≡_}
 use mathlib.Core.Bool.{Bool}

@@ -1,4 +1,4 @@
--- What the lists promise of numbers (document 01, "Factorising and listing"): with whole coefficients every number written has magnitude at
+-- What the lists promise of numbers (docs/RULES.md, "Factorising and listing"): with whole coefficients every number written has magnitude at
 -- most 2^53, and the f64 call on the same coefficients writes equal numbers.
 use mathlib.Core.Path.{_≡_}
 use mathlib.Core.Bool.{Bool, true}

@@ -1,4 +1,4 @@
--- The plan tree (document 01, "Factorising and listing"): how a polynomial is cut into lists. It goes by degrees alone, no coefficient matters.
+-- The plan tree (docs/RULES.md, "Factorising and listing"): how a polynomial is cut into lists. It goes by degrees alone, no coefficient matters.
 use mathlib.Core.Bool.{Bool, true, false, _&&_}
 use Prim.Native.Nat.{ℕ, zero, suc, _+_, _-_, _^_}
 use lib.Dec.{ltb}

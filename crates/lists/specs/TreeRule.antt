@@ -1,4 +1,4 @@
--- The rule of the plan tree (document 01, "Factorising and listing"), without a bound on the steps.
+-- The rule of the plan tree (docs/RULES.md, "Factorising and listing"), without a bound on the steps.
 use mathlib.Core.Path.{_≡_}
 use mathlib.Core.Bool.{Bool, true, false, _&&_}
 use Prim.Native.Nat.{ℕ, _-_, _^_, _≤_, _<_}

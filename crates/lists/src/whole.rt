@@ -19,7 +19,7 @@ ghost use Rattle.algebra.specs.Operations.{wholeOps};
 ghost use Rattle.algebra.specs.Cut.{cutAt};
 ghost use Rattle.number.specs.Numbers.{wholeNumbers};
 ghost use Rattle.number.specs.Exact.{AllTo52};
-ghost use Rattle.number.specs.Room.{SumByLengthTo53};
+ghost use Rattle.number.specs.inside.Room.{SumByLengthTo53};
 ghost use Rattle.number.specs.Tests.{degreeOf};
 ghost use Rattle.lists.specs.Tree.{treeOf};
 ghost use Rattle.lists.specs.ListCall.{ListCall};

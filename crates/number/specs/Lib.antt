@@ -7,7 +7,6 @@ pub mod Parity
 pub mod ParityTold
 pub mod Tests
 pub mod Split
-pub mod Room
 pub mod CutSame
 pub mod FoldCall
 pub mod FoldSame

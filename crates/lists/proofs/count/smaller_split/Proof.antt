@@ -7,12 +7,13 @@ use borrow.Author.Tests.{le-ltb, ne-eqb}
 use Rattle.number.specs.Bits.{bitLen}
 use Rattle.counts.specs.MinDepth.{minDepth}
 use Rattle.counts.specs.declared.choice.SplitChoice.{SplitChoice}
+use Rattle.number.specs.Refusal.{unlessRefused}
 use Rattle.counts.specs.Calls.{minDepthCall}
 use Rattle.lists.proofs.count.smaller_split.Statement.{statement}
 use Rattle.lists.proofs.count.smaller_split.Tie as tie
 
 accepted : (d : ℕ) → 1 ≤ d → d ≤ 4294967295 → minDepthCall d ≡ record { refusal = 0; split = minDepth (bitLen d) }
-unfolding minDepthCall
+unfolding minDepthCall unlessRefused
 accepted d some most = rw (le-ltb 4294967295 d most, ne-eqb d 0 (omega arith))
 
 min-depth-split-requires : tie.Need-min-depth-split-requires
