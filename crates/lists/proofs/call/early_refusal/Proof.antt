@@ -1,4 +1,5 @@
--- `lists::call::early_refusal` meets its contract: it makes the definition's tests in the definition's order.
+-- `lists::call::early_refusal` meets its contract: it makes the definition's tests in the definition's order. Each answer is given where the
+-- tests ahead of it failed and its own held, or, for 0, where all failed.
 use mathlib.Core.Path.{_≡_, _∙_}
 use mathlib.Core.Bool.{false}
 use Prim.Native.Nat.{_-_}

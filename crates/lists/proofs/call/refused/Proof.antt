@@ -1,4 +1,5 @@
--- `lists::call::refused` meets its contract: after a refusal every other number is 0.
+-- `lists::call::refused` meets its contract. After a refusal the definition has 0 for the split and for every other number of the answer, and
+-- so has what is written here.
 use Rattle.lists.proofs.Shape.{zero-shape}
 use Rattle.lists.proofs.call.refused.Statement.{statement}
 use Rattle.lists.proofs.call.refused.Tie as tie

@@ -1,5 +1,5 @@
--- `lists::count::listed_again` meets its contract: each early answer is one test of the rule that fails, and the last line is the test on
--- the whole degree, written as a sum.
+-- `lists::count::listed_again` meets its contract. Each early answer is one test of the rule that fails; the last line is the test on the whole
+-- degree, written as a sum. Both powers of two are at most 2^12, so that the sum does not overflow.
 use mathlib.Core.Path.{_≡_, ap, ap₂, sym, _∙_}
 use mathlib.Core.Bool.{true}
 use mathlib.Core.Logic.{⊎-elim}

@@ -1,4 +1,5 @@
--- `lists::float::copy_coeffs_f64` meets its contract: the first i places hold the first i coefficients, and those beyond are as they were.
+-- `lists::float::copy_coeffs_f64` meets its contract. At each turn the first i places hold the first i coefficients, and those beyond are as they
+-- were; at the end i is the number of coefficients.
 use mathlib.Core.Path.{_≡_, refl, _∙_}
 use Prim.Native.Nat.{_≤_, _-_}
 use native.Mathlib.Omega.{arith}

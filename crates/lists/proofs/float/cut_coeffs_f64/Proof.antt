@@ -1,4 +1,5 @@
--- `lists::float::cut_coeffs_f64` meets its contract: Monomial leaves the coefficients as they are, and Chebyshev is the factorisation's own contract.
+-- `lists::float::cut_coeffs_f64` meets its contract. A Monomial cut leaves the coefficients as they are; a Chebyshev cut is the factorisation, whose
+-- contract says the same of that basis.
 use mathlib.Core.Path.{ap, sym, _∙_}
 use borrow.Author.Needs.{needs}
 use Rattle.algebra.specs.Cut.{cutAt}
