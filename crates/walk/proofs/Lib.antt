@@ -1,0 +1,7 @@
+
+mod Options
+mod BoundaryLaws
+pub mod CarryLaw
+pub mod Unrunnable
+pub mod WalksHeld
+pub mod TrialFollows

@@ -1,0 +1,37 @@
+-- What `then`, `when` and `missing` make of an image, and of one another. By cases of what is there.
+use mathlib.Core.Path.{_≡_, refl}
+use mathlib.Core.Bool.{Bool, true, false, not, _||_}
+use mathlib.Core.Option.{Option, some, none}
+use Rattle.walk.specs.Options.{_then_, when, missing, image}
+
+pub then-image : {X X′ Y Y′ : Type 0} (f : X → X′) (h : Y → Y′) (o : Option X) (o′ : Option X′) (g : X → Option Y) (g′ : X′ → Option Y′)
+    → o′ ≡ image f o → ((v : X) → g′ (f v) ≡ image h (g v)) → (o′ then g′) ≡ image h (o then g)
+then-image f h (some v) o′ g g′ e k = rw e (k v)
+then-image f h none o′ g g′ e k = rw e
+
+pub when-image : {Y Y′ : Type 0} (h : Y → Y′) (t : Bool) (o : Option Y) (o′ : Option Y′) → o′ ≡ image h o → when t o′ ≡ image h (when t o)
+when-image h true o o′ e = e
+when-image h false o o′ e = refl
+
+pub missing-image : {A B : Type 0} (f : A → B) (o : Option A) → missing (image f o) ≡ missing o
+missing-image f (some v) = refl
+missing-image f none = refl
+
+pub then-assoc : {X Y Z : Type 0} (o : Option X) (f : X → Option Y) (g : Y → Option Z) → (o then f then g) ≡ (o then λ v. f v then g)
+then-assoc (some v) f g = refl
+then-assoc none f g = refl
+
+-- what comes after is always there
+pub missing-then : {X Y : Type 0} (o : Option X) (f : X → Y) → missing (o then λ v. some (f v)) ≡ missing o
+missing-then (some v) f = refl
+missing-then none f = refl
+
+pub missing-when : {X : Type 0} (t : Bool) (o : Option X) → missing (when t o) ≡ (not t || missing o)
+missing-when true o = refl
+missing-when false o = refl
+
+-- what was found under a test, carried on
+pub lift : {X Y : Type 0} (ok : Bool) (v : X) (f : X → Y) (wanted : Option X) → when ok (some v) ≡ wanted
+    → when ok (some (f v)) ≡ (wanted then λ u. some (f u))
+lift true v f wanted e = rw (← e)
+lift false v f wanted e = rw (← e)

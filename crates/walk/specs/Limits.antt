@@ -1,0 +1,10 @@
+-- The walk's own limits (document 01). The code has them as constants of the same names.
+use Prim.Native.Nat.{ℕ}
+
+-- the most values that wait
+abbrev pub waitingLimit : ℕ
+waitingLimit = 16
+
+-- the greatest trial modulus
+abbrev pub modulusLimit : ℕ
+modulusLimit = 2147483647

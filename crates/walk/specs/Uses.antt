@@ -1,0 +1,44 @@
+-- The powers that a step uses (document 01, "Steps and the walk").
+use mathlib.Core.Bool.{Bool, true, false}
+use mathlib.Core.List.{List, [], _∷_}
+use mathlib.Core.Option.{Option, some, none}
+use Prim.Native.Nat.{ℕ, zero, suc}
+use lib.IntN.{ℤ}
+use Rattle.algebra.specs.Allowed.{allows}
+use Rattle.algebra.specs.Distance.{distanceOf}
+use Rattle.algebra.specs.declared.Basis.{Basis}
+use Rattle.algebra.specs.declared.Basis.the-variants.{Monomial, Chebyshev}
+use Rattle.algebra.specs.declared.Parity.{Parity}
+use Rattle.walk.specs.State.{Lists}
+use Rattle.walk.specs.declared.plan.Step.{Step}
+
+-- the two parts of a power, and in Chebyshev their distance
+abbrev pub partsUsed : Basis → (a b : ℕ) → List ℕ
+partsUsed Monomial a b = a ∷ b ∷ []
+partsUsed Chebyshev a b = a ∷ b ∷ distanceOf a b ∷ []
+
+-- the allowed places of a list from place j on, power 0 being that of its constant
+abbrev pub usedIf : (allowed : Bool) (j : ℕ) → List ℕ → List ℕ
+usedIf true j later = j ∷ later
+usedIf false j later = later
+
+unfoldable pub placesUsed : Parity → (j : ℕ) → List ℤ → List ℕ
+placesUsed parity j [] = []
+placesUsed parity j (c ∷ cs) = usedIf (allows parity j) j (placesUsed parity (suc j) cs)
+
+-- those of a list that may not be there
+abbrev pub listUses : Parity → Option (List ℤ) → List ℕ
+listUses parity (some c) = placesUsed parity 0 c
+listUses parity none = []
+
+-- by kind: a make uses its parts, a load its list's allowed powers, a combine its power
+unfoldable pub usesBy : Parity → Basis → Lists → (kind x y z : ℕ) → List ℕ
+usesBy parity basis lists zero x y z = []
+usesBy parity basis lists (suc zero) x y z = partsUsed basis y z
+usesBy parity basis lists (suc (suc zero)) x y z = listUses parity (lists x)
+usesBy parity basis lists (suc (suc (suc zero))) x y z = x ∷ []
+usesBy parity basis lists (suc (suc (suc (suc zero)))) x y z = x ∷ []
+usesBy parity basis lists (suc (suc (suc (suc (suc kind))))) x y z = []
+
+abbrev pub usesOf : Parity → Basis → Lists → Step → List ℕ
+usesOf parity basis lists step = usesBy parity basis lists (step .kind) (step .x) (step .y) (step .z)

@@ -1,0 +1,5 @@
+// A number, or none.
+pub enum Found {
+    Number(u64),
+    Missing,
+}
