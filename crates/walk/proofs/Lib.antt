@@ -1,4 +1,3 @@
-
 mod Options
 mod BoundaryLaws
 pub mod CarryLaw

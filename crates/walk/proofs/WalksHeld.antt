@@ -12,7 +12,7 @@ use lib.ListN.{length, take, drop, getD, length-append}
 use lib.Seq.{take-at, drop-at}
 use Rattle.walk.specs.Boundaries.{rises, partOf, listAt}
 use Rattle.walk.specs.Lent.{stepAt, stepsFrom, lentSteps, lentWalk}
-use Rattle.walk.specs.Joined.{joined, endsFrom}
+use Rattle.lists.specs.Lists.{joined, endsFrom}
 use Rattle.walk.specs.WalksHeld.{flat, Filled, more, numbered, WalksHeld}
 use Rattle.walk.specs.declared.plan.Step.{Step}
 use Rattle.walk.proofs.BoundaryLaws.{before}

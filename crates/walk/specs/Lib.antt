@@ -13,6 +13,5 @@ pub mod Uses
 pub mod Unrunnable
 pub mod CarryLaw
 pub mod TrialFollows
-pub mod Joined
 pub mod WalksHeld
 pub mod inside

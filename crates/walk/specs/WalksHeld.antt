@@ -12,7 +12,7 @@ use Rattle.walk.specs.Rules.{Rules}
 use Rattle.walk.specs.State.{Lists}
 use Rattle.walk.specs.Walk.{walkOf}
 use Rattle.walk.specs.Lent.{lentWalk}
-use Rattle.walk.specs.Joined.{joined, endsFrom}
+use Rattle.lists.specs.Lists.{joined, endsFrom}
 use Rattle.walk.specs.declared.plan.Step.{Step}
 use Rattle.walk.specs.declared.plan.Head.{Head}
 

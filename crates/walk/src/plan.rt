@@ -1,4 +1,5 @@
 // A lent plan: its head, and its steps of four numbers each.
+use counts::SplitStrategy;
 use number::Basis;
 use number::Parity;
 use number::PolynomialInputTransform;
@@ -6,6 +7,7 @@ use number::PolynomialInputTransform;
 pub struct Head {
     pub basis: Basis,
     pub parity: Parity,
+    pub strategy: SplitStrategy,
     pub transform: PolynomialInputTransform,
     pub degree: usize,
     pub base: usize,
