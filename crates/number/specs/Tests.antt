@@ -1,7 +1,7 @@
 -- The tests behind each refusal number (docs/RULES.md, "Refusals"), each once. A call's refusal is a list of them in the order of its table.
 use mathlib.Core.Bool.{Bool, true, false, not, _||_}
 use mathlib.Core.List.{List, [], _∷_}
-use Prim.Native.Nat.{ℕ, _-_}
+use Prim.Native.Nat.{ℕ, _-_, _*_}
 use lib.Dec.{ltb, eqb}
 use lib.ListN.{length}
 use lib.Ieee.{Float, lt}
@@ -77,6 +77,10 @@ noRoom room coefficients = (ltb room coefficients, 21)
 -- 22: a boundary buffer shorter than the number of lists
 abbrev pub noBoundaries : (room lists : ℕ) → Test
 noBoundaries room lists = (ltb room lists, 22)
+
+-- 23: a step buffer shorter than four numbers a step
+abbrev pub noSteps : (room steps : ℕ) → Test
+noSteps room steps = (ltb room (4 * steps), 23)
 
 -- ---- the tests of a fold
 

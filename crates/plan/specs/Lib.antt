@@ -1,0 +1,4 @@
+pub mod PlanSteps
+pub mod Reported
+pub mod PlanHead
+pub mod PlanCall
