@@ -343,6 +343,37 @@ impl<W: Write> Recorder<W> {
         });
     }
 
+    /// The remainder of a polynomial's value at a point. No published function answers it: it is worked out here.
+    #[allow(clippy::too_many_arguments)]
+    pub fn plan_value(
+        &mut self,
+        basis: Basis,
+        parity: Parity,
+        strategy: SplitStrategy,
+        fold: bool,
+        point: i64,
+        modulus: u64,
+        c: &[f64],
+    ) {
+        self.begin("plan_value", Form::Bits);
+        self.form = Form::Whole;
+        self.setting(basis, parity, strategy);
+        self.field(if fold { 'Y' } else { 'N' });
+        self.field(point);
+        self.field(modulus);
+        self.list(c);
+        self.end(Some(value_mod(basis, c, point, modulus)), |r, v| r.field(v));
+    }
+
+    /// A line that was written by hand.
+    pub fn by_hand(&mut self, line: &str) {
+        self.line.clear();
+        self.line.push_str(line);
+        self.line.push('\n');
+        self.out.write_all(self.line.as_bytes()).expect("recording");
+        self.lines += 1;
+    }
+
     fn setting(&mut self, basis: Basis, parity: Parity, strategy: SplitStrategy) {
         self.field(basis_letter(basis));
         self.field(parity_letter(parity));
@@ -353,4 +384,26 @@ impl<W: Write> Recorder<W> {
         self.field(lists.len());
         lists.iter().for_each(|list| self.list(list));
     }
+}
+
+/// The sum of c_j times power j at the point, modulo `modulus`: exact, since every product of two remainders is below 2^62.
+fn value_mod(basis: Basis, c: &[f64], point: i64, modulus: u64) -> u64 {
+    let m = modulus as i128;
+    let x = (point as i128).rem_euclid(m);
+    let factor = match basis {
+        Basis::Monomial => x,
+        Basis::Chebyshev => 2 * x % m,
+    };
+    // The powers j and j + 1.
+    let (mut power, mut next) = (1 % m, x);
+    let mut sum = 0;
+    for &c in c {
+        sum = (sum + (c as i128).rem_euclid(m) * power) % m;
+        let later = match basis {
+            Basis::Monomial => factor * next % m,
+            Basis::Chebyshev => (factor * next - power).rem_euclid(m),
+        };
+        (power, next) = (next, later);
+    }
+    sum as u64
 }

@@ -5,7 +5,7 @@ use std::path::Path;
 
 use crate::calls::{BASES, Basis, Form, PARITIES, Parity, STRATEGIES, SplitStrategy};
 use crate::inputs::*;
-use crate::{Rec, recording};
+use crate::{Rec, damaged, recording};
 
 const SEED: u64 = 1;
 const FEW: [f64; 4] = [0.0, -0.0, 1.0, f64::NAN];
@@ -31,7 +31,11 @@ pub fn record(dir: &Path) {
         lists(r);
         folded(r);
     });
-    recording(dir, "plans.tsv", folded_whole);
+    recording(dir, "plans.tsv", |r| {
+        folded_whole(r);
+        plan_values(r);
+        damaged::plans(r);
+    });
 }
 
 /// Every part starts from a seed of its own, so a change of one leaves the others alone.
@@ -448,6 +452,60 @@ fn lists_whole(r: &mut Rec) {
             );
         }
     }
+}
+
+/// Plans of every short degree in every setting, and at the ends of bands and powers of two, each at a point and a modulus.
+fn plan_values(r: &mut Rec) {
+    let g = &mut rng(12);
+    for degree in 1..=66 {
+        plan_values_of(r, g, degree, 19);
+    }
+    for degree in near_ends() {
+        let (basis, strategy) = (g.pick(&BASES), g.pick(&STRATEGIES));
+        let parity = g.pick(&PARITIES);
+        let fold = parity != Parity::Full && g.one_in(2);
+        plan_value(r, g, basis, parity, strategy, fold, degree, 3);
+    }
+}
+
+/// One degree in every setting in which it is accepted.
+pub fn plan_values_of(r: &mut Rec, g: &mut Rng, degree: usize, most: usize) {
+    for basis in BASES {
+        for parity in PARITIES {
+            for strategy in STRATEGIES {
+                plan_value(r, g, basis, parity, strategy, false, degree, most);
+                let least = if parity == Parity::Even { 2 } else { 3 };
+                if parity != Parity::Full && degree >= least {
+                    plan_value(r, g, basis, parity, strategy, true, degree, most);
+                }
+            }
+        }
+    }
+}
+
+/// Whole coefficients below `most` in magnitude, or, of a short polynomial now and then, with the greatest sum.
+#[allow(clippy::too_many_arguments)]
+fn plan_value(
+    r: &mut Rec,
+    g: &mut Rng,
+    basis: Basis,
+    parity: Parity,
+    strategy: SplitStrategy,
+    fold: bool,
+    degree: usize,
+    most: usize,
+) {
+    let c = if degree < 32 && g.one_in(4) {
+        spread(g, parity, degree + 1, MAX_SUM)
+    } else {
+        let small = (0..=degree).map(|_| g.below(most) as f64 - (most / 2) as f64);
+        shape_whole(parity, small.collect())
+    };
+    let any = g.next() as i64;
+    let point = g.pick(&[0, 1, -1, 2, -3, 7, i64::MIN, i64::MAX, any]);
+    let random = 2 + g.below(2_147_483_646) as u64;
+    let modulus = g.pick(&[2, 3, 97, 65_537, 2_147_483_647, random]);
+    r.plan_value(basis, parity, strategy, fold, point, modulus, &c);
 }
 
 fn folded_whole(r: &mut Rec) {

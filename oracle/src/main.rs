@@ -1,6 +1,7 @@
 //! Records what the published planner answers, one call a line; README.md has the format.
 
 mod calls;
+mod damaged;
 mod gate;
 mod inputs;
 mod large;
