@@ -107,7 +107,7 @@ fn line(plan: &Plan, point: i64, modulus: u64, refusal: u8, remainder: u64) -> S
 
 pub fn plans(r: &mut Rec) {
     // A modulus outside 2 to 2,147,483,647 is 11, whatever the plan.
-    for modulus in [0, 1, 2_147_483_648, u64::MAX] {
+    for modulus in [0, 1, 2_147_483_648, 999_999_999_999_999_999] {
         r.by_hand(&line(&sound(), 2, modulus, 11, 0));
     }
     for (point, modulus, remainder) in [(2, 100, 29), (2, 2, 1), (-1, 7, 3), (0, 2_147_483_647, 1)] {

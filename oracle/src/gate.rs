@@ -8,6 +8,7 @@ use crate::inputs::*;
 use crate::{Rec, damaged, recording};
 
 const SEED: u64 = 1;
+const MAX_POINT: i64 = 999_999_999_999_999_999;
 const FEW: [f64; 4] = [0.0, -0.0, 1.0, f64::NAN];
 const SIGNS: [f64; 3] = [-1.0, 0.0, 1.0];
 /// The examples that the scope works out: degrees 5 and 3.
@@ -501,8 +502,9 @@ fn plan_value(
         let small = (0..=degree).map(|_| g.below(most) as f64 - (most / 2) as f64);
         shape_whole(parity, small.collect())
     };
-    let any = g.next() as i64;
-    let point = g.pick(&[0, 1, -1, 2, -3, 7, i64::MIN, i64::MAX, any]);
+    // A recording's numbers have at most 18 digits.
+    let any = g.next() as i64 % 1_000_000_000_000_000_000;
+    let point = g.pick(&[0, 1, -1, 2, -3, 7, MAX_POINT, -MAX_POINT, any]);
     let random = 2 + g.below(2_147_483_646) as u64;
     let modulus = g.pick(&[2, 3, 97, 65_537, 2_147_483_647, random]);
     r.plan_value(basis, parity, strategy, fold, point, modulus, &c);
