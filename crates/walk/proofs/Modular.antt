@@ -1,0 +1,39 @@
+-- Remainders may be taken before a sum or a product as well, and then nothing wraps.
+use mathlib.Core.Path.{_≡_, sym, _∙_}
+use Prim.Native.Nat.{ℕ, _+_, _-_, _*_, _%_, _^_, _≤_, _<_}
+use native.Mathlib.Nat.{mod-lt, mod-eq-of-lt, add-mod, mod-add-mod, mul-le-mul-left}
+use native.Mathlib.Omega.{arith}
+use Rattle.algebra.specs.Operations.{double}
+use Rattle.algebra.proofs.Remainders.{mod-mul-mod, mul-mod-mod}
+use Rattle.algebra.specs.Remainder.{remainders}
+use Rattle.walk.specs.Limits.{modulusLimit}
+use Rattle.walk.specs.inside.Arrays.{IsModulus}
+
+pub below : (a : ℕ) {m : ℕ} → IsModulus m → a % m < m
+below a h = mod-lt a (omega arith)
+
+-- a product of two remainders fits
+pub product-fits : (a b : ℕ) {m : ℕ} → IsModulus m → (a % m) * (b % m) < 2 ^ 64
+product-fits a b {m} h =
+    let p = below a h in
+    let q = below b h in
+    let u : (a % m) * (b % m) ≤ (a % m) * modulusLimit = mul-le-mul-left (a % m) (omega arith) in
+    omega arith
+
+pub mul-reduced : (a b m : ℕ) → ((a % m) * (b % m)) % m ≡ (a * b) % m
+mul-reduced a b m = mod-mul-mod a (b % m) m ∙ mul-mod-mod a b m
+
+pub add-reduced : (a b m : ℕ) → (a % m + b % m) % m ≡ (a + b) % m
+add-reduced a b m = sym (add-mod a b m)
+
+pub twice : (a : ℕ) {m : ℕ} → IsModulus m → (2 * a) % m ≡ double (remainders m) a
+twice a {m} h =
+    let e : 1 % m ≡ 1 = mod-eq-of-lt (omega arith) in
+    rw e (sym (mod-mul-mod 2 a m))
+
+-- a difference, by whether the second number is below m
+pub sub-below : (a b m : ℕ) → (a % m + (m - b)) % m ≡ remainders m .sub a b
+sub-below a b m = mod-add-mod a m (m - b)
+
+pub sub-above : (a b m : ℕ) → m ≤ b → a % m ≡ remainders m .sub a b
+sub-above a b m h = let e : a + (m - b) ≡ a = omega arith in rw e
