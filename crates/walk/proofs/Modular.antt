@@ -1,5 +1,5 @@
 -- Remainders may be taken before a sum or a product as well, and then nothing wraps.
-use mathlib.Core.Path.{_≡_, sym, _∙_}
+use mathlib.Core.Path.{_≡_, sym, _∙_, ap₂}
 use Prim.Native.Nat.{ℕ, _+_, _-_, _*_, _%_, _^_, _≤_, _<_}
 use native.Mathlib.Nat.{mod-lt, mod-eq-of-lt, add-mod, mod-add-mod, mul-le-mul-left}
 use native.Mathlib.Omega.{arith}
@@ -31,9 +31,6 @@ twice a {m} h =
     let e : 1 % m ≡ 1 = mod-eq-of-lt (omega arith) in
     rw e (sym (mod-mul-mod 2 a m))
 
--- a difference, by whether the second number is below m
-pub sub-below : (a b m : ℕ) → (a % m + (m - b)) % m ≡ remainders m .sub a b
-sub-below a b m = mod-add-mod a m (m - b)
-
-pub sub-above : (a b m : ℕ) → m ≤ b → a % m ≡ remainders m .sub a b
-sub-above a b m h = let e : a + (m - b) ≡ a = omega arith in rw e
+-- b is taken away by adding m - b
+pub taken-away : (b m : ℕ) {r t s a : ℕ} → r ≡ remainders m .add t s → t ≡ a → s ≡ m - b → r ≡ remainders m .sub a b
+taken-away b m r-is t-is s-is = r-is ∙ ap₂ (remainders m .add) t-is s-is

@@ -1,7 +1,8 @@
 // The powers that were made: 4,096 numbers, and marks of which are there.
 use crate::limits::POWERS;
+use crate::remainder::add_mod;
 use crate::remainder::mul_mod;
-use crate::remainder::sub_mod;
+use crate::remainder::opposite;
 use crate::remainder::twice_mod;
 use number::Basis;
 use number::PLAN_LIMIT;
@@ -80,7 +81,8 @@ fn power_from(
             let Found::Number(w) = power_at(distance(a, b), powers, made) else {
                 return Found::Missing;
             };
-            Found::Number(sub_mod(twice_mod(product, m), w, m))
+            let less = opposite(w, m);
+            Found::Number(add_mod(twice_mod(product, m), less, m))
         }
     }
 }

@@ -1,5 +1,6 @@
 // Remainders modulo m, and their operations. They ask no range of what they are handed.
 ghost use mathlib.Core.Path.{_≡_};
+ghost use Prim.Native.Nat.{_-_};
 ghost use Rattle.algebra.specs.Operations.{double};
 ghost use Rattle.algebra.specs.Remainder.{rem, remainders};
 ghost use Rattle.walk.specs.inside.Arrays.{IsModulus};
@@ -31,12 +32,11 @@ pub fn mul_mod(a: u64, b: u64, m: u64) -> u64
     (a % m) * (b % m) % m
 }
 
-// a less b, a remainder: m is added first.
-pub fn sub_mod(a: u64, b: u64, m: u64) -> u64
-    requires { ⌜ IsModulus m ⌝ }
-    ensures { λ r. ⌜ r ≡ remainders m .sub a b ⌝ }
+// What is added to take a remainder b away.
+pub fn opposite(b: u64, m: u64) -> u64
+    ensures { λ r. ⌜ r ≡ m - b ⌝ }
 {
-    if b < m { (a % m + (m - b)) % m } else { a % m }
+    if b < m { m - b } else { 0 }
 }
 
 pub fn twice_mod(a: u64, m: u64) -> u64

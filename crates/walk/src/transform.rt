@@ -1,6 +1,7 @@
 // What a transform does to the point and to the value that is left.
+use crate::remainder::add_mod;
 use crate::remainder::mul_mod;
-use crate::remainder::sub_mod;
+use crate::remainder::opposite;
 use crate::remainder::twice_mod;
 use number::PolynomialInputTransform;
 ghost use mathlib.Core.Path.{_≡_};
@@ -14,7 +15,9 @@ fn second_chebyshev(x: u64, m: u64) -> u64
     requires { ⌜ IsModulus m ⌝ }
     ensures { λ r. ⌜ r ≡ remainders m .sub (double (remainders m) (remainders m .mul x x)) (remainders m .one) ⌝ }
 {
-    sub_mod(twice_mod(mul_mod(x, x, m), m), 1 % m, m)
+    let one = 1 % m;
+    let less = opposite(one, m);
+    add_mod(twice_mod(mul_mod(x, x, m), m), less, m)
 }
 
 // y is x, x² or 2x² - 1 by transform.

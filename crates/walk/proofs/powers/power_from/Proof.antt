@@ -11,6 +11,7 @@ use Rattle.walk.specs.inside.Arrays.{found, powersOf}
 use Rattle.algebra.specs.Remainder.{remainders}
 use Rattle.walk.specs.Rules.{trialRules}
 use Rattle.walk.specs.Make.{powerFrom}
+use Rattle.walk.proofs.Modular.{taken-away}
 use Rattle.walk.proofs.PowerLaws.{no-first, no-second, monomial-product, no-third, chebyshev-product}
 use Rattle.walk.proofs.powers.power_from.Statement.{statement}
 use Rattle.walk.proofs.powers.power_from.Tie as tie
@@ -95,11 +96,14 @@ returns-3 c =
     (ap powers (sym (at-distance .distance .ensures)) ∙ sym (at-power-at3 .power-at3 .ensures .is) ∙ ap found (c .enum-told5 .given .1))
     ∙ ap (λ (basis : Basis). powerFrom 𝓡 basis powers (a .a) (a .b)) (sym (at-enum-told4 .enum-told4 .given .1))
 
+opposite-requires : tie.Need-opposite-requires
+opposite-requires c κs = search needs
+
 twice-mod-requires : tie.Need-twice-mod-requires
 twice-mod-requires c κs = search needs
 
-sub-mod-requires : tie.Need-sub-mod-requires
-sub-mod-requires c κs = search needs
+add-mod-requires : tie.Need-add-mod-requires
+add-mod-requires c κs = search needs
 
 returns-4 : tie.Need-returns-4
 returns-4 c =
@@ -116,7 +120,8 @@ returns-4 c =
 
 returns-5 : tie.Need-returns-5
 returns-5 c =
-    let at-w = c .before .before .before in
+    let at-opposite = c .before .before in
+    let at-w = at-opposite .before .before in
     let at-power-at3 = at-w .before .before in
     let at-distance = at-power-at3 .before in
     let at-enum-told4 = at-distance .before in
@@ -127,8 +132,8 @@ returns-5 c =
     let a = entry .args in
     let 𝓡 = trialRules (a .m) in
     let powers = powersOf (now (a .powers)) (now (a .made)) in
-    ap some (c .sub-mod .ensures ∙ ap (λ (t : ℕ). remainders (a .m) .sub t (at-w .w .given .0 .0))
-    (c .before .twice-mod .ensures ∙ ap (double (remainders (a .m))) (at-mul-mod .mul-mod .ensures)))
+    ap some (taken-away (at-w .w .given .0 .0) (a .m) (c .add-mod .ensures) (c .before .twice-mod .ensures ∙ ap (double (remainders (a .m))) (at-mul-mod .mul-mod .ensures))
+    (at-opposite .opposite .ensures))
     ∙ chebyshev-product 𝓡 powers (a .a) (a .b) _ _ _ (first at-known-told) (second at-known-told2)
     (ap powers (sym (at-distance .distance .ensures)) ∙ sym (at-power-at3 .power-at3 .ensures .is) ∙ ap found (at-w .w .given .1))
     ∙ ap (λ (basis : Basis). powerFrom 𝓡 basis powers (a .a) (a .b)) (sym (at-enum-told4 .enum-told4 .given .1))
@@ -153,7 +158,8 @@ power-from-spec =
     enum-known-w
     enum-told-5
     returns-3
+    opposite-requires
     twice-mod-requires
-    sub-mod-requires
+    add-mod-requires
     returns-4
     returns-5)
