@@ -1,13 +1,13 @@
-mod Options
+pub mod Options
 mod Modular
 mod SignedParts
-mod StackLaws
-mod PowerLaws
-mod SumLaws
-mod BoundaryLaws
-mod StepLaws
-mod RunLaws
-mod LentLaws
+pub mod PowerLaws
+pub mod SumLaws
+pub mod StackLaws
+pub mod BoundaryLaws
+pub mod StepLaws
+pub mod RunLaws
+pub mod LentLaws
 pub mod CarryLaw
 pub mod Unrunnable
 pub mod WalksHeld

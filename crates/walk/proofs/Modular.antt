@@ -1,13 +1,13 @@
 -- Remainders may be taken before a sum or a product as well, and then nothing wraps.
 use mathlib.Core.Path.{_≡_, sym, _∙_, ap₂}
 use Prim.Native.Nat.{ℕ, _+_, _-_, _*_, _%_, _^_, _≤_, _<_}
-use native.Mathlib.Nat.{mod-lt, mod-eq-of-lt, add-mod, mod-add-mod, mul-le-mul-left}
+use native.Mathlib.Nat.{mod-lt, mod-eq-of-lt, add-mod, mul-le-mul-left}
 use native.Mathlib.Omega.{arith}
 use Rattle.algebra.specs.Operations.{double}
-use Rattle.algebra.proofs.Remainders.{mod-mul-mod, mul-mod-mod}
 use Rattle.algebra.specs.Remainder.{remainders}
 use Rattle.walk.specs.Limits.{modulusLimit}
 use Rattle.walk.specs.inside.Arrays.{IsModulus}
+use Rattle.algebra.proofs.Remainders.{mod-mul-mod, mul-mod-mod}
 
 pub below : (a : ℕ) {m : ℕ} → IsModulus m → a % m < m
 below a h = mod-lt a (omega arith)

@@ -6,34 +6,34 @@ use mathlib.Core.Option.{some, none}
 use Prim.Native.Nat.{ℕ, _≤_, _<_}
 use native.Mathlib.Decide.{ℕ-discrete}
 use native.Mathlib.Omega.{arith}
-use borrow.Author.Tests.{eq-eqb, ne-eqb, lt-ltb, le-ltb, le-leb, lt-leb, leb-true}
-use lib.Dec.{eqb, leb, ltb}
+use borrow.Author.Tests.{eq-eqb, ne-eqb, le-leb, lt-leb, leb-true}
+use lib.Dec.{eqb, leb}
 use lib.ListN.{length, getD, set}
 use lib.Seq.{getD-set-same, getD-set-other}
+use Rattle.algebra.specs.Distance.{distanceOf}
 use Rattle.algebra.specs.declared.Basis.{Basis}
 use Rattle.algebra.specs.declared.Basis.the-variants.{Monomial, Chebyshev}
 use Rattle.number.specs.Limits.{planLimit}
 use Rattle.number.specs.Split.{splitOf}
 use Rattle.number.specs.declared.split.Parts.{Parts}
-use Rattle.algebra.specs.Distance.{distanceOf}
 use Rattle.walk.specs.State.{Powers}
 use Rattle.walk.specs.Rules.{Rules}
 use Rattle.walk.specs.Make.{isMakeable, withPower, powerFrom, makeOf}
 use Rattle.walk.specs.inside.Arrays.{powersOf}
 
 module _ (powers : List ℕ) (made : List Bool) (n : ℕ) where
-  pub look-made : getD made n false ≡ true → powersOf powers made n ≡ some (getD powers n 0)
+  pub powers-made : getD made n false ≡ true → powersOf powers made n ≡ some (getD powers n 0)
   unfolding powersOf
-  look-made e = rw e
+  powers-made e = rw e
 
-  pub look-missing : getD made n false ≡ false → powersOf powers made n ≡ none
+  pub powers-missing : getD made n false ≡ false → powersOf powers made n ≡ none
   unfolding powersOf
-  look-missing e = rw e
+  powers-missing e = rw e
 
   -- a power is made
-  pub look-set : (v : ℕ) → n < length powers → n < length made → powersOf (set powers n v) (set made n true) ≡ withPower n v (powersOf powers made)
+  pub powers-set : (v : ℕ) → n < length powers → n < length made → powersOf (set powers n v) (set made n true) ≡ withPower n v (powersOf powers made)
   unfolding withPower powersOf
-  look-set v h g = fun-ext (λ m. at m (ℕ-discrete m n))
+  powers-set v h g = fun-ext (λ m. at m (ℕ-discrete m n))
     where
       at : (m : ℕ) → Dec (m ≡ n) → powersOf (set powers n v) (set made n true) m ≡ withPower n v (powersOf powers made) m
       at m (yes e) = rw (eq-eqb m n e, e, getD-set-same made n true false g, getD-set-same powers n v 0 h)

@@ -1,14 +1,12 @@
 -- A run of steps, from step i on, and its start.
 use mathlib.Core.Path.{_≡_, refl, sym, _∙_, ap, fun-ext}
 use mathlib.Core.List.{List, [], _∷_}
-use borrow.Author.Tests.{not-true, not-false}
-use Rattle.walk.specs.declared.plan.Step.{Step}
-use Rattle.walk.specs.declared.waiting.Turn.{Turn}
 use mathlib.Core.Bool.{Bool, not, true, false}
 use mathlib.Core.Option.{Option, some, none}
 use Prim.Native.Nat.{ℕ, zero, suc, _+_, _-_, _≤_, _<_}
 use native.Mathlib.Numerals.{add-one}
 use native.Mathlib.Omega.{arith}
+use borrow.Author.Tests.{not-true, not-false}
 use lib.ListN.{getD, replicate}
 use Rattle.algebra.specs.declared.Basis.{Basis}
 use Rattle.algebra.specs.declared.Parity.{Parity}
@@ -30,11 +28,11 @@ getD-replicate d zero n = refl
 getD-replicate d (suc k) zero = refl
 getD-replicate d (suc k) (suc n) = getD-replicate d k n
 
-pub look-first : (𝓡 : Rules ℕ) (n y : ℕ) → 2 ≤ n → powersOf (firstNumbers n (𝓡 .one) y) (firstMarks n) ≡ firstPowers 𝓡 y
+pub powers-first : (𝓡 : Rules ℕ) (n y : ℕ) → 2 ≤ n → powersOf (firstNumbers n (𝓡 .one) y) (firstMarks n) ≡ firstPowers 𝓡 y
 unfolding powersOf firstPowers
-look-first 𝓡 zero y h = absurd (omega arith)
-look-first 𝓡 (suc zero) y h = absurd (omega arith)
-look-first 𝓡 (suc (suc k)) y h = fun-ext at
+powers-first 𝓡 zero y h = absurd (omega arith)
+powers-first 𝓡 (suc zero) y h = absurd (omega arith)
+powers-first 𝓡 (suc (suc k)) y h = fun-ext at
   where
     at : (m : ℕ) → powersOf (firstNumbers (suc (suc k)) (𝓡 .one) y) (firstMarks (suc (suc k))) m ≡ firstPowers 𝓡 y m
     at zero = refl

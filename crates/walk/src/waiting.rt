@@ -6,7 +6,6 @@ use crate::remainder::mul_mod;
 ghost use mathlib.Core.Path.{_≡_};
 ghost use mathlib.Core.List.{[]};
 ghost use mathlib.Core.Option.{none};
-ghost use Prim.Native.Nat.{ℕ};
 ghost use Rattle.walk.specs.Rules.{trialRules};
 ghost use Rattle.walk.specs.Load.{pushOf};
 ghost use Rattle.walk.specs.Combine.{joinOf};

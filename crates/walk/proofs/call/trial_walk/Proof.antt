@@ -1,8 +1,9 @@
--- `walk::call::trial_walk` meets its contract: the modulus is tested first, from both sides; then the answer is that of the walk of the lent plan.
+-- `walk::call::trial_walk` meets its contract. The two tests are the two sides of test 11, made first. Past them the answer is that of the
+-- walk of the lent plan: a number is its remainder, and none is 24.
 use mathlib.Core.Path.{_≡_, sym, _∙_, ap}
+use borrow.Author.Needs.{needs}
 use mir.Facts.{toZ-ofZ}
 use denote.Ref.{now}
-use borrow.Author.Needs.{needs}
 use Rattle.walk.specs.Rules.{trialRules}
 use Rattle.walk.specs.Lent.{lentWalk}
 use Rattle.walk.specs.Trial.{trialWalk}

@@ -1,5 +1,5 @@
--- `walk::call::walk_lent` meets its contract. Each test is one of the definition; past them the steps run on parts of the buffers, which are what the
--- definition takes of them, and on the point's remainder.
+-- `walk::call::walk_lent` meets its contract. Each test is one of the definition. Past them the steps run on parts of the buffers, which
+-- are what the definition takes of them, and on the remainder of the point; the transform does the rest as the rules do.
 use mathlib.Core.Path.{_≡_, sym, _∙_, ap}
 use mathlib.Core.Bool.{true}
 use mathlib.Core.Option.{some}
@@ -11,9 +11,9 @@ use lib.ListN.{length, take}
 use lib.Seq.{length-take-le}
 use mir.Facts.{toZ-ofZ}
 use denote.Ref.{now}
-use Rattle.walk.specs.Lent.{lentLists, lentSteps, boundsRise}
 use Rattle.algebra.specs.Remainder.{rem, remainders}
 use Rattle.algebra.specs.Transform.{inputOf, outputOf}
+use Rattle.walk.specs.Lent.{lentLists, lentSteps, boundsRise}
 use Rattle.walk.specs.Rules.{trialRules}
 use Rattle.walk.specs.Boundaries.{rises}
 use Rattle.walk.specs.Walk.{walkOf}
@@ -22,32 +22,38 @@ use Rattle.walk.proofs.LentLaws.{Counts, few-coefficients, few-bounds, 
 use Rattle.walk.proofs.call.walk_lent.Statement.{statement}
 use Rattle.walk.proofs.call.walk_lent.Tie as tie
 
+-- where the call begins, seen from past its third and its fourth test
+abbrev from-third : tie.Else3 → tie.Start
+from-third k = k .before .before .before .before .before
+
+abbrev from-fourth : tie.Else4 → tie.Start
+from-fourth k = from-third (k .before .before .before)
+
 -- past the first three tests the counts are within their buffers
-fits : (k : tie.Else3) → let a = k .before .before .before .before .before .args in Counts (a .head) (length (now (a .coefficients)))
-    (length (now (a .bounds))) (length (now (a .steps)))
+fits : (k : tie.Else3) → let a = from-third k .args in
+    Counts (a .head) (length (now (a .coefficients))) (length (now (a .bounds))) (length (now (a .steps)))
 fits k = record { coefficients = k .before .before .if1 .left; lists = k .before .if2 .left; steps = k .if3 .left }
 
 -- past the fourth the boundaries rise
-rising : (k : tie.Else4) → let a = k .before .before .before .before .before .before .before .before .args in boundsRise (a .head)
-    (now (a .bounds)) ≡ true
+rising : (k : tie.Else4) → let a = from-fourth k .args in boundsRise (a .head) (now (a .bounds)) ≡ true
 rising k = sym (k .before .bounds-rise .ensures) ∙ not-false _ (k .if4 .left)
 
 -- the point's remainder
-reduced : (k : tie.After-remainder-of) → let a = k .before .before .before .before .before .before .before .before .before .args in k .remainder-of .result
-    ≡ rem (a .m) (a .point)
-reduced k = k .remainder-of .ensures ∙ ap (rem (k .before .before .before .before .before .before .before .before .before .args .m))
-    (toZ-ofZ (k .before .before .before .before .before .before .before .before .before .fits .point))
+reduced : (k : tie.After-remainder-of) → let a = from-fourth (k .before) .args in k .remainder-of .result ≡ rem (a .m) (a .point)
+reduced k =
+    let start = from-fourth (k .before) in
+    k .remainder-of .ensures ∙ ap (rem (start .args .m)) (toZ-ofZ (start .fits .point))
 
--- the steps ran on the point's image
-ran : (k : tie.After-run-steps) → let a = k .before .before .before .before .before .before .before .before .before .before .before .before .args in
+-- the steps ran from the input that the point gives
+ran : (k : tie.After-run-steps) → let a = from-fourth (k .before .before .before .before) .args in
     found (k .run-steps .result)
-    ≡ walkOf (trialRules (a .m)) (a .head .parity) (a .head .basis)
-    (lentLists (a .head) (now (a .coefficients)) (now (a .bounds))) (lentSteps (a .head) (now (a .steps))) (inputOf (remainders (a .m)) (a .head .transform) (rem (a .m) (a .point)))
+    ≡ walkOf (trialRules (a .m)) (a .head .parity) (a .head .basis) (lentLists (a .head) (now (a .coefficients)) (now (a .bounds)))
+    (lentSteps (a .head) (now (a .steps))) (inputOf (remainders (a .m)) (a .head .transform) (rem (a .m) (a .point)))
 ran k =
-    let a = k .before .before .before .before .before .before .before .before .before .before .before .before .args in
+    let a = from-fourth (k .before .before .before .before) .args in
     k .run-steps .ensures
-    ∙ ap (walkOf (trialRules (a .m)) (a .head .parity) (a .head .basis)
-    (lentLists (a .head) (now (a .coefficients)) (now (a .bounds))) (lentSteps (a .head) (now (a .steps))))
+    ∙ ap (walkOf (trialRules (a .m)) (a .head .parity) (a .head .basis) (lentLists (a .head) (now (a .coefficients)) (now (a .bounds)))
+    (lentSteps (a .head) (now (a .steps))))
     (k .before .before .input-of .ensures ∙ ap (inputOf (remainders (a .m)) (a .head .transform)) (reduced (k .before .before .before)))
 
 returns : tie.Need-returns
@@ -143,13 +149,13 @@ returns-6 : tie.Need-returns-6
 returns-6 c =
     let at-v = c .before .before in
     let at-run-steps = at-v .before .before in
-    let at-residue = at-run-steps .before .before .before in
-    let at-if4 = at-residue .before in
+    let at-remainder = at-run-steps .before .before .before in
+    let at-if4 = at-remainder .before in
     let at-if3 = at-if4 .before .before .before in
     let at-shared-slice-known = at-if3 .before .before .before .before in
     let entry = at-shared-slice-known .before in
     let a = entry .args in
-    ap some (c .output-of .ensures ∙ ap (λ (x : ℕ). outputOf (remainders (a .m)) (a .head .transform) x (at-v .v .given .0 .0)) (reduced at-residue))
+    ap some (c .output-of .ensures ∙ ap (λ (x : ℕ). outputOf (remainders (a .m)) (a .head .transform) x (at-v .v .given .0 .0)) (reduced at-remainder))
     ∙ walked (trialRules (a .m)) (a .head) (now (a .coefficients)) (now (a .bounds)) (now (a .steps)) (a .point) (fits at-if3)
     (at-v .v .given .0 .0) (rising at-if4) (sym (ran at-run-steps) ∙ ap found (at-v .v .given .1))
 

@@ -1,9 +1,10 @@
--- `walk::lists::add_place` meets its contract, by whether the place counts and its power is there.
+-- `walk::lists::add_place` meets its contract. A place that the parity leaves out leaves the sum. Otherwise the power is there or the place
+-- is refused, and the product of the coefficient's remainder and the power is added as the rule adds it.
 use mathlib.Core.Path.{sym, _∙_, ap}
 use mathlib.Core.Option.{some}
+use Prim.Native.Nat.{ℕ}
 use borrow.Author.Tests.{not-true, not-false}
 use borrow.Author.Needs.{needs}
-use Prim.Native.Nat.{ℕ}
 use mir.Facts.{toZ-ofZ}
 use denote.Ref.{now}
 use Rattle.algebra.specs.Remainder.{rem, remainders}

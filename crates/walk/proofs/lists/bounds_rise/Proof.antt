@@ -1,5 +1,5 @@
--- `walk::lists::bounds_rise` meets its contract. The loop's invariant: the boundaries rise if those from here on rise from the last one. The measure is
--- the number of boundaries left.
+-- `walk::lists::bounds_rise` meets its contract. The loop's invariant: the boundaries rise if those from here on rise from the last one.
+-- Each test is the definition's at the next boundary. The measure is the number of boundaries left.
 use mathlib.Core.Path.{_≡_, refl, sym, _∙_}
 use Prim.Native.Nat.{_-_, _≤_}
 use native.Mathlib.Omega.{arith}

@@ -1,4 +1,5 @@
--- `walk::lists::list_of` meets its contract: the boundaries rise, so that list i stands within the coefficients.
+-- `walk::lists::list_of` meets its contract. The boundaries rise, so that list i starts before it ends and ends within the coefficients.
+-- The part lent is then what the definition takes.
 use native.Mathlib.Omega.{arith}
 use borrow.Author.Needs.{needs}
 use lib.ListN.{length}

@@ -1,4 +1,4 @@
--- `walk::lists::start_of` meets its contract: a list starts where the one before it ends.
+-- `walk::lists::start_of` meets its contract. The first list starts at 0, and any other where the one before it ends.
 use mathlib.Core.Path.{sym, ap}
 use Prim.Native.Nat.{_-_}
 use native.Mathlib.Omega.{arith}

@@ -1,7 +1,6 @@
--- `walk::lists::sum_list` meets its contract. The loop's invariant: the sum so far with the places from here on is the whole. The measure is the number of
--- places left.
+-- `walk::lists::sum_list` meets its contract. The loop's invariant: the sum so far with the places from here on is the whole. A place that
+-- is refused refuses the whole. The measure is the number of places left.
 use mathlib.Core.Path.{_≡_, refl, sym, _∙_, ap}
-use mathlib.Core.List.{map}
 use Prim.Native.Nat.{_-_, _≤_}
 use borrow.Author.Needs.{needs}
 use lib.IntN.{pos}
@@ -9,7 +8,6 @@ use lib.ListN.{length, drop, getD}
 use mir.Syntax.{w64}
 use mir.Facts.{toZ-ofZ}
 use denote.Ref.{now}
-use Rattle.algebra.specs.Remainder.{rem}
 use Rattle.walk.specs.inside.Arrays.{found, powersOf}
 use Rattle.walk.specs.Rules.{trialRules}
 use Rattle.walk.specs.Load.{addPlace, sumFrom}

@@ -1,4 +1,5 @@
--- `walk::powers::is_made` meets its contract. The array as a slice tells its length; beyond it a mark counts as false.
+-- `walk::powers::is_made` meets its contract. The array as a slice tells its length. Within it the mark is read, and beyond it a mark
+-- counts as false.
 use mathlib.Core.Path.{sym}
 use mathlib.Core.Bool.{false}
 use borrow.Author.Needs.{needs}

@@ -1,4 +1,5 @@
--- `walk::powers::is_makeable` meets its contract. Each test is one of the definition, and the index split gives the parts.
+-- `walk::powers::is_makeable` meets its contract. Each test is one of the definition, and the index split gives the parts that both
+-- compare.
 use borrow.Author.Needs.{needs}
 use Rattle.walk.proofs.PowerLaws.{not-high, not-first, by-second}
 use Rattle.walk.proofs.powers.is_makeable.Statement.{statement}

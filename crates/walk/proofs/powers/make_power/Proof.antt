@@ -1,4 +1,5 @@
--- `walk::powers::make_power` meets its contract. Each refusal is one of the definition; the two stores put the power beside those that were there.
+-- `walk::powers::make_power` meets its contract. Each refusal is one of the definition. A power that may be made is within the arrays, and
+-- the two stores put it beside those that were there.
 use mathlib.Core.Path.{sym, _∙_, ap}
 use mathlib.Core.Option.{some}
 use native.Mathlib.Omega.{arith}
@@ -7,7 +8,7 @@ use borrow.Author.Needs.{needs}
 use denote.Ref.{now}
 use Rattle.walk.specs.inside.Arrays.{found, powersOf}
 use Rattle.walk.specs.Rules.{trialRules}
-use Rattle.walk.proofs.PowerLaws.{look-set, makeable-within, make-wrong, make-again, make-without, make-is}
+use Rattle.walk.proofs.PowerLaws.{powers-set, makeable-within, make-wrong, make-again, make-without, make-is}
 use Rattle.walk.proofs.powers.make_power.Statement.{statement}
 use Rattle.walk.proofs.powers.make_power.Tie as tie
 
@@ -113,7 +114,7 @@ returns-4 c =
     let makeable = sym (at-is-makeable .is-makeable .ensures) ∙ not-false _ (at-if1 .if1 .left) in
     let sized = at-power-at .power-at .ensures in
     let small = makeable-within (a .n) (a .a) (a .b) makeable in
-    ap some (look-set (now (a .powers)) (now (a .made)) (a .n) (c .before .v .given .0 .0) (omega arith) (omega arith))
+    ap some (powers-set (now (a .powers)) (now (a .made)) (a .n) (c .before .v .given .0 .0) (omega arith) (omega arith))
     ∙ make-is (trialRules (a .m)) (a .basis) powers (a .n) (a .a) (a .b) _ makeable
     (sym (at-power-at .power-at .ensures .is) ∙ ap found (at-enum-told2 .enum-told2 .given .1))
     (sym (at-power-from .power-from .ensures) ∙ ap found (c .before .v .given .1))

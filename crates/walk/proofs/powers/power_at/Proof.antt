@@ -1,4 +1,5 @@
--- `walk::powers::power_at` meets its contract. A mark that is set is within its array, and so is the power.
+-- `walk::powers::power_at` meets its contract. A mark that is set is within its array, and so is the power. Where the mark is not set,
+-- there is no power.
 use mathlib.Core.Path.{sym, _∙_}
 use mathlib.Core.Bool.{false, true≢false}
 use Prim.Native.Nat.{_<_}
@@ -7,7 +8,7 @@ use native.Mathlib.Nat.{lt-of-not-le}
 use borrow.Author.Needs.{needs}
 use lib.ListN.{length, List·getD-eq-default}
 use denote.Ref.{now}
-use Rattle.walk.proofs.PowerLaws.{look-made, look-missing}
+use Rattle.walk.proofs.PowerLaws.{powers-made, powers-missing}
 use Rattle.walk.proofs.powers.power_at.Statement.{statement}
 use Rattle.walk.proofs.powers.power_at.Tie as tie
 
@@ -32,7 +33,7 @@ returns : tie.Need-returns
 returns c = let mark = c .before .before in
     let a = mark .before .before .args in
     record {
-      is = sym (look-made (now (a .powers)) (now (a .made)) (a .n) (sym (mark .is-made .ensures .is) ∙ c .before .if1 .taken));
+      is = sym (powers-made (now (a .powers)) (now (a .made)) (a .n) (sym (mark .is-made .ensures .is) ∙ c .before .if1 .taken));
       numbers = search needs;
       marks = mark .is-made .ensures .marks;
     }
@@ -41,7 +42,7 @@ returns-2 : tie.Need-returns-2
 returns-2 c = let mark = c .before in
     let a = mark .before .before .args in
     record {
-      is = sym (look-missing (now (a .powers)) (now (a .made)) (a .n) (sym (mark .is-made .ensures .is) ∙ c .if1 .left));
+      is = sym (powers-missing (now (a .powers)) (now (a .made)) (a .n) (sym (mark .is-made .ensures .is) ∙ c .if1 .left));
       numbers = search needs;
       marks = mark .is-made .ensures .marks;
     }

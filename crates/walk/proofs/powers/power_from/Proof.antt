@@ -1,14 +1,14 @@
--- `walk::powers::power_from` meets its contract: what is found of the two factors, and in Chebyshev of the power at their distance, decides as in the
--- definition.
+-- `walk::powers::power_from` meets its contract. What is found of the two parts, and in Chebyshev of the power at their distance, decides
+-- as in the definition. Where all are there, the operations are those of the rules, the power at the distance being taken away as its
+-- opposite.
 use mathlib.Core.Option.{some}
 use mathlib.Core.Path.{_≡_, sym, _∙_, ap}
-use Prim.Native.Nat.{ℕ}
 use borrow.Author.Needs.{needs}
 use denote.Ref.{now}
 use Rattle.algebra.specs.Operations.{double}
+use Rattle.algebra.specs.Remainder.{remainders}
 use Rattle.algebra.specs.declared.Basis.{Basis}
 use Rattle.walk.specs.inside.Arrays.{found, powersOf}
-use Rattle.algebra.specs.Remainder.{remainders}
 use Rattle.walk.specs.Rules.{trialRules}
 use Rattle.walk.specs.Make.{powerFrom}
 use Rattle.walk.proofs.Modular.{taken-away}
@@ -132,7 +132,8 @@ returns-5 c =
     let a = entry .args in
     let 𝓡 = trialRules (a .m) in
     let powers = powersOf (now (a .powers)) (now (a .made)) in
-    ap some (taken-away (at-w .w .given .0 .0) (a .m) (c .add-mod .ensures) (c .before .twice-mod .ensures ∙ ap (double (remainders (a .m))) (at-mul-mod .mul-mod .ensures))
+    ap some (taken-away (at-w .w .given .0 .0) (a .m) (c .add-mod .ensures)
+    (c .before .twice-mod .ensures ∙ ap (double (remainders (a .m))) (at-mul-mod .mul-mod .ensures))
     (at-opposite .opposite .ensures))
     ∙ chebyshev-product 𝓡 powers (a .a) (a .b) _ _ _ (first at-known-told) (second at-known-told2)
     (ap powers (sym (at-distance .distance .ensures)) ∙ sym (at-power-at3 .power-at3 .ensures .is) ∙ ap found (at-w .w .given .1))

@@ -1,4 +1,5 @@
--- `walk::remainder::add_mod` meets its contract: the remainders are below m, so their sum fits.
+-- `walk::remainder::add_mod` meets its contract. The remainders are below m, so their sum fits. Reducing them first does not change the
+-- result.
 use native.Mathlib.Omega.{arith}
 use borrow.Author.Needs.{needs}
 use Rattle.walk.proofs.Modular.{below, add-reduced}

@@ -1,4 +1,5 @@
--- `walk::remainder::mul_mod` meets its contract: the remainders are below m, so their product fits.
+-- `walk::remainder::mul_mod` meets its contract. The remainders are below m, so their product fits. Reducing them first does not change the
+-- result.
 use borrow.Author.Needs.{needs}
 use Rattle.walk.proofs.Modular.{product-fits, mul-reduced}
 use Rattle.walk.proofs.remainder.mul_mod.Statement.{statement}

@@ -1,4 +1,5 @@
--- `walk::remainder::remainder_of` meets its contract, by the sign of x.
+-- `walk::remainder::remainder_of` meets its contract. By the sign of x: from 0 up it is the remainder of a natural number. Below 0, x is
+-- -(n + 1), where n fits for every x, and m - 1 less the remainder of n is the definition's.
 use mathlib.Core.Path.{_≡_, sym, _∙_, ap}
 use Prim.Native.Nat.{suc, _-_, _%_}
 use native.Mathlib.Omega.{arith}

@@ -1,4 +1,4 @@
--- `walk::remainder::twice_mod` meets its contract: 2 is 1 + 1 trialRules m too.
+-- `walk::remainder::twice_mod` meets its contract. It is the product with 2, and 2 is 1 + 1 modulo m too.
 use mathlib.Core.Path.{_∙_}
 use borrow.Author.Needs.{needs}
 use Rattle.walk.proofs.Modular.{twice}

@@ -1,4 +1,5 @@
--- `walk::steps::combine` meets its contract, by whether the power is there.
+-- `walk::steps::combine` meets its contract. Where power p is there, the two values are joined by it; where it is not, the definition has
+-- none either.
 use mathlib.Core.Path.{sym, _∙_, ap}
 use borrow.Author.Needs.{needs}
 use denote.Ref.{now}

@@ -1,4 +1,5 @@
--- `walk::steps::load` meets its contract, by whether the list and its powers are there.
+-- `walk::steps::load` meets its contract. By whether the list and its powers are there, as in the definition. The list is the part that the
+-- definition takes, its sum the one that is pushed.
 use mathlib.Core.Path.{sym, _∙_, ap}
 use borrow.Author.Needs.{needs}
 use denote.Ref.{now}

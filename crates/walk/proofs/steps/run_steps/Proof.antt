@@ -1,5 +1,5 @@
--- `walk::steps::run_steps` meets its contract. The loop's invariant: the steps from here on, run on the state that the arrays hold, leave what the walk
--- leaves. The measure is the number of steps left.
+-- `walk::steps::run_steps` meets its contract. The loop's invariant: the steps from here on, run on the state that the arrays hold, leave
+-- what the walk leaves. A step that is refused refuses the walk. The measure is the number of steps left.
 use mathlib.Core.Path.{_≡_, sym, _∙_, ap₂}
 use Prim.Native.Nat.{_-_, _≤_}
 use native.Mathlib.Omega.{arith}
@@ -12,7 +12,7 @@ use Rattle.walk.specs.Rules.{trialRules}
 use Rattle.walk.specs.Boundaries.{listAt}
 use Rattle.walk.specs.Walk.{walkOf}
 use Rattle.walk.specs.Lent.{stepsFrom}
-use Rattle.walk.proofs.RunLaws.{look-first, leftFrom, left-start, left-refused, left-next, left-done}
+use Rattle.walk.proofs.RunLaws.{powers-first, leftFrom, left-start, left-refused, left-next, left-done}
 use Rattle.walk.proofs.steps.run_steps.Statement.{statement}
 use Rattle.walk.proofs.steps.run_steps.Tie as tie
 
@@ -39,7 +39,7 @@ loop-holds c =
     let entry = at-first-powers .before .before .before in
     let a = entry .args in
     let lists = listAt (now (a .coefficients)) (now (a .bounds)) in
-    let first = ap₂ powersOf (at-first-powers .first-powers .ensures) (c .before .first-marks .ensures) ∙ look-first (trialRules (a .m)) 4096 (a .y)
+    let first = ap₂ powersOf (at-first-powers .first-powers .ensures) (c .before .first-marks .ensures) ∙ powers-first (trialRules (a .m)) 4096 (a .y)
     (omega arith) in (
       search needs,
       (

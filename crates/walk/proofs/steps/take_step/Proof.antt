@@ -1,4 +1,5 @@
--- `walk::steps::take_step` meets its contract, kind by kind.
+-- `walk::steps::take_step` meets its contract. Kind by kind: each branch is a case of the definition, and each refusal one of its tests.
+-- Kinds 3 and 4 combine alike modulo m.
 use borrow.Author.Needs.{needs}
 use denote.Ref.{now}
 use Rattle.walk.specs.inside.Arrays.{powersOf}

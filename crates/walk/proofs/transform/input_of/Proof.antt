@@ -1,4 +1,4 @@
--- `walk::transform::input_of` meets its contract, transform by transform.
+-- `walk::transform::input_of` meets its contract. Transform by transform: the operations are those of the definition.
 use borrow.Author.Needs.{needs}
 use Rattle.algebra.specs.Transform.{inputOf}
 use Rattle.walk.proofs.transform.input_of.Statement.{statement}

@@ -1,4 +1,4 @@
--- `walk::transform::output_of` meets its contract, transform by transform.
+-- `walk::transform::output_of` meets its contract. Transform by transform: the value as it is, or its product with x.
 use borrow.Author.Needs.{needs}
 use Rattle.algebra.specs.Transform.{outputOf}
 use Rattle.walk.proofs.transform.output_of.Statement.{statement}

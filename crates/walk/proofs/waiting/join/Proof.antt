@@ -1,4 +1,5 @@
--- `walk::waiting::join` meets its contract: the last two values are high and low, and the store leaves those before them.
+-- `walk::waiting::join` meets its contract. The last two values are high and low. The store puts their result in low's place, and leaves
+-- those before it.
 use mathlib.Core.Path.{_∙_}
 use Prim.Native.Nat.{_≤_}
 use native.Mathlib.Omega.{arith}

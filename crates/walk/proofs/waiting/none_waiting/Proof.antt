@@ -1,4 +1,4 @@
--- `walk::waiting::none_waiting` meets its contract: nothing waits among 16 places.
+-- `walk::waiting::none_waiting` meets its contract. The array has 16 places, and none of them counts.
 use mathlib.Core.Path.{refl}
 use borrow.Author.Needs.{needs}
 use Rattle.walk.specs.inside.Waits.{lastFirst}

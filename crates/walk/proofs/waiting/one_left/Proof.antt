@@ -1,4 +1,5 @@
--- `walk::waiting::one_left` meets its contract: the first value is the one that is left.
+-- `walk::waiting::one_left` meets its contract. Where the count is 1, the first value is the one that is left; where it is not, there is
+-- none.
 use mathlib.Core.Path.{sym}
 use borrow.Author.Needs.{needs}
 use Rattle.walk.proofs.StackLaws.{left-one, left-other}

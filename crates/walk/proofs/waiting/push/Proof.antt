@@ -1,4 +1,5 @@
--- `walk::waiting::push` meets its contract: the store past the values that wait leaves them.
+-- `walk::waiting::push` meets its contract. Where fewer than 16 wait, the store stands past them and leaves them; where 16 do, the
+-- definition has none.
 use mathlib.Core.Path.{_∙_}
 use Prim.Native.Nat.{_<_}
 use native.Mathlib.Omega.{arith}
