@@ -9,6 +9,8 @@ pub mod StepLaws
 pub mod RunLaws
 pub mod LentLaws
 pub mod CarryLaw
+pub mod RunsAlike
 pub mod Unrunnable
+pub mod UsesMade
 pub mod WalksHeld
 pub mod TrialFollows

@@ -1,6 +1,6 @@
 -- A run of steps, from step i on, and its start.
 use mathlib.Core.Path.{_≡_, refl, sym, _∙_, ap, fun-ext}
-use mathlib.Core.List.{List, [], _∷_}
+use mathlib.Core.List.{List, [], _∷_, _++_}
 use mathlib.Core.Bool.{Bool, not, true, false}
 use mathlib.Core.Option.{Option, some, none}
 use Prim.Native.Nat.{ℕ, zero, suc, _+_, _-_, _≤_, _<_}
@@ -20,7 +20,16 @@ use Rattle.walk.specs.inside.Arrays.{powersOf, firstNumbers, firstMarks}
 use Rattle.walk.specs.inside.Taken.{stateOf, Taken}
 use Rattle.walk.specs.declared.plan.Step.{Step}
 use Rattle.walk.specs.declared.waiting.Turn.{Turn}
-use Rattle.walk.proofs.Options.{then-assoc}
+use Rattle.walk.proofs.Options.{then-alike, then-assoc}
+
+-- steps after steps
+pub run-then : {A : Type 0} (𝓡 : Rules A) (parity : Parity) (basis : Basis) (lists : Lists) (steps later : List Step) (state : State A)
+    → runOf 𝓡 parity basis lists (steps ++ later) state ≡ (runOf 𝓡 parity basis lists steps state then λ next. runOf 𝓡 parity basis lists later next)
+unfolding runOf
+run-then 𝓡 parity basis lists [] later state = refl
+run-then {A} 𝓡 parity basis lists (step ∷ steps) later state =
+    then-alike (stepOf 𝓡 parity basis lists step state) (λ next. run-then 𝓡 parity basis lists steps later next)
+    ∙ sym (then-assoc (stepOf 𝓡 parity basis lists step state) _ _)
 
 -- the arrays at the start hold powers 0 and 1
 getD-replicate : {X : Type 0} (d : X) (k n : ℕ) → getD (replicate k d) n d ≡ d

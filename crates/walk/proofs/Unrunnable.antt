@@ -154,7 +154,7 @@ module _ {A : Type 0} (𝓡 : Rules A) where
   -- ---- steps, and the end
 
   module _ (parity : Parity) (basis : Basis) (lists : Lists) where
-    act-missing : (kind x y z : ℕ) (state : State A)
+    pub act-missing : (kind x y z : ℕ) (state : State A)
         → missing (actOf 𝓡 parity basis lists kind x y z state)
         ≡ anyHolds (reasonsBy parity basis lists kind x y z (usesBy parity basis lists kind x y z) state)
     unfolding actOf reasonsBy usesBy anyHolds

@@ -12,6 +12,8 @@ pub mod Trial
 pub mod Uses
 pub mod Unrunnable
 pub mod CarryLaw
+pub mod RunsAlike
+pub mod UsesMade
 pub mod TrialFollows
 pub mod Joined
 pub mod WalksHeld
