@@ -22,7 +22,7 @@ oneRules = record {
   productLess = λ u v w. tt;
   nothing = tt;
   place = λ sum c j power. tt;
-  combine = λ kind power high low. tt;
+  combine = λ plain power high low. tt;
   input = λ transform x. tt;
   output = λ transform x v. tt;
 }
@@ -35,7 +35,7 @@ taken 𝓡 = record {
   productLess = λ u v w. refl;
   nothing = refl;
   place = λ sum c j power. refl;
-  combine = λ kind power high low. refl;
+  combine = λ plain power high low. refl;
   input = λ transform x. refl;
   output = λ transform x v. refl;
 }

@@ -1,5 +1,6 @@
 -- What a store in the array does to the waiting values that it holds.
 use mathlib.Core.Path.{_≡_, refl, ap, ap₂}
+use mathlib.Core.Bool.{Bool}
 use mathlib.Core.List.{List, _∷_}
 use mathlib.Core.Option.{some, none}
 use Prim.Native.Nat.{ℕ, zero, suc, _+_, _-_, _≤_, _<_}
@@ -39,16 +40,16 @@ pub push-full : (values : List ℕ) (k v : ℕ) → waitingLimit ≤ k → none 
 unfolding pushOf
 push-full values k v g = rw (length-stack values k, le-ltb k waitingLimit g)
 
-module _ (𝓡 : Rules ℕ) (kind p : ℕ) (values : List ℕ) where
+module _ (𝓡 : Rules ℕ) (plain : Bool) (p : ℕ) (values : List ℕ) where
   -- high and low, taken from the end, and one value pushed
   joined : (k : ℕ) → k < length values
-      → some (lastFirst (set values k (𝓡 .combine kind p (getD values (suc k) 0) (getD values k 0))) (suc k)) ≡ joinOf 𝓡 kind p
+      → some (lastFirst (set values k (𝓡 .combine plain p (getD values (suc k) 0) (getD values k 0))) (suc k)) ≡ joinOf 𝓡 plain p
       (lastFirst values (suc (suc k)))
   unfolding joinOf lastFirst
   joined k h = ap some (stack-push values k _ h)
 
   pub join-is : (k : ℕ) → 2 ≤ k → k ≤ length values
-      → some (lastFirst (set values (k - 2) (𝓡 .combine kind p (getD values (k - 1) 0) (getD values (k - 2) 0))) (k - 1)) ≡ joinOf 𝓡 kind p
+      → some (lastFirst (set values (k - 2) (𝓡 .combine plain p (getD values (k - 1) 0) (getD values (k - 2) 0))) (k - 1)) ≡ joinOf 𝓡 plain p
       (lastFirst values k)
   join-is zero h g = absurd (omega arith)
   join-is (suc zero) h g = absurd (omega arith)
@@ -57,7 +58,7 @@ module _ (𝓡 : Rules ℕ) (kind p : ℕ) (values : List ℕ) where
       let one : suc (suc k) - 1 ≡ suc k = omega arith in
       rw (two, one) (joined k (omega arith))
 
-  pub join-few : (k : ℕ) → k < 2 → none ≡ joinOf 𝓡 kind p (lastFirst values k)
+  pub join-few : (k : ℕ) → k < 2 → none ≡ joinOf 𝓡 plain p (lastFirst values k)
   unfolding joinOf lastFirst
   join-few zero h = refl
   join-few (suc zero) h = refl

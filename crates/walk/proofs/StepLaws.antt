@@ -1,7 +1,7 @@
 -- A step by its kind, and what the program's answers say of it.
 use mathlib.Core.Path.{_≡_, refl, _∙_}
 use mathlib.Core.List.{List}
-use mathlib.Core.Bool.{Bool}
+use mathlib.Core.Bool.{Bool, true, false}
 use mathlib.Core.Option.{Option, some, none}
 use Prim.Native.Nat.{ℕ, zero, suc}
 use borrow.Author.Tests.{eq-eqb, ne-eqb}
@@ -9,12 +9,13 @@ use lib.IntN.{ℤ}
 use Rattle.algebra.specs.declared.Basis.{Basis}
 use Rattle.algebra.specs.declared.Parity.{Parity}
 use Rattle.walk.specs.Options.{_then_, when}
+use Rattle.walk.specs.Kinds.{combine, kindOf}
 use Rattle.walk.specs.Rules.{Rules, trialRules}
 use Rattle.walk.specs.State.{Powers, Lists, State}
 use Rattle.walk.specs.Make.{makeOf}
 use Rattle.walk.specs.Load.{pushOf, sumFrom, loadOf}
 use Rattle.walk.specs.Combine.{joinOf, combineOf}
-use Rattle.walk.specs.Walk.{actOf}
+use Rattle.walk.specs.Walk.{unusedZero, actOf}
 use Rattle.walk.specs.inside.Arrays.{powersOf}
 use Rattle.walk.specs.inside.Waits.{waitingIn, Waits}
 use Rattle.walk.specs.inside.Taken.{Taken}
@@ -37,18 +38,18 @@ module _ (𝓡 : Rules ℕ) (parity : Parity) (powers : Powers ℕ) (lists : Lis
   load-is c v e f = rw (e, f)
 
 -- a combine, by what is found
-module _ (𝓡 : Rules ℕ) (kind : ℕ) (powers : Powers ℕ) (waiting : List ℕ) (p : ℕ) where
-  pub combine-missing : powers p ≡ none → none ≡ combineOf 𝓡 kind powers waiting p
+module _ (𝓡 : Rules ℕ) (plain : Bool) (powers : Powers ℕ) (waiting : List ℕ) (p : ℕ) where
+  pub combine-missing : powers p ≡ none → none ≡ combineOf 𝓡 plain powers waiting p
   unfolding combineOf
   combine-missing e = rw e
 
-  pub combine-is : (v : ℕ) → powers p ≡ some v → joinOf 𝓡 kind v waiting ≡ combineOf 𝓡 kind powers waiting p
+  pub combine-is : (v : ℕ) → powers p ≡ some v → joinOf 𝓡 plain v waiting ≡ combineOf 𝓡 plain powers waiting p
   unfolding combineOf
   combine-is v e = rw e
 
 -- modulo m both kinds combine alike
 pub combine-alike : (m : ℕ) (powers : Powers ℕ) (waiting : List ℕ) (p : ℕ)
-    → combineOf (trialRules m) 3 powers waiting p ≡ combineOf (trialRules m) 4 powers waiting p
+    → combineOf (trialRules m) false powers waiting p ≡ combineOf (trialRules m) true powers waiting p
 unfolding combineOf joinOf
 combine-alike m powers waiting p = refl
 
@@ -60,63 +61,55 @@ turn-step {wanted} {whole} {r} powers made turned e = record {
   fits = turned .fits;
 }
 
+-- the unused numbers
+module _ (y z : ℕ) where
+  pub third-used : (y ≡ 0 → ⊥) → unusedZero y z ≡ false
+  third-used e = rw (ne-eqb y 0 e)
+
+  pub fourth-used : y ≡ 0 → (z ≡ 0 → ⊥) → unusedZero y z ≡ false
+  fourth-used e f = rw (eq-eqb y 0 e, ne-eqb z 0 f)
+
+  pub both-unused : y ≡ 0 → z ≡ 0 → unusedZero y z ≡ true
+  both-unused e f = rw (eq-eqb y 0 e, eq-eqb z 0 f)
+
 module _ (𝓡 : Rules ℕ) (parity : Parity) (basis : Basis) (lists : Lists) (kind x y z : ℕ) (state : State ℕ) where
-  -- kind 1
+  abbrev act : Option (State ℕ)
+  act = actOf 𝓡 parity basis lists (kindOf kind) x y z state
+
   pub act-make : kind ≡ 1 → (ok : Bool) (powers : Powers ℕ) → when ok (some powers) ≡ makeOf 𝓡 basis (state .powers) x y z
-      → when ok (some (record { powers = powers; waiting = state .waiting })) ≡ actOf 𝓡 parity basis lists kind x y z state
+      → when ok (some (record { powers = powers; waiting = state .waiting })) ≡ act
   unfolding actOf
   act-make one ok powers e = rw one (lift ok powers (λ ps. record { powers = ps; waiting = state .waiting }) (makeOf 𝓡 basis (state .powers) x y z) e)
 
-  -- of other kinds the unused fields are 0
-  pub act-third : (kind ≡ 1 → ⊥) → (y ≡ 0 → ⊥) → none ≡ actOf 𝓡 parity basis lists kind x y z state
+  pub act-used : (kind ≡ 1 → ⊥) → unusedZero y z ≡ false → none ≡ act
   unfolding actOf
-  act-third other field = by kind other
+  act-used other used = by kind other
     where
-      by : (k : ℕ) → (k ≡ 1 → ⊥) → none ≡ actOf 𝓡 parity basis lists k x y z state
+      by : (k : ℕ) → (k ≡ 1 → ⊥) → none ≡ actOf 𝓡 parity basis lists (kindOf k) x y z state
       by zero e = refl
       by (suc zero) e = absurd (e refl)
-      by (suc (suc zero)) e = rw (ne-eqb y 0 field)
-      by (suc (suc (suc zero))) e = rw (ne-eqb y 0 field)
-      by (suc (suc (suc (suc zero)))) e = rw (ne-eqb y 0 field)
+      by (suc (suc zero)) e = rw used
+      by (suc (suc (suc zero))) e = rw used
+      by (suc (suc (suc (suc zero)))) e = rw used
       by (suc (suc (suc (suc (suc k))))) e = refl
 
-  pub act-fourth : (kind ≡ 1 → ⊥) → y ≡ 0 → (z ≡ 0 → ⊥) → none ≡ actOf 𝓡 parity basis lists kind x y z state
-  unfolding actOf
-  act-fourth other third field = by kind other
-    where
-      by : (k : ℕ) → (k ≡ 1 → ⊥) → none ≡ actOf 𝓡 parity basis lists k x y z state
-      by zero e = refl
-      by (suc zero) e = absurd (e refl)
-      by (suc (suc zero)) e = rw (eq-eqb y 0 third, ne-eqb z 0 field)
-      by (suc (suc (suc zero))) e = rw (eq-eqb y 0 third, ne-eqb z 0 field)
-      by (suc (suc (suc (suc zero)))) e = rw (eq-eqb y 0 third, ne-eqb z 0 field)
-      by (suc (suc (suc (suc (suc k))))) e = refl
-
-  module _ (third : y ≡ 0) (fourth : z ≡ 0) where
+  module _ (unused : unusedZero y z ≡ true) where
     pub act-load : kind ≡ 2
-        → (loadOf 𝓡 parity (state .powers) lists (state .waiting) x then λ ws. some (record { powers = state .powers; waiting = ws }))
-        ≡ actOf 𝓡 parity basis lists kind x y z state
+        → (loadOf 𝓡 parity (state .powers) lists (state .waiting) x then λ ws. some (record { powers = state .powers; waiting = ws })) ≡ act
     unfolding actOf
-    act-load two = rw (two, eq-eqb y 0 third, eq-eqb z 0 fourth)
+    act-load two = rw (two, unused)
 
-    pub act-third-kind : kind ≡ 3
-        → (combineOf 𝓡 3 (state .powers) (state .waiting) x then λ ws. some (record { powers = state .powers; waiting = ws }))
-        ≡ actOf 𝓡 parity basis lists kind x y z state
+    pub act-combine : (plain : Bool) → kindOf kind ≡ combine plain → (o : Option (List ℕ))
+        → o ≡ combineOf 𝓡 plain (state .powers) (state .waiting) x
+        → (o then λ ws. some (record { powers = state .powers; waiting = ws })) ≡ act
     unfolding actOf
-    act-third-kind three = rw (three, eq-eqb y 0 third, eq-eqb z 0 fourth)
+    act-combine plain is o found = rw (found, is, unused)
 
-    pub act-fourth-kind : kind ≡ 4
-        → combineOf 𝓡 3 (state .powers) (state .waiting) x ≡ combineOf 𝓡 4 (state .powers) (state .waiting) x
-        → (combineOf 𝓡 3 (state .powers) (state .waiting) x then λ ws. some (record { powers = state .powers; waiting = ws }))
-        ≡ actOf 𝓡 parity basis lists kind x y z state
-    unfolding actOf
-    act-fourth-kind four alike = rw (alike, four, eq-eqb y 0 third, eq-eqb z 0 fourth)
-
-  pub act-unknown : (kind ≡ 1 → ⊥) → (kind ≡ 2 → ⊥) → (kind ≡ 3 → ⊥) → (kind ≡ 4 → ⊥) → none ≡ actOf 𝓡 parity basis lists kind x y z state
+  pub act-unknown : (kind ≡ 1 → ⊥) → (kind ≡ 2 → ⊥) → (kind ≡ 3 → ⊥) → (kind ≡ 4 → ⊥) → none ≡ act
   unfolding actOf
   act-unknown e f g h = by kind e f g h
     where
-      by : (k : ℕ) → (k ≡ 1 → ⊥) → (k ≡ 2 → ⊥) → (k ≡ 3 → ⊥) → (k ≡ 4 → ⊥) → none ≡ actOf 𝓡 parity basis lists k x y z state
+      by : (k : ℕ) → (k ≡ 1 → ⊥) → (k ≡ 2 → ⊥) → (k ≡ 3 → ⊥) → (k ≡ 4 → ⊥) → none ≡ actOf 𝓡 parity basis lists (kindOf k) x y z state
       by zero e f g h = refl
       by (suc zero) e f g h = absurd (e refl)
       by (suc (suc zero)) e f g h = absurd (f refl)

@@ -58,7 +58,7 @@ module _ {A B : Type 0} (𝓞 : Operations A) (𝓟 : Operations B) (f : A → B
     productLess = product-less;
     nothing = H .zero;
     place = λ sum c j power. H .add sum _ ∙ ap (𝓟 .add (f sum)) (H .mul (φ c) power);
-    combine = λ kind power high low. H .add _ low ∙ ap (λ t. 𝓟 .add t (f low)) (H .mul high power);
+    combine = λ plain power high low. H .add _ low ∙ ap (λ t. 𝓟 .add t (f low)) (H .mul high power);
     input = input-taken;
     output = output-taken;
   }

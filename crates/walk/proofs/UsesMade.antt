@@ -12,15 +12,16 @@ use lib.Dec.{eqb}
 use Rattle.algebra.specs.declared.Basis.{Basis}
 use Rattle.algebra.specs.declared.Parity.{Parity}
 use Rattle.walk.specs.Options.{_then_, missing}
+use Rattle.walk.specs.Kinds.{Kind, make, load, combine, unknown, kindOf}
 use Rattle.walk.specs.Rules.{Rules}
 use Rattle.walk.specs.State.{Powers, Lists, State}
 use Rattle.walk.specs.Make.{isMakeable, withPower, firstPowers, powerFrom, makeOf}
 use Rattle.walk.specs.Load.{loadOf}
 use Rattle.walk.specs.Combine.{combineOf}
-use Rattle.walk.specs.Walk.{actOf, stepOf, runOf, firstState, walkOf}
+use Rattle.walk.specs.Walk.{unusedZero, actOf, stepOf, runOf, firstState, walkOf}
 use Rattle.walk.specs.Uses.{usesOf}
 use Rattle.walk.specs.Unrunnable.{anyHolds, anyMissing, reasonsBy}
-use Rattle.walk.specs.UsesMade.{isAmong, allAmong, madeAfter, UsesMade, WalksUseMade}
+use Rattle.walk.specs.UsesMade.{isAmong, allAmong, madeBy, madeAfter, UsesMade, WalksUseMade}
 use Rattle.walk.specs.declared.plan.Step.{Step}
 use Rattle.walk.proofs.Options.{same-some, then-some, when-some}
 use Rattle.walk.proofs.Unrunnable.{act-missing}
@@ -51,15 +52,13 @@ all-false (test ∷ tests) e = (left-false test (anyHolds tests) e, all-false te
 
 module _ {A : Type 0} where
   -- what a step uses is among its reasons
-  uses-there : (parity : Parity) (basis : Basis) (lists : Lists) (kind x y z : ℕ) (uses : List ℕ) (state : State A)
-      → AllFalse (reasonsBy parity basis lists kind x y z uses state) → anyMissing (state .powers) uses ≡ false
+  uses-there : (lists : Lists) (kind : Kind) (x y z : ℕ) (uses : List ℕ) (state : State A)
+      → AllFalse (reasonsBy lists kind x y z uses state) → anyMissing (state .powers) uses ≡ false
   unfolding reasonsBy
-  uses-there parity basis lists zero x y z uses state passed = absurd (true≢false (passed .0))
-  uses-there parity basis lists (suc zero) x y z uses state passed = passed .1 .1 .1 .0
-  uses-there parity basis lists (suc (suc zero)) x y z uses state passed = passed .1 .1 .0
-  uses-there parity basis lists (suc (suc (suc zero))) x y z uses state passed = passed .1 .0
-  uses-there parity basis lists (suc (suc (suc (suc zero)))) x y z uses state passed = passed .1 .0
-  uses-there parity basis lists (suc (suc (suc (suc (suc kind))))) x y z uses state passed = absurd (true≢false (passed .0))
+  uses-there lists make x y z uses state passed = passed .1 .1 .1 .0
+  uses-there lists load x y z uses state passed = passed .1 .1 .0
+  uses-there lists (combine plain) x y z uses state passed = passed .1 .0
+  uses-there lists unknown x y z uses state passed = absurd (true≢false (passed .0))
 
   -- those that are there are among those made
   all-among : (powers : Powers A) (made uses : List ℕ) → Known powers made → anyMissing powers uses ≡ false → allAmong uses made ≡ true
@@ -86,27 +85,23 @@ module _ {A : Type 0} where
   kept-powers state next o e = ap (λ (s : State A). s .powers) (same-some (then-some o _ next e .next))
 
 module _ {A : Type 0} (𝓡 : Rules A) (parity : Parity) (basis : Basis) (lists : Lists) where
-  act-known : (kind x y z : ℕ) (state next : State A) (made : List ℕ) → actOf 𝓡 parity basis lists kind x y z state ≡ some next
-      → Known (state .powers) made → Known (next .powers) (cond (eqb kind 1) (x ∷ made) made)
+  act-known : (kind : Kind) (x y z : ℕ) (state next : State A) (made : List ℕ) → actOf 𝓡 parity basis lists kind x y z state ≡ some next
+      → Known (state .powers) made → Known (next .powers) (madeBy kind x made)
   unfolding actOf makeOf
-  act-known zero x y z state next made e known = absurd (let same : _≡_ {A = ℕ} 0 1 = cc in omega arith)
-  act-known (suc zero) x y z state next made e known =
+  act-known make x y z state next made e known =
       let taken = then-some (makeOf 𝓡 basis (state .powers) x y z) _ next e in
       let power = then-some (powerFrom 𝓡 basis (state .powers) y z) _ (taken .value)
       (when-some (isMakeable x y z && missing (state .powers x)) _ (taken .value) (taken .is)) in
       let is : withPower x (power .value) (state .powers) ≡ next .powers = same-some (power .next)
       ∙ ap (λ (s : State A). s .powers) (same-some (taken .next)) in
       subst (λ (p : Powers A). Known p (x ∷ made)) is (with-known x (power .value) (state .powers) made known)
-  act-known (suc (suc zero)) x y z state next made e known =
+  act-known load x y z state next made e known =
       subst (λ (p : Powers A). Known p made)
-      (kept-powers state next (loadOf 𝓡 parity (state .powers) lists (state .waiting) x) (when-some (eqb y 0 && eqb z 0) _ next e)) known
-  act-known (suc (suc (suc zero))) x y z state next made e known =
+      (kept-powers state next (loadOf 𝓡 parity (state .powers) lists (state .waiting) x) (when-some (unusedZero y z) _ next e)) known
+  act-known (combine plain) x y z state next made e known =
       subst (λ (p : Powers A). Known p made)
-      (kept-powers state next (combineOf 𝓡 3 (state .powers) (state .waiting) x) (when-some (eqb y 0 && eqb z 0) _ next e)) known
-  act-known (suc (suc (suc (suc zero)))) x y z state next made e known =
-      subst (λ (p : Powers A). Known p made)
-      (kept-powers state next (combineOf 𝓡 4 (state .powers) (state .waiting) x) (when-some (eqb y 0 && eqb z 0) _ next e)) known
-  act-known (suc (suc (suc (suc (suc kind))))) x y z state next made e known = absurd (let same : _≡_ {A = ℕ} 0 1 = cc in omega arith)
+      (kept-powers state next (combineOf 𝓡 plain (state .powers) (state .waiting) x) (when-some (unusedZero y z) _ next e)) known
+  act-known unknown x y z state next made e known = absurd (let same : _≡_ {A = ℕ} 0 1 = cc in omega arith)
 
   -- step after step
   run-uses : (steps : List Step) (state end : State A) (made : List ℕ) → Known (state .powers) made
@@ -116,11 +111,11 @@ module _ {A : Type 0} (𝓡 : Rules A) (parity : Parity) (basis : Basis) (lists 
   run-uses (step ∷ steps) state end made known e =
       let taken = then-some (stepOf 𝓡 parity basis lists step state) _ end e in
       let uses = usesOf parity basis lists step in
-      let no-reason = sym (act-missing 𝓡 parity basis lists (step .kind) (step .x) (step .y) (step .z) state) ∙ ap missing (taken .is) in (
+      let no-reason = sym (act-missing 𝓡 parity basis lists (kindOf (step .kind)) (step .x) (step .y) (step .z) state) ∙ ap missing (taken .is) in (
         all-among (state .powers) made uses known
-            (uses-there parity basis lists (step .kind) (step .x) (step .y) (step .z) uses state (all-false _ no-reason)),
+            (uses-there lists (kindOf (step .kind)) (step .x) (step .y) (step .z) uses state (all-false _ no-reason)),
         run-uses steps (taken .value) end (madeAfter step made)
-            (act-known (step .kind) (step .x) (step .y) (step .z) state (taken .value) made (taken .is) known) (taken .next),
+            (act-known (kindOf (step .kind)) (step .x) (step .y) (step .z) state (taken .value) made (taken .is) known) (taken .next),
       )
 
   first-known : (y : A) → Known (firstPowers 𝓡 y) (0 ∷ 1 ∷ [])

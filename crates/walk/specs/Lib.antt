@@ -1,5 +1,6 @@
 pub mod Limits
 pub mod Options
+pub mod Kinds
 pub mod Rules
 pub mod State
 pub mod Make

@@ -1,12 +1,13 @@
 -- A walk that has a value uses only powers that earlier steps made, besides powers 0 and 1 (document 01, "Steps and the walk").
 use mathlib.Core.Path.{_≡_}
-use mathlib.Core.Bool.{Bool, true, false, cond, _&&_, _||_}
+use mathlib.Core.Bool.{Bool, true, false, _&&_, _||_}
 use mathlib.Core.List.{List, [], _∷_}
 use mathlib.Core.Option.{some}
 use Prim.Native.Nat.{ℕ}
 use lib.Dec.{eqb}
 use Rattle.algebra.specs.declared.Basis.{Basis}
 use Rattle.algebra.specs.declared.Parity.{Parity}
+use Rattle.walk.specs.Kinds.{Kind, make, load, combine, unknown, kindOf}
 use Rattle.walk.specs.Rules.{Rules}
 use Rattle.walk.specs.State.{Lists}
 use Rattle.walk.specs.Walk.{walkOf}
@@ -23,8 +24,14 @@ allAmong [] ms = true
 allAmong (n ∷ ns) ms = isAmong n ms && allAmong ns ms
 
 -- the powers made, after one more step
+abbrev pub madeBy : Kind → (x : ℕ) (made : List ℕ) → List ℕ
+madeBy make x made = x ∷ made
+madeBy load x made = made
+madeBy (combine plain) x made = made
+madeBy unknown x made = made
+
 abbrev pub madeAfter : Step → (made : List ℕ) → List ℕ
-madeAfter step made = cond (eqb (step .kind) 1) (step .x ∷ made) made
+madeAfter step made = madeBy (kindOf (step .kind)) (step .x) made
 
 -- each step uses powers that are made before it
 abbrev pub UsesMade : Parity → Basis → Lists → (made : List ℕ) → List Step → Type 0

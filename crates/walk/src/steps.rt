@@ -19,6 +19,7 @@ use crate::waiting::refused;
 use number::Basis;
 use number::Parity;
 ghost use mathlib.Core.Path.{_≡_};
+ghost use mathlib.Core.Bool.{false};
 ghost use Prim.Native.Nat.{_*_, _≤_};
 ghost use lib.ListN.{length};
 ghost use Rattle.walk.specs.Rules.{trialRules};
@@ -59,7 +60,7 @@ fn load(
 // High and low combined by power p: the same for kinds 3 and 4.
 fn combine(p: usize, m: u64, w: Waiting, powers: &[u64; POWERS], made: &[bool; POWERS]) -> Turn
     requires { ⌜ IsModulus m × FitsSixteen w ⌝ }
-    ensures { λ r. ⌜ Waits (combineOf (trialRules m) 3 (powersOf (now (powers .entry)) (now (made .entry))) (waitingIn w) p) r ⌝ }
+    ensures { λ r. ⌜ Waits (combineOf (trialRules m) false (powersOf (now (powers .entry)) (now (made .entry))) (waitingIn w) p) r ⌝ }
 {
     let Found::Number(v) = power_at(p, powers, made) else {
         return refused(w);

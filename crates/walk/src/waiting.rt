@@ -4,6 +4,7 @@ use crate::powers::Found;
 use crate::remainder::add_mod;
 use crate::remainder::mul_mod;
 ghost use mathlib.Core.Path.{_≡_};
+ghost use mathlib.Core.Bool.{false};
 ghost use mathlib.Core.List.{[]};
 ghost use mathlib.Core.Option.{none};
 ghost use Rattle.walk.specs.Rules.{trialRules};
@@ -67,7 +68,7 @@ pub fn push(w: Waiting, v: u64) -> Turn
 // High and low taken, high·(power p) + low pushed: the same for kinds 3 and 4.
 pub fn join(w: Waiting, power: u64, m: u64) -> Turn
     requires { ⌜ FitsSixteen w × IsModulus m ⌝ }
-    ensures { λ r. ⌜ Waits (joinOf (trialRules m) 3 power (waitingIn w)) r ⌝ }
+    ensures { λ r. ⌜ Waits (joinOf (trialRules m) false power (waitingIn w)) r ⌝ }
 {
     let at = w.count;
     if at < 2 {

@@ -1,6 +1,7 @@
 -- `walk::steps::combine` meets its contract. Where power p is there, the two values are joined by it; where it is not, the definition has
 -- none either.
 use mathlib.Core.Path.{sym, _∙_, ap}
+use mathlib.Core.Bool.{false}
 use borrow.Author.Needs.{needs}
 use denote.Ref.{now}
 use Rattle.walk.specs.inside.Arrays.{found, powersOf}
@@ -29,7 +30,7 @@ returns c =
     let a = entry .args in
     record {
       is = c .refused .ensures .is
-          ∙ combine-missing (trialRules (a .m)) 3 (powersOf (now (a .powers)) (now (a .made))) (waitingIn (a .w)) (a .p)
+          ∙ combine-missing (trialRules (a .m)) false (powersOf (now (a .powers)) (now (a .made))) (waitingIn (a .w)) (a .p)
           (sym (at-power-at .power-at .ensures .is) ∙ ap found (c .before .enum-told .given .1));
       fits = c .refused .ensures .fits;
     }
@@ -45,7 +46,7 @@ returns-2 c =
     let a = entry .args in
     record {
       is = c .join .ensures .is
-          ∙ combine-is (trialRules (a .m)) 3 (powersOf (now (a .powers)) (now (a .made))) (waitingIn (a .w)) (a .p) (at-v .v .given .0 .0)
+          ∙ combine-is (trialRules (a .m)) false (powersOf (now (a .powers)) (now (a .made))) (waitingIn (a .w)) (a .p) (at-v .v .given .0 .0)
           (sym (at-power-at .power-at .ensures .is) ∙ ap found (at-v .v .given .1));
       fits = c .join .ensures .fits;
     }

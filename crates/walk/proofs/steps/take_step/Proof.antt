@@ -1,12 +1,15 @@
 -- `walk::steps::take_step` meets its contract. Kind by kind: each branch is a case of the definition, and each refusal one of its tests.
 -- Kinds 3 and 4 combine alike modulo m.
+use mathlib.Core.Path.{refl, ap}
+use mathlib.Core.Bool.{true, false}
 use borrow.Author.Needs.{needs}
 use denote.Ref.{now}
 use Rattle.walk.specs.inside.Arrays.{powersOf}
 use Rattle.walk.specs.inside.Taken.{stateOf}
+use Rattle.walk.specs.Kinds.{kindOf}
 use Rattle.walk.specs.Rules.{trialRules}
 use Rattle.walk.specs.Boundaries.{listAt}
-use Rattle.walk.proofs.StepLaws.{turn-step, act-make, act-third, act-fourth, act-load, act-third-kind, act-fourth-kind, act-unknown, combine-alike}
+use Rattle.walk.proofs.StepLaws.{turn-step, combine-alike, third-used, fourth-used, both-unused, act-make, act-used, act-load, act-combine, act-unknown}
 use Rattle.walk.proofs.steps.take_step.Statement.{statement}
 use Rattle.walk.proofs.steps.take_step.Tie as tie
 
@@ -39,8 +42,8 @@ returns-2 c =
     let lists = listAt (now (a .coefficients)) (now (a .bounds)) in
     let state = stateOf (now (a .powers)) (now (a .made)) (a .w) in
     turn-step (now (a .powers)) (now (a .made)) (c .refused .ensures)
-    (act-third (trialRules (a .m)) (a .parity) (a .basis) lists (step .kind) (step .x) (step .y) (step .z) state (at-if1 .if1 .left)
-    (c .before .if2 .taken))
+    (act-used (trialRules (a .m)) (a .parity) (a .basis) lists (step .kind) (step .x) (step .y) (step .z) state (at-if1 .if1 .left)
+    (third-used (step .y) (step .z) (c .before .if2 .taken)))
 
 refused-requires-2 : tie.Need-refused-requires-2
 refused-requires-2 c κs = search needs
@@ -55,8 +58,8 @@ returns-3 c =
     let lists = listAt (now (a .coefficients)) (now (a .bounds)) in
     let state = stateOf (now (a .powers)) (now (a .made)) (a .w) in
     turn-step (now (a .powers)) (now (a .made)) (c .refused2 .ensures)
-    (act-fourth (trialRules (a .m)) (a .parity) (a .basis) lists (step .kind) (step .x) (step .y) (step .z) state (at-if1 .if1 .left) (at-if2 .if2 .left)
-    (c .before .if3 .taken))
+    (act-used (trialRules (a .m)) (a .parity) (a .basis) lists (step .kind) (step .x) (step .y) (step .z) state (at-if1 .if1 .left)
+    (fourth-used (step .y) (step .z) (at-if2 .if2 .left) (c .before .if3 .taken)))
 
 load-requires : tie.Need-load-requires
 load-requires c κs = search needs
@@ -72,8 +75,8 @@ returns-4 c =
     let lists = listAt (now (a .coefficients)) (now (a .bounds)) in
     let state = stateOf (now (a .powers)) (now (a .made)) (a .w) in
     turn-step (now (a .powers)) (now (a .made)) (c .load .ensures)
-    (act-load (trialRules (a .m)) (a .parity) (a .basis) lists (step .kind) (step .x) (step .y) (step .z) state (at-if2 .if2 .left) (at-if3 .if3 .left)
-    (at-if4 .if4 .taken))
+    (act-load (trialRules (a .m)) (a .parity) (a .basis) lists (step .kind) (step .x) (step .y) (step .z) state
+    (both-unused (step .y) (step .z) (at-if2 .if2 .left) (at-if3 .if3 .left)) (at-if4 .if4 .taken))
 
 combine-requires : tie.Need-combine-requires
 combine-requires c κs = search needs
@@ -89,8 +92,8 @@ returns-5 c =
     let lists = listAt (now (a .coefficients)) (now (a .bounds)) in
     let state = stateOf (now (a .powers)) (now (a .made)) (a .w) in
     turn-step (now (a .powers)) (now (a .made)) (c .combine .ensures)
-    (act-third-kind (trialRules (a .m)) (a .parity) (a .basis) lists (step .kind) (step .x) (step .y) (step .z) state (at-if2 .if2 .left)
-    (at-if3 .if3 .left) (at-if5 .if5 .taken))
+    (act-combine (trialRules (a .m)) (a .parity) (a .basis) lists (step .kind) (step .x) (step .y) (step .z) state
+    (both-unused (step .y) (step .z) (at-if2 .if2 .left) (at-if3 .if3 .left)) false (ap kindOf (at-if5 .if5 .taken)) _ refl)
 
 combine-requires-2 : tie.Need-combine-requires-2
 combine-requires-2 c κs = search needs
@@ -106,8 +109,9 @@ returns-6 c =
     let lists = listAt (now (a .coefficients)) (now (a .bounds)) in
     let state = stateOf (now (a .powers)) (now (a .made)) (a .w) in
     turn-step (now (a .powers)) (now (a .made)) (c .combine2 .ensures)
-    (act-fourth-kind (trialRules (a .m)) (a .parity) (a .basis) lists (step .kind) (step .x) (step .y) (step .z) state (at-if2 .if2 .left)
-    (at-if3 .if3 .left) (at-if6 .if6 .taken) (combine-alike (a .m) (state .powers) (state .waiting) (step .x)))
+    (act-combine (trialRules (a .m)) (a .parity) (a .basis) lists (step .kind) (step .x) (step .y) (step .z) state
+    (both-unused (step .y) (step .z) (at-if2 .if2 .left) (at-if3 .if3 .left)) true (ap kindOf (at-if6 .if6 .taken)) _
+    (combine-alike (a .m) (state .powers) (state .waiting) (step .x)))
 
 refused-requires-3 : tie.Need-refused-requires-3
 refused-requires-3 c κs = search needs

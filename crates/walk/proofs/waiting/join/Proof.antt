@@ -1,6 +1,7 @@
 -- `walk::waiting::join` meets its contract. The last two values are high and low. The store puts their result in low's place, and leaves
 -- those before it.
 use mathlib.Core.Path.{_∙_}
+use mathlib.Core.Bool.{false}
 use Prim.Native.Nat.{_≤_}
 use native.Mathlib.Omega.{arith}
 use borrow.Author.Needs.{needs}
@@ -17,7 +18,7 @@ returns : tie.Need-returns
 returns c = let start = c .before .before in
     let w = start .args .t1 in
     record {
-      is = c .refused .ensures .is ∙ join-few (trialRules (start .args .m)) 3 (start .args .power) (w .values) (w .count)
+      is = c .refused .ensures .is ∙ join-few (trialRules (start .args .m)) false (start .args .power) (w .values) (w .count)
           (c .before .if1 .taken);
       fits = c .refused .ensures .fits;
     }
@@ -61,7 +62,7 @@ returns-2 c =
     let inside : w .count ≤ length (w .values) = omega arith in
     record {
       is = rw (c .add-mod .ensures, c .before .mul-mod .ensures)
-          (join-is (trialRules m) 3 (entry .args .power) (w .values) (w .count) (at-if1 .if1 .left) inside);
+          (join-is (trialRules m) false (entry .args .power) (w .values) (w .count) (at-if1 .if1 .left) inside);
       fits = record { count = omega arith; places = simp length-set (entry .pre .0 .places) };
     }
 
