@@ -15,12 +15,13 @@ use Rattle.algebra.specs.declared.Basis.the-variants.{Monomial, Chebyshev}
 use Rattle.algebra.specs.declared.Parity.{Parity}
 use Rattle.walk.specs.Limits.{waitingLimit}
 use Rattle.walk.specs.Options.{_then_, image}
+use Rattle.walk.specs.Kinds.{Kind, make, load, combine, unknown, kindOf}
 use Rattle.walk.specs.Rules.{Rules}
 use Rattle.walk.specs.State.{Powers, Lists, State}
 use Rattle.walk.specs.Make.{isMakeable, withPower, firstPowers, powerFrom, makeOf}
 use Rattle.walk.specs.Load.{pushOf, placedIf, addPlace, sumFrom, loadOf}
 use Rattle.walk.specs.Combine.{joinOf, combineOf}
-use Rattle.walk.specs.Walk.{oneLeft, actOf, stepOf, runOf, firstState, walkOf}
+use Rattle.walk.specs.Walk.{oneLeft, unusedZero, actOf, stepOf, runOf, firstState, walkOf}
 use Rattle.walk.specs.Lent.{lentSteps, lentLists, countsFit, boundsRise, lentWalk}
 use Rattle.walk.specs.CarryLaw.{TakesRules, powersBy, stateBy, CarryLaw}
 use Rattle.walk.specs.declared.plan.Step.{Step}
@@ -107,39 +108,34 @@ module _ {A B : Type 0} (𝓡 : Rules A) (𝓢 : Rules B) (f : A → B) (H : Tak
         by none = refl
 
   -- a combine
-  module _ (kind : ℕ) where
-    join-image : (power : A) (waiting : List A) → joinOf 𝓢 kind (f power) (map f waiting) ≡ image (map f) (joinOf 𝓡 kind power waiting)
+  module _ (plain : Bool) where
+    join-image : (power : A) (waiting : List A) → joinOf 𝓢 plain (f power) (map f waiting) ≡ image (map f) (joinOf 𝓡 plain power waiting)
     unfolding joinOf
     join-image power [] = refl
     join-image power (high ∷ []) = refl
-    join-image power (high ∷ low ∷ rest) = ap (λ v. some (v ∷ map f rest)) (sym (H .combine kind power high low))
+    join-image power (high ∷ low ∷ rest) = ap (λ v. some (v ∷ map f rest)) (sym (H .combine plain power high low))
 
     combine-image : (powers : Powers A) (waiting : List A) (p : ℕ)
-        → combineOf 𝓢 kind (powersBy f powers) (map f waiting) p ≡ image (map f) (combineOf 𝓡 kind powers waiting p)
+        → combineOf 𝓢 plain (powersBy f powers) (map f waiting) p ≡ image (map f) (combineOf 𝓡 plain powers waiting p)
     unfolding combineOf
     combine-image powers waiting p = then-image f (map f) (powers p) _ _ _ refl (λ v. join-image v waiting)
 
   -- steps, and runs of them
   module _ (parity : Parity) (basis : Basis) (lists : Lists) where
-    act-image : (kind x y z : ℕ) (state : State A)
+    act-image : (kind : Kind) (x y z : ℕ) (state : State A)
         → actOf 𝓢 parity basis lists kind x y z (stateBy f state) ≡ image (stateBy f) (actOf 𝓡 parity basis lists kind x y z state)
     unfolding actOf
-    act-image zero x y z state = refl
-    act-image (suc zero) x y z state =
+    act-image make x y z state =
         then-image (powersBy f) (stateBy f) (makeOf 𝓡 basis (state .powers) x y z) _ _ _ (make-image basis (state .powers) x y z) (λ powers. refl)
-    act-image (suc (suc zero)) x y z state =
-        when-image (stateBy f) (eqb y 0 && eqb z 0) _ _
+    act-image load x y z state =
+        when-image (stateBy f) (unusedZero y z) _ _
         (then-image (map f) (stateBy f) (loadOf 𝓡 parity (state .powers) lists (state .waiting) x) _ _ _
         (load-image parity (state .powers) lists (state .waiting) x) (λ ws. refl))
-    act-image (suc (suc (suc zero))) x y z state =
-        when-image (stateBy f) (eqb y 0 && eqb z 0) _ _
-        (then-image (map f) (stateBy f) (combineOf 𝓡 3 (state .powers) (state .waiting) x) _ _ _
-        (combine-image 3 (state .powers) (state .waiting) x) (λ ws. refl))
-    act-image (suc (suc (suc (suc zero)))) x y z state =
-        when-image (stateBy f) (eqb y 0 && eqb z 0) _ _
-        (then-image (map f) (stateBy f) (combineOf 𝓡 4 (state .powers) (state .waiting) x) _ _ _
-        (combine-image 4 (state .powers) (state .waiting) x) (λ ws. refl))
-    act-image (suc (suc (suc (suc (suc kind))))) x y z state = refl
+    act-image (combine plain) x y z state =
+        when-image (stateBy f) (unusedZero y z) _ _
+        (then-image (map f) (stateBy f) (combineOf 𝓡 plain (state .powers) (state .waiting) x) _ _ _
+        (combine-image plain (state .powers) (state .waiting) x) (λ ws. refl))
+    act-image unknown x y z state = refl
 
     run-image : (steps : List Step) (state : State A)
         → runOf 𝓢 parity basis lists steps (stateBy f state) ≡ image (stateBy f) (runOf 𝓡 parity basis lists steps state)
@@ -147,7 +143,7 @@ module _ {A B : Type 0} (𝓡 : Rules A) (𝓢 : Rules B) (f : A → B) (H : Tak
     run-image [] state = refl
     run-image (step ∷ steps) state =
         then-image (stateBy f) (stateBy f) (stepOf 𝓡 parity basis lists step state) _ _ _
-        (act-image (step .kind) (step .x) (step .y) (step .z) state) (λ next. run-image steps next)
+        (act-image (kindOf (step .kind)) (step .x) (step .y) (step .z) state) (λ next. run-image steps next)
 
     walk-image : (steps : List Step) (y : A) → walkOf 𝓢 parity basis lists steps (f y) ≡ image f (walkOf 𝓡 parity basis lists steps y)
     unfolding walkOf

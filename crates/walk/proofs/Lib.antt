@@ -1,6 +1,16 @@
-mod Options
-mod BoundaryLaws
+pub mod Options
+mod Modular
+mod SignedParts
+pub mod PowerLaws
+pub mod SumLaws
+pub mod StackLaws
+pub mod BoundaryLaws
+pub mod StepLaws
+pub mod RunLaws
+pub mod LentLaws
 pub mod CarryLaw
+pub mod RunsAlike
 pub mod Unrunnable
+pub mod UsesMade
 pub mod WalksHeld
 pub mod TrialFollows

@@ -2,6 +2,8 @@
 use mathlib.Core.Path.{_≡_, refl}
 use mathlib.Core.Bool.{Bool, true, false, not, _||_}
 use mathlib.Core.Option.{Option, some, none}
+use Prim.Native.Nat.{ℕ}
+use native.Mathlib.Omega.{arith}
 use Rattle.walk.specs.Options.{_then_, when, missing, image}
 
 pub then-image : {X X′ Y Y′ : Type 0} (f : X → X′) (h : Y → Y′) (o : Option X) (o′ : Option X′) (g : X → Option Y) (g′ : X′ → Option Y′)
@@ -16,6 +18,10 @@ when-image h false o o′ e = refl
 pub missing-image : {A B : Type 0} (f : A → B) (o : Option A) → missing (image f o) ≡ missing o
 missing-image f (some v) = refl
 missing-image f none = refl
+
+pub then-alike : {X Y : Type 0} (o : Option X) {f g : X → Option Y} → ((v : X) → f v ≡ g v) → (o then f) ≡ (o then g)
+then-alike (some v) k = k v
+then-alike none k = refl
 
 pub then-assoc : {X Y Z : Type 0} (o : Option X) (f : X → Option Y) (g : Y → Option Z) → (o then f then g) ≡ (o then λ v. f v then g)
 then-assoc (some v) f g = refl
@@ -35,3 +41,21 @@ pub lift : {X Y : Type 0} (ok : Bool) (v : X) (f : X → Y) (wanted : Option X) 
     → when ok (some (f v)) ≡ (wanted then λ u. some (f u))
 lift true v f wanted e = rw (← e)
 lift false v f wanted e = rw (← e)
+
+-- ---- an answer that is there: so is what it was made of
+
+pub same-some : {X : Type 0} {u v : X} → some u ≡ some v → u ≡ v
+same-some e = cc
+
+pub record Both {X Y : Type 0} (o : Option X) (f : X → Option Y) (r : Y) : Type 0 where
+  pub value : X
+  pub is : o ≡ some value
+  pub next : f value ≡ some r
+
+pub then-some : {X Y : Type 0} (o : Option X) (f : X → Option Y) (r : Y) → (o then f) ≡ some r → Both o f r
+then-some (some v) f r e = record { value = v; is = refl; next = e }
+then-some none f r e = let same : _≡_ {A = ℕ} 0 1 = cc in absurd (omega arith)
+
+pub when-some : {X : Type 0} (t : Bool) (o : Option X) (r : X) → when t o ≡ some r → o ≡ some r
+when-some true o r e = e
+when-some false o r e = let same : _≡_ {A = ℕ} 0 1 = cc in absurd (omega arith)

@@ -12,8 +12,6 @@ use Rattle.algebra.specs.Remainder.{rem, remainders}
 use Rattle.algebra.specs.Transform.{inputOf, outputOf}
 use Rattle.algebra.specs.declared.PolynomialInputTransform.{PolynomialInputTransform}
 use Rattle.algebra.specs.declared.PolynomialInputTransform.the-variants.{Identity, Square, SquareTimesInput, ChebyshevT2, ChebyshevT2TimesInput}
-use Rattle.algebra.proofs.Remainders.{rem-lt}
-use Rattle.algebra.proofs.Homomorphism.{Homomorphism, hom-double, remainder-homomorphism}
 use Rattle.number.specs.Refusal.{unlessRefused}
 use Rattle.walk.specs.Limits.{modulusLimit}
 use Rattle.walk.specs.Options.{image}
@@ -24,6 +22,8 @@ use Rattle.walk.specs.CarryLaw.{TakesRules}
 use Rattle.walk.specs.TrialFollows.{TrialFollows}
 use Rattle.walk.specs.declared.plan.Head.{Head}
 use Rattle.walk.specs.declared.call.Trial.{Trial}
+use Rattle.algebra.proofs.Remainders.{rem-lt}
+use Rattle.algebra.proofs.Homomorphism.{Homomorphism, hom-double, remainder-homomorphism}
 use Rattle.walk.proofs.CarryLaw.{carry-law}
 
 -- a map that keeps the operations takes the rules over them
@@ -58,7 +58,7 @@ module _ {A B : Type 0} (𝓞 : Operations A) (𝓟 : Operations B) (f : A → B
     productLess = product-less;
     nothing = H .zero;
     place = λ sum c j power. H .add sum _ ∙ ap (𝓟 .add (f sum)) (H .mul (φ c) power);
-    combine = λ kind power high low. H .add _ low ∙ ap (λ t. 𝓟 .add t (f low)) (H .mul high power);
+    combine = λ plain power high low. H .add _ low ∙ ap (λ t. 𝓟 .add t (f low)) (H .mul high power);
     input = input-taken;
     output = output-taken;
   }

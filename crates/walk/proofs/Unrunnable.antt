@@ -3,11 +3,11 @@ use mathlib.Core.Path.{_≡_, refl, _∙_, ap}
 use mathlib.Core.Bool.{Bool, true, false, not, _&&_, _||_}
 use mathlib.Core.List.{List, [], _∷_}
 use mathlib.Core.Option.{Option, some, none}
-use Prim.Native.Nat.{ℕ, zero, suc, _/_, _<_}
+use Prim.Native.Nat.{ℕ, suc, _/_, _<_}
 use native.Mathlib.Decide.{decLt}
 use native.Mathlib.Omega.{arith}
 use borrow.Author.Tests.{lt-ltb, le-ltb, le-leb, lt-leb, ne-eqb}
-use lib.Dec.{eqb, leb, ltb}
+use lib.Dec.{leb, ltb}
 use lib.IntN.{ℤ}
 use lib.ListN.{length}
 use Rattle.algebra.specs.Allowed.{allows}
@@ -18,12 +18,13 @@ use Rattle.algebra.specs.declared.Parity.{Parity}
 use Rattle.number.specs.Limits.{planLimit}
 use Rattle.walk.specs.Limits.{waitingLimit}
 use Rattle.walk.specs.Options.{_then_, missing}
+use Rattle.walk.specs.Kinds.{Kind, make, load, combine, unknown, kindOf}
 use Rattle.walk.specs.Rules.{Rules}
 use Rattle.walk.specs.State.{Powers, Lists, State}
 use Rattle.walk.specs.Make.{isSplit, isMakeable, powerFrom, makeOf}
 use Rattle.walk.specs.Load.{pushOf, placedIf, addPlace, sumFrom, loadOf}
 use Rattle.walk.specs.Combine.{joinOf, combineOf}
-use Rattle.walk.specs.Walk.{oneLeft, actOf, stepOf, runOf, firstState, walkOf}
+use Rattle.walk.specs.Walk.{oneLeft, unusedZero, actOf, stepOf, runOf, firstState, walkOf}
 use Rattle.walk.specs.Lent.{lentSteps, lentLists, countsFit, boundsRise, lentWalk}
 use Rattle.walk.specs.Uses.{partsUsed, usedIf, placesUsed, listUses, usesBy}
 use Rattle.walk.specs.Unrunnable.{anyHolds, anyMissing, failsAt, endReason, reasonsBy, stops, unrunnable, RefusedForReasons}
@@ -137,15 +138,15 @@ module _ {A : Type 0} (𝓡 : Rules A) where
 
   -- ---- a combine
 
-  module _ (kind : ℕ) where
-    join-missing : (power : A) (waiting : List A) → missing (joinOf 𝓡 kind power waiting) ≡ (ltb (length waiting) 2 || false)
+  module _ (plain : Bool) where
+    join-missing : (power : A) (waiting : List A) → missing (joinOf 𝓡 plain power waiting) ≡ (ltb (length waiting) 2 || false)
     unfolding joinOf
     join-missing power [] = refl
     join-missing power (high ∷ []) = refl
     join-missing power (high ∷ low ∷ rest) = rw (le-ltb (suc (suc (length rest))) 2 (omega arith))
 
     combine-missing : (powers : Powers A) (waiting : List A) (p : ℕ)
-        → missing (combineOf 𝓡 kind powers waiting p) ≡ (anyMissing powers (p ∷ []) || (ltb (length waiting) 2 || false))
+        → missing (combineOf 𝓡 plain powers waiting p) ≡ (anyMissing powers (p ∷ []) || (ltb (length waiting) 2 || false))
     unfolding combineOf anyMissing
     combine-missing powers waiting p =
         then-test (powers p) _ _ (λ v. join-missing v waiting)
@@ -154,26 +155,21 @@ module _ {A : Type 0} (𝓡 : Rules A) where
   -- ---- steps, and the end
 
   module _ (parity : Parity) (basis : Basis) (lists : Lists) where
-    act-missing : (kind x y z : ℕ) (state : State A)
+    pub act-missing : (kind : Kind) (x y z : ℕ) (state : State A)
         → missing (actOf 𝓡 parity basis lists kind x y z state)
-        ≡ anyHolds (reasonsBy parity basis lists kind x y z (usesBy parity basis lists kind x y z) state)
+        ≡ anyHolds (reasonsBy lists kind x y z (usesBy parity basis lists kind x y z) state)
     unfolding actOf reasonsBy usesBy anyHolds
-    act-missing zero x y z state = refl
-    act-missing (suc zero) x y z state =
+    act-missing make x y z state =
         missing-then (makeOf 𝓡 basis (state .powers) x y z) _ ∙ make-missing basis (state .powers) x y z
-    act-missing (suc (suc zero)) x y z state =
-        missing-when (eqb y 0 && eqb z 0) _
-        ∙ ap (not (eqb y 0 && eqb z 0) ||_)
+    act-missing load x y z state =
+        missing-when (unusedZero y z) _
+        ∙ ap (not (unusedZero y z) ||_)
         (missing-then (loadOf 𝓡 parity (state .powers) lists (state .waiting) x) _ ∙ load-missing parity (state .powers) lists (state .waiting) x)
-    act-missing (suc (suc (suc zero))) x y z state =
-        missing-when (eqb y 0 && eqb z 0) _
-        ∙ ap (not (eqb y 0 && eqb z 0) ||_)
-        (missing-then (combineOf 𝓡 3 (state .powers) (state .waiting) x) _ ∙ combine-missing 3 (state .powers) (state .waiting) x)
-    act-missing (suc (suc (suc (suc zero)))) x y z state =
-        missing-when (eqb y 0 && eqb z 0) _
-        ∙ ap (not (eqb y 0 && eqb z 0) ||_)
-        (missing-then (combineOf 𝓡 4 (state .powers) (state .waiting) x) _ ∙ combine-missing 4 (state .powers) (state .waiting) x)
-    act-missing (suc (suc (suc (suc (suc kind))))) x y z state = refl
+    act-missing (combine plain) x y z state =
+        missing-when (unusedZero y z) _
+        ∙ ap (not (unusedZero y z) ||_)
+        (missing-then (combineOf 𝓡 plain (state .powers) (state .waiting) x) _ ∙ combine-missing plain (state .powers) (state .waiting) x)
+    act-missing unknown x y z state = refl
 
     end-missing : (waiting : List A) → missing (oneLeft waiting) ≡ endReason waiting
     unfolding oneLeft
@@ -187,7 +183,7 @@ module _ {A : Type 0} (𝓡 : Rules A) where
     run-missing [] state = end-missing (state .waiting)
     run-missing (step ∷ steps) state =
         ap missing (then-assoc (stepOf 𝓡 parity basis lists step state) _ _)
-        ∙ then-fails (stepOf 𝓡 parity basis lists step state) _ _ _ (act-missing (step .kind) (step .x) (step .y) (step .z) state)
+        ∙ then-fails (stepOf 𝓡 parity basis lists step state) _ _ _ (act-missing (kindOf (step .kind)) (step .x) (step .y) (step .z) state)
         (λ next. run-missing steps next)
 
 pub refused-for-reasons : (A : Type 0) → RefusedForReasons A

@@ -1,11 +1,11 @@
 -- A plan's lists stand one after another among the coefficients: boundary i is the first place after list i.
 use mathlib.Core.Bool.{Bool, true, _&&_}
 use mathlib.Core.List.{List, [], _∷_}
+use mathlib.Core.Option.{some}
 use Prim.Native.Nat.{ℕ, zero, suc, _-_}
 use lib.Dec.{leb, ltb}
 use lib.IntN.{ℤ}
 use lib.ListN.{length, take, drop, getD}
-use mathlib.Core.Option.{some}
 use Rattle.walk.specs.Options.{when}
 use Rattle.walk.specs.State.{Lists}
 

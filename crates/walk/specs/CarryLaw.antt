@@ -1,5 +1,6 @@
 -- A map that takes one walk's rules to another's takes every run to the other's, refusals too: of any steps, not only planned ones.
 use mathlib.Core.Path.{_≡_}
+use mathlib.Core.Bool.{Bool}
 use mathlib.Core.List.{List, map}
 use Prim.Native.Nat.{ℕ}
 use lib.IntN.{ℤ}
@@ -22,7 +23,7 @@ pub record TakesRules {A B : Type 0} (𝓡 : Rules A) (𝓢 : Rules B) (f : A �
   pub productLess : (u v w : A) → f (𝓡 .productLess u v w) ≡ 𝓢 .productLess (f u) (f v) (f w)
   pub nothing : f (𝓡 .nothing) ≡ 𝓢 .nothing
   pub place : (sum : A) (c : ℤ) (j : ℕ) (power : A) → f (𝓡 .place sum c j power) ≡ 𝓢 .place (f sum) c j (f power)
-  pub combine : (kind : ℕ) (power high low : A) → f (𝓡 .combine kind power high low) ≡ 𝓢 .combine kind (f power) (f high) (f low)
+  pub combine : (plain : Bool) (power high low : A) → f (𝓡 .combine plain power high low) ≡ 𝓢 .combine plain (f power) (f high) (f low)
   pub input : (transform : PolynomialInputTransform) (x : A) → f (𝓡 .input transform x) ≡ 𝓢 .input transform (f x)
   pub output : (transform : PolynomialInputTransform) (x v : A) → f (𝓡 .output transform x v) ≡ 𝓢 .output transform (f x) (f v)
 

@@ -1,5 +1,6 @@
 pub mod Limits
 pub mod Options
+pub mod Kinds
 pub mod Rules
 pub mod State
 pub mod Make
@@ -12,6 +13,8 @@ pub mod Trial
 pub mod Uses
 pub mod Unrunnable
 pub mod CarryLaw
+pub mod RunsAlike
+pub mod UsesMade
 pub mod TrialFollows
 pub mod WalksHeld
 pub mod inside

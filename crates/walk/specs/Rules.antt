@@ -1,5 +1,6 @@
 -- The rules of the walk (document 01, "Steps and the walk"): what it makes of the values at hand. When it can't go on is no matter of rules.
 -- Coefficients and points are whole numbers, whatever the values are.
+use mathlib.Core.Bool.{Bool}
 use Prim.Native.Nat.{ℕ}
 use lib.IntN.{ℤ}
 use Rattle.algebra.specs.Operations.{Operations, double, wholeOps}
@@ -20,8 +21,8 @@ pub record Rules (A : Type 0) : Type 0 where
   pub nothing : A
   -- a list's sum with one more place, j, of coefficient c
   pub place : (sum : A) (c : ℤ) (j : ℕ) (power : A) → A
-  -- high and low, combined by a power in a step of kind 3 or 4
-  pub combine : (kind : ℕ) (power high low : A) → A
+  -- high and low, combined by a power; plain is a combine of kind 4
+  pub combine : (plain : Bool) (power high low : A) → A
   -- power 1, from the point
   pub input : PolynomialInputTransform → (x : A) → A
   -- the walk's value, from the point and the value that is left
@@ -36,7 +37,7 @@ rulesOver 𝓞 φ = record {
   productLess = λ u v w. 𝓞 .sub (double 𝓞 (𝓞 .mul u v)) w;
   nothing = 𝓞 .zero;
   place = λ sum c j power. 𝓞 .add sum (𝓞 .mul (φ c) power);
-  combine = λ kind power high low. 𝓞 .add (𝓞 .mul high power) low;
+  combine = λ plain power high low. 𝓞 .add (𝓞 .mul high power) low;
   input = inputOf 𝓞;
   output = outputOf 𝓞;
 }

@@ -1,10 +1,10 @@
 -- Document 01's reasons why a walk can't run a lent plan, refusal 24: each a test of the head and its buffers, of a step at the state that the
 -- steps before it left, or of the state at the end.
 use mathlib.Core.Path.{_≡_}
-use mathlib.Core.Bool.{Bool, true, false, not, _&&_, _||_}
+use mathlib.Core.Bool.{Bool, true, false, not, _||_}
 use mathlib.Core.List.{List, [], _∷_}
 use mathlib.Core.Option.{Option, some, none}
-use Prim.Native.Nat.{ℕ, zero, suc, _/_}
+use Prim.Native.Nat.{ℕ, _/_}
 use lib.Dec.{eqb, leb, ltb}
 use lib.IntN.{ℤ}
 use lib.ListN.{length}
@@ -13,12 +13,13 @@ use Rattle.algebra.specs.declared.Parity.{Parity}
 use Rattle.number.specs.Limits.{planLimit}
 use Rattle.walk.specs.Limits.{waitingLimit}
 use Rattle.walk.specs.Options.{missing}
+use Rattle.walk.specs.Kinds.{Kind, make, load, combine, unknown, kindOf}
 use Rattle.walk.specs.Rules.{Rules}
 use Rattle.walk.specs.State.{Powers, Lists, State}
 use Rattle.walk.specs.Make.{isSplit}
-use Rattle.walk.specs.Walk.{stepOf, firstState}
+use Rattle.walk.specs.Walk.{unusedZero, stepOf, firstState}
 use Rattle.walk.specs.Lent.{lentSteps, lentLists, boundsRise, lentWalk}
-use Rattle.walk.specs.Uses.{usesBy}
+use Rattle.walk.specs.Uses.{usesOf}
 use Rattle.walk.specs.declared.plan.Step.{Step}
 use Rattle.walk.specs.declared.plan.Head.{Head}
 
@@ -32,7 +33,7 @@ unfoldable pub anyMissing : {A : Type 0} → Powers A → List ℕ → Bool
 anyMissing powers [] = false
 anyMissing powers (n ∷ ns) = missing (powers n) || anyMissing powers ns
 
--- a test of what is there, which holds, too, where nothing is
+-- a test of what a step left; where it left nothing, it holds
 abbrev pub failsAt : {X : Type 0} → Option X → (X → Bool) → Bool
 failsAt (some v) test = test v
 failsAt none test = true
@@ -46,34 +47,27 @@ headReasons head coefficients bounds steps =
     ∷ not (boundsRise head bounds)
     ∷ []
 
--- an unused field is not 0
-abbrev pub unusedField : (y z : ℕ) → Bool
-unusedField y z = not (eqb y 0 && eqb z 0)
+-- of a step by its kind, where `uses` are the powers that it uses
+unfoldable pub reasonsBy : {A : Type 0} → Lists → Kind → (x y z : ℕ) → (uses : List ℕ) → State A → List Bool
+-- power x is above 4,095, was made before, or has another split; a power that it uses is not there
+reasonsBy lists make x y z uses state =
+    ltb planLimit x ∷ not (missing (state .powers x)) ∷ not (isSplit x y z) ∷ anyMissing (state .powers) uses ∷ []
+-- an unused number is not 0; there is no list x; a power that it uses is not there; 16 values already wait
+reasonsBy lists load x y z uses state =
+    not (unusedZero y z) ∷ missing (lists x) ∷ anyMissing (state .powers) uses ∷ leb waitingLimit (length (state .waiting)) ∷ []
+-- an unused number is not 0; power x is not there; fewer than two values wait
+reasonsBy lists (combine plain) x y z uses state =
+    not (unusedZero y z) ∷ anyMissing (state .powers) uses ∷ ltb (length (state .waiting)) 2 ∷ []
+-- a kind other than 1 to 4
+reasonsBy lists unknown x y z uses state = true ∷ []
 
--- after the last step there is not exactly one value waiting
+abbrev pub stepReasons : {A : Type 0} → Parity → Basis → Lists → Step → State A → List Bool
+stepReasons parity basis lists step state =
+    reasonsBy lists (kindOf (step .kind)) (step .x) (step .y) (step .z) (usesOf parity basis lists step) state
+
+-- after the last step not exactly one value waits
 abbrev pub endReason : {A : Type 0} → (waiting : List A) → Bool
 endReason waiting = not (eqb (length waiting) 1)
-
-module _ {A : Type 0} (parity : Parity) (basis : Basis) (lists : Lists) where
-  -- by kind, and for a kind other than 1 to 4 always
-  unfoldable pub reasonsBy : (kind x y z : ℕ) → (uses : List ℕ) → State A → List Bool
-  reasonsBy zero x y z uses state = true ∷ []
-  -- the power is above 4,095, or was made before; wrong parts; a part that isn't there
-  reasonsBy (suc zero) x y z uses state =
-      ltb planLimit x ∷ not (missing (state .powers x)) ∷ not (isSplit x y z) ∷ anyMissing (state .powers) uses ∷ []
-  -- no such list; one of its powers isn't there; 16 values already wait
-  reasonsBy (suc (suc zero)) x y z uses state =
-      unusedField y z ∷ missing (lists x) ∷ anyMissing (state .powers) uses ∷ leb waitingLimit (length (state .waiting)) ∷ []
-  -- its power isn't there; fewer than two values wait
-  reasonsBy (suc (suc (suc zero))) x y z uses state =
-      unusedField y z ∷ anyMissing (state .powers) uses ∷ ltb (length (state .waiting)) 2 ∷ []
-  reasonsBy (suc (suc (suc (suc zero)))) x y z uses state =
-      unusedField y z ∷ anyMissing (state .powers) uses ∷ ltb (length (state .waiting)) 2 ∷ []
-  reasonsBy (suc (suc (suc (suc (suc kind))))) x y z uses state = true ∷ []
-
-  abbrev pub stepReasons : Step → State A → List Bool
-  stepReasons step state =
-      reasonsBy (step .kind) (step .x) (step .y) (step .z) (usesBy parity basis lists (step .kind) (step .x) (step .y) (step .z)) state
 
 module _ {A : Type 0} (𝓡 : Rules A) (parity : Parity) (basis : Basis) (lists : Lists) where
   -- whether a reason holds at one of the steps, each at the state that those before it left, or at the end

@@ -2,13 +2,14 @@
 use mathlib.Core.Bool.{Bool, true, false}
 use mathlib.Core.List.{List, [], _∷_}
 use mathlib.Core.Option.{Option, some, none}
-use Prim.Native.Nat.{ℕ, zero, suc}
+use Prim.Native.Nat.{ℕ, suc}
 use lib.IntN.{ℤ}
 use Rattle.algebra.specs.Allowed.{allows}
 use Rattle.algebra.specs.Distance.{distanceOf}
 use Rattle.algebra.specs.declared.Basis.{Basis}
 use Rattle.algebra.specs.declared.Basis.the-variants.{Monomial, Chebyshev}
 use Rattle.algebra.specs.declared.Parity.{Parity}
+use Rattle.walk.specs.Kinds.{Kind, make, load, combine, unknown, kindOf}
 use Rattle.walk.specs.State.{Lists}
 use Rattle.walk.specs.declared.plan.Step.{Step}
 
@@ -32,13 +33,11 @@ listUses parity (some c) = placesUsed parity 0 c
 listUses parity none = []
 
 -- by kind: a make uses its parts, a load its list's allowed powers, a combine its power
-unfoldable pub usesBy : Parity → Basis → Lists → (kind x y z : ℕ) → List ℕ
-usesBy parity basis lists zero x y z = []
-usesBy parity basis lists (suc zero) x y z = partsUsed basis y z
-usesBy parity basis lists (suc (suc zero)) x y z = listUses parity (lists x)
-usesBy parity basis lists (suc (suc (suc zero))) x y z = x ∷ []
-usesBy parity basis lists (suc (suc (suc (suc zero)))) x y z = x ∷ []
-usesBy parity basis lists (suc (suc (suc (suc (suc kind))))) x y z = []
+unfoldable pub usesBy : Parity → Basis → Lists → Kind → (x y z : ℕ) → List ℕ
+usesBy parity basis lists make x y z = partsUsed basis y z
+usesBy parity basis lists load x y z = listUses parity (lists x)
+usesBy parity basis lists (combine plain) x y z = x ∷ []
+usesBy parity basis lists unknown x y z = []
 
 abbrev pub usesOf : Parity → Basis → Lists → Step → List ℕ
-usesOf parity basis lists step = usesBy parity basis lists (step .kind) (step .x) (step .y) (step .z)
+usesOf parity basis lists step = usesBy parity basis lists (kindOf (step .kind)) (step .x) (step .y) (step .z)

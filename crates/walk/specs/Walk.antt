@@ -1,12 +1,13 @@
 -- The walk of lists and steps (document 01, "Steps and the walk"), over any rules.
-use mathlib.Core.Bool.{_&&_}
+use mathlib.Core.Bool.{Bool, _&&_}
 use mathlib.Core.List.{List, [], _∷_}
 use mathlib.Core.Option.{Option, some, none}
-use Prim.Native.Nat.{ℕ, zero, suc}
+use Prim.Native.Nat.{ℕ}
 use lib.Dec.{eqb}
 use Rattle.algebra.specs.declared.Basis.{Basis}
 use Rattle.algebra.specs.declared.Parity.{Parity}
 use Rattle.walk.specs.Options.{_then_, when}
+use Rattle.walk.specs.Kinds.{Kind, make, load, combine, unknown, kindOf}
 use Rattle.walk.specs.Rules.{Rules}
 use Rattle.walk.specs.State.{Lists, State, withPowers, withWaiting}
 use Rattle.walk.specs.Make.{firstPowers, makeOf}
@@ -20,26 +21,26 @@ oneLeft [] = none
 oneLeft (v ∷ []) = some v
 oneLeft (v ∷ w ∷ rest) = none
 
+-- a load or a combine leaves its third and fourth number unused: they are 0
+abbrev pub unusedZero : (y z : ℕ) → Bool
+unusedZero y z = eqb y 0 && eqb z 0
+
 -- at the start powers 0 and 1 are there, and nothing waits
 abbrev pub firstState : {A : Type 0} → Rules A → (y : A) → State A
 firstState 𝓡 y = record { powers = firstPowers 𝓡 y; waiting = [] }
 
 module _ {A : Type 0} (𝓡 : Rules A) (parity : Parity) (basis : Basis) (lists : Lists) where
-  -- a step by its kind: make, load, combine (ct-ct), combine (pt-ct); of the last three the third and fourth numbers are 0
-  unfoldable pub actOf : (kind x y z : ℕ) → State A → Option (State A)
-  actOf zero x y z state = none
-  actOf (suc zero) x y z state = makeOf 𝓡 basis (state .powers) x y z then λ powers. some (withPowers state powers)
-  actOf (suc (suc zero)) x y z state =
-      when (eqb y 0 && eqb z 0)
-      (loadOf 𝓡 parity (state .powers) lists (state .waiting) x then λ waiting. some (withWaiting state waiting))
-  actOf (suc (suc (suc zero))) x y z state =
-      when (eqb y 0 && eqb z 0) (combineOf 𝓡 3 (state .powers) (state .waiting) x then λ waiting. some (withWaiting state waiting))
-  actOf (suc (suc (suc (suc zero)))) x y z state =
-      when (eqb y 0 && eqb z 0) (combineOf 𝓡 4 (state .powers) (state .waiting) x then λ waiting. some (withWaiting state waiting))
-  actOf (suc (suc (suc (suc (suc kind))))) x y z state = none
+  -- a step by its kind
+  unfoldable pub actOf : Kind → (x y z : ℕ) → State A → Option (State A)
+  actOf make x y z state = makeOf 𝓡 basis (state .powers) x y z then λ powers. some (withPowers state powers)
+  actOf load x y z state =
+      when (unusedZero y z) (loadOf 𝓡 parity (state .powers) lists (state .waiting) x then λ waiting. some (withWaiting state waiting))
+  actOf (combine plain) x y z state =
+      when (unusedZero y z) (combineOf 𝓡 plain (state .powers) (state .waiting) x then λ waiting. some (withWaiting state waiting))
+  actOf unknown x y z state = none
 
   abbrev pub stepOf : Step → State A → Option (State A)
-  stepOf step state = actOf (step .kind) (step .x) (step .y) (step .z) state
+  stepOf step state = actOf (kindOf (step .kind)) (step .x) (step .y) (step .z) state
 
   -- step after step
   unfoldable pub runOf : List Step → State A → Option (State A)

@@ -1,5 +1,137 @@
+// The powers that were made: 4,096 numbers, and marks of which are there.
+use crate::limits::POWERS;
+use crate::remainder::add_mod;
+use crate::remainder::mul_mod;
+use crate::remainder::opposite;
+use crate::remainder::twice_mod;
+use number::Basis;
+use number::PLAN_LIMIT;
+use number::distance;
+use number::split_degree;
+ghost use mathlib.Core.Path.{_≡_};
+ghost use mathlib.Core.Option.{some};
+ghost use Prim.Native.Nat.{_%_};
+ghost use Rattle.number.specs.Limits.{countLimit};
+ghost use Rattle.walk.specs.Options.{when};
+ghost use Rattle.walk.specs.Rules.{trialRules};
+ghost use Rattle.walk.specs.Make.{isMakeable, powerFrom, makeOf};
+ghost use Rattle.walk.specs.inside.Arrays.{IsModulus, found, powersOf, firstNumbers, firstMarks, FoundPower, FoundMark};
+
 // A number, or none.
 pub enum Found {
     Number(u64),
     Missing,
+}
+
+// Whether power n is there.
+fn is_made(n: usize, made: &[bool; POWERS]) -> bool
+    ensures { λ r. ⌜ FoundMark (now (made .entry)) n r ⌝ }
+{
+    let all: &[bool] = made;
+    if n < all.len() { all[n] } else { false }
+}
+
+// Power n.
+pub fn power_at(n: usize, powers: &[u64; POWERS], made: &[bool; POWERS]) -> Found
+    ensures { λ r. ⌜ FoundPower (now (powers .entry)) (now (made .entry)) n r ⌝ }
+{
+    let all: &[u64] = powers;
+    if is_made(n, made) {
+        return Found::Number(all[n]);
+    }
+    Found::Missing
+}
+
+// Whether power n may be made of a and b: it is at most 4,095, and they are its split.
+fn is_makeable(n: usize, a: usize, b: usize) -> bool
+    ensures { λ r. ⌜ r ≡ isMakeable n a b ⌝ }
+{
+    if PLAN_LIMIT < n {
+        return false;
+    }
+    let parts = split_degree(n);
+    if a != parts.a {
+        return false;
+    }
+    b == parts.b
+}
+
+// X_a·X_b, or 2·T_a·T_b - T_c.
+fn power_from(
+    basis: Basis,
+    a: usize,
+    b: usize,
+    m: u64,
+    powers: &[u64; POWERS],
+    made: &[bool; POWERS],
+) -> Found
+    requires { ⌜ IsModulus m ⌝ }
+    ensures { λ r. ⌜ found r ≡ powerFrom (trialRules m) basis (powersOf (now (powers .entry)) (now (made .entry))) a b ⌝ }
+{
+    let Found::Number(u) = power_at(a, powers, made) else {
+        return Found::Missing;
+    };
+    let Found::Number(v) = power_at(b, powers, made) else {
+        return Found::Missing;
+    };
+    let product = mul_mod(u, v, m);
+    match basis {
+        Basis::Monomial => Found::Number(product),
+        Basis::Chebyshev => {
+            let Found::Number(w) = power_at(distance(a, b), powers, made) else {
+                return Found::Missing;
+            };
+            let less = opposite(w, m);
+            Found::Number(add_mod(twice_mod(product, m), less, m))
+        }
+    }
+}
+
+// Power n from its parts.
+pub fn make_power(
+    basis: Basis,
+    n: usize,
+    a: usize,
+    b: usize,
+    m: u64,
+    powers: &mut [u64; POWERS],
+    made: &mut [bool; POWERS],
+) -> bool
+    requires { ⌜ IsModulus m ⌝ }
+    ensures { λ r. ⌜ when r (some (powersOf (now (powers .exit)) (now (made .exit))))
+        ≡ makeOf (trialRules m) basis (powersOf (now (powers .entry)) (now (made .entry))) n a b ⌝ }
+{
+    if !is_makeable(n, a, b) {
+        return false;
+    }
+    if let Found::Number(_) = power_at(n, powers, made) {
+        return false;
+    }
+    let Found::Number(v) = power_from(basis, a, b, m, powers, made) else {
+        return false;
+    };
+    powers[n] = v;
+    made[n] = true;
+    true
+}
+
+// Power 0 is 1, power 1 is y.
+pub fn first_powers(y: u64, m: u64) -> [u64; POWERS]
+    requires { ⌜ IsModulus m ⌝ }
+    ensures { λ r. ⌜ r ≡ firstNumbers countLimit (1 % m) y ⌝ }
+{
+    let mut powers = [0u64; POWERS];
+    powers[0] = 1 % m;
+    powers[1] = y;
+    powers
+}
+
+// Powers 0 and 1 are there.
+pub fn first_marks() -> [bool; POWERS]
+    ensures { λ r. ⌜ r ≡ firstMarks countLimit ⌝ }
+{
+    let mut made = [false; POWERS];
+    made[0] = true;
+    made[1] = true;
+    made
 }

@@ -1,0 +1,47 @@
+// Remainders modulo m, and their operations. They ask no range of what they are handed.
+ghost use mathlib.Core.Path.{_≡_};
+ghost use Prim.Native.Nat.{_-_};
+ghost use Rattle.algebra.specs.Operations.{double};
+ghost use Rattle.algebra.specs.Remainder.{rem, remainders};
+ghost use Rattle.walk.specs.inside.Arrays.{IsModulus};
+
+// The remainder of a whole number, from 0 to m - 1. Below zero it is taken of -(x + 1), which fits for every x.
+pub fn remainder_of(x: i64, m: u64) -> u64
+    requires { ⌜ IsModulus m ⌝ }
+    ensures { λ r. ⌜ r ≡ rem m x ⌝ }
+{
+    if x >= 0 {
+        (x as u64) % m
+    } else {
+        let y = -(x + 1);
+        m - 1 - (y as u64) % m
+    }
+}
+
+pub fn add_mod(a: u64, b: u64, m: u64) -> u64
+    requires { ⌜ IsModulus m ⌝ }
+    ensures { λ r. ⌜ r ≡ remainders m .add a b ⌝ }
+{
+    (a % m + b % m) % m
+}
+
+pub fn mul_mod(a: u64, b: u64, m: u64) -> u64
+    requires { ⌜ IsModulus m ⌝ }
+    ensures { λ r. ⌜ r ≡ remainders m .mul a b ⌝ }
+{
+    (a % m) * (b % m) % m
+}
+
+// What is added to take a remainder b away.
+pub fn opposite(b: u64, m: u64) -> u64
+    ensures { λ r. ⌜ r ≡ m - b ⌝ }
+{
+    if b < m { m - b } else { 0 }
+}
+
+pub fn twice_mod(a: u64, m: u64) -> u64
+    requires { ⌜ IsModulus m ⌝ }
+    ensures { λ r. ⌜ r ≡ double (remainders m) a ⌝ }
+{
+    mul_mod(2, a, m)
+}
