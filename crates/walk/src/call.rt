@@ -1,10 +1,10 @@
 // The trial walk.
 use crate::limits::MODULUS_LIMIT;
-use crate::lists::bounds_rise;
 use crate::plan::Head;
 use crate::powers::Found;
 use crate::remainder::remainder_of;
 use crate::steps::run_steps;
+use crate::sums::bounds_rise;
 use crate::transform::input_of;
 use crate::transform::output_of;
 ghost use mathlib.Core.Path.{_≡_};

@@ -1,7 +1,5 @@
 // The steps of a plan, one after another.
 use crate::limits::POWERS;
-use crate::lists::list_of;
-use crate::lists::sum_list;
 use crate::plan::Step;
 use crate::plan::step_at;
 use crate::powers::Found;
@@ -9,6 +7,8 @@ use crate::powers::first_marks;
 use crate::powers::first_powers;
 use crate::powers::make_power;
 use crate::powers::power_at;
+use crate::sums::list_of;
+use crate::sums::sum_list;
 use crate::waiting::Turn;
 use crate::waiting::Waiting;
 use crate::waiting::join;

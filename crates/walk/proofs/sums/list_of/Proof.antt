@@ -1,12 +1,12 @@
--- `walk::lists::list_of` meets its contract. The boundaries rise, so that list i starts before it ends and ends within the coefficients.
+-- `walk::sums::list_of` meets its contract. The boundaries rise, so that list i starts before it ends and ends within the coefficients.
 -- The part lent is then what the definition takes.
 use native.Mathlib.Omega.{arith}
 use borrow.Author.Needs.{needs}
 use lib.ListN.{length}
 use denote.Ref.{now}
 use Rattle.walk.proofs.BoundaryLaws.{within}
-use Rattle.walk.proofs.lists.list_of.Statement.{statement}
-use Rattle.walk.proofs.lists.list_of.Tie as tie
+use Rattle.walk.proofs.sums.list_of.Statement.{statement}
+use Rattle.walk.proofs.sums.list_of.Tie as tie
 
 start-of-requires : tie.Need-start-of-requires
 start-of-requires c κs = search needs

@@ -1,4 +1,4 @@
--- `walk::lists::sum_list` meets its contract. The loop's invariant: the sum so far with the places from here on is the whole. A place that
+-- `walk::sums::sum_list` meets its contract. The loop's invariant: the sum so far with the places from here on is the whole. A place that
 -- is refused refuses the whole. The measure is the number of places left.
 use mathlib.Core.Path.{_≡_, refl, sym, _∙_, ap}
 use Prim.Native.Nat.{_-_, _≤_}
@@ -12,8 +12,8 @@ use Rattle.walk.specs.inside.Arrays.{found, powersOf}
 use Rattle.walk.specs.Rules.{trialRules}
 use Rattle.walk.specs.Load.{addPlace, sumFrom}
 use Rattle.walk.proofs.SumLaws.{sum-missing, sum-next, sum-done}
-use Rattle.walk.proofs.lists.sum_list.Statement.{statement}
-use Rattle.walk.proofs.lists.sum_list.Tie as tie
+use Rattle.walk.proofs.sums.sum_list.Statement.{statement}
+use Rattle.walk.proofs.sums.sum_list.Tie as tie
 
 abbrev Inv-loop : tie.InvT-loop
 Inv-loop parity m list powers made sum₀ j₀ sum j = (j ≤ length list) ×

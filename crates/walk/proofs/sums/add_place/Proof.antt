@@ -1,4 +1,4 @@
--- `walk::lists::add_place` meets its contract. A place that the parity leaves out leaves the sum. Otherwise the power is there or the place
+-- `walk::sums::add_place` meets its contract. A place that the parity leaves out leaves the sum. Otherwise the power is there or the place
 -- is refused, and the product of the coefficient's remainder and the power is added as the rule adds it.
 use mathlib.Core.Path.{sym, _∙_, ap}
 use mathlib.Core.Option.{some}
@@ -11,8 +11,8 @@ use Rattle.algebra.specs.Remainder.{rem, remainders}
 use Rattle.walk.specs.inside.Arrays.{found, powersOf}
 use Rattle.walk.specs.Rules.{trialRules}
 use Rattle.walk.proofs.SumLaws.{place-over, place-missing, place-added}
-use Rattle.walk.proofs.lists.add_place.Statement.{statement}
-use Rattle.walk.proofs.lists.add_place.Tie as tie
+use Rattle.walk.proofs.sums.add_place.Statement.{statement}
+use Rattle.walk.proofs.sums.add_place.Tie as tie
 
 is-allowed-requires : tie.Need-is-allowed-requires
 is-allowed-requires c κs = search needs

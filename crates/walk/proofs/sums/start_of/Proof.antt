@@ -1,4 +1,4 @@
--- `walk::lists::start_of` meets its contract. The first list starts at 0, and any other where the one before it ends.
+-- `walk::sums::start_of` meets its contract. The first list starts at 0, and any other where the one before it ends.
 use mathlib.Core.Path.{sym, ap}
 use Prim.Native.Nat.{_-_}
 use native.Mathlib.Omega.{arith}
@@ -6,8 +6,8 @@ use borrow.Author.Needs.{needs}
 use denote.Ref.{now}
 use Rattle.walk.specs.Boundaries.{startOf}
 use Rattle.walk.proofs.BoundaryLaws.{start-later}
-use Rattle.walk.proofs.lists.start_of.Statement.{statement}
-use Rattle.walk.proofs.lists.start_of.Tie as tie
+use Rattle.walk.proofs.sums.start_of.Statement.{statement}
+use Rattle.walk.proofs.sums.start_of.Tie as tie
 
 sub-result : tie.Need-sub-result
 sub-result c = search needs

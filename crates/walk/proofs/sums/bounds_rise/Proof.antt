@@ -1,4 +1,4 @@
--- `walk::lists::bounds_rise` meets its contract. The loop's invariant: the boundaries rise if those from here on rise from the last one.
+-- `walk::sums::bounds_rise` meets its contract. The loop's invariant: the boundaries rise if those from here on rise from the last one.
 -- Each test is the definition's at the next boundary. The measure is the number of boundaries left.
 use mathlib.Core.Path.{_≡_, refl, sym, _∙_}
 use Prim.Native.Nat.{_-_, _≤_}
@@ -8,8 +8,8 @@ use lib.ListN.{length, drop}
 use denote.Ref.{now}
 use Rattle.walk.specs.Boundaries.{rises}
 use Rattle.walk.proofs.BoundaryLaws.{rises-not, rises-past, rises-next, rises-done}
-use Rattle.walk.proofs.lists.bounds_rise.Statement.{statement}
-use Rattle.walk.proofs.lists.bounds_rise.Tie as tie
+use Rattle.walk.proofs.sums.bounds_rise.Statement.{statement}
+use Rattle.walk.proofs.sums.bounds_rise.Tie as tie
 
 abbrev Inv-loop : tie.InvT-loop
 Inv-loop most bounds last₀ i₀ last i = (i ≤ length bounds) × (rises last most (drop i bounds) ≡ rises 0 most bounds)
