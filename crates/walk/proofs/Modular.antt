@@ -6,7 +6,7 @@ use native.Mathlib.Omega.{arith}
 use Rattle.algebra.specs.Operations.{double}
 use Rattle.algebra.specs.Remainder.{remainders}
 use Rattle.walk.specs.Limits.{modulusLimit}
-use Rattle.walk.specs.inside.Arrays.{IsModulus}
+use Rattle.walk.specs.inside.Modulus.{IsModulus}
 use Rattle.algebra.proofs.Remainders.{mod-mul-mod, mul-mod-mod}
 
 pub below : (a : ℕ) {m : ℕ} → IsModulus m → a % m < m
