@@ -1,4 +1,4 @@
--- The walk of a lent plan, by its tests, and the call's answer.
+-- The walk of a lent plan, and the call's answer: one law for each way out, by the definition at the tests that were made.
 use mathlib.Core.Path.{_≡_}
 use mathlib.Core.List.{List}
 use mathlib.Core.Bool.{true, false}

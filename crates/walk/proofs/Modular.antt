@@ -1,4 +1,4 @@
--- Remainders may be taken before a sum or a product as well, and then nothing wraps.
+-- Remainders may be taken before a sum or a product as well, and then nothing wraps, m being at most 2,147,483,647.
 use mathlib.Core.Path.{_≡_, sym, _∙_, ap₂}
 use Prim.Native.Nat.{ℕ, _+_, _-_, _*_, _%_, _^_, _≤_, _<_}
 use native.Mathlib.Nat.{mod-lt, mod-eq-of-lt, add-mod, mul-le-mul-left}
