@@ -1,4 +1,4 @@
--- The walk of a lent plan, by its tests, and the call's answer.
+-- The walk of a lent plan, and the call's answer: one law for each way out, by the definition at the tests that were made.
 use mathlib.Core.Path.{_≡_}
 use mathlib.Core.List.{List}
 use mathlib.Core.Bool.{true, false}
@@ -13,7 +13,7 @@ use Rattle.walk.specs.Rules.{Rules}
 use Rattle.walk.specs.Walk.{walkOf}
 use Rattle.walk.specs.Lent.{lentSteps, lentLists, boundsRise, lentWalk}
 use Rattle.walk.specs.Trial.{noTrial, trialWalk, trialRefusal, trialOf}
-use Rattle.walk.specs.inside.Arrays.{IsModulus}
+use Rattle.walk.specs.inside.Modulus.{IsModulus}
 use Rattle.walk.specs.declared.plan.Head.{Head}
 
 -- the head's counts are within their buffers

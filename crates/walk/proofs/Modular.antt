@@ -1,4 +1,4 @@
--- Remainders may be taken before a sum or a product as well, and then nothing wraps.
+-- Remainders may be taken before a sum or a product as well, and then nothing wraps, m being at most 2,147,483,647.
 use mathlib.Core.Path.{_≡_, sym, _∙_, ap₂}
 use Prim.Native.Nat.{ℕ, _+_, _-_, _*_, _%_, _^_, _≤_, _<_}
 use native.Mathlib.Nat.{mod-lt, mod-eq-of-lt, add-mod, mul-le-mul-left}
@@ -6,7 +6,7 @@ use native.Mathlib.Omega.{arith}
 use Rattle.algebra.specs.Operations.{double}
 use Rattle.algebra.specs.Remainder.{remainders}
 use Rattle.walk.specs.Limits.{modulusLimit}
-use Rattle.walk.specs.inside.Arrays.{IsModulus}
+use Rattle.walk.specs.inside.Modulus.{IsModulus}
 use Rattle.algebra.proofs.Remainders.{mod-mul-mod, mul-mod-mod}
 
 pub below : (a : ℕ) {m : ℕ} → IsModulus m → a % m < m

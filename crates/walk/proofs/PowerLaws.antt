@@ -1,4 +1,4 @@
--- The powers that the arrays hold, power by power and after a store; what a power step asks.
+-- The powers that the arrays hold, power by power and after a store, and a make: one law for each way out, by the definition at what was found.
 use mathlib.Core.Path.{_≡_, refl, sym, _∙_, fun-ext}
 use mathlib.Core.List.{List}
 use mathlib.Core.Bool.{Bool, true, false, _&&_}

@@ -1,4 +1,5 @@
--- A run of steps, from step i on, and its start.
+-- A run of steps: of two runs of steps one after the other, from step i of a buffer on, and from the start that the arrays hold. By recursion on the
+-- steps, and by the definition at the next step.
 use mathlib.Core.Path.{_≡_, refl, sym, _∙_, ap, fun-ext}
 use mathlib.Core.List.{List, [], _∷_, _++_}
 use mathlib.Core.Bool.{Bool, not, true, false}
@@ -27,7 +28,7 @@ pub run-then : {A : Type 0} (𝓡 : Rules A) (parity : Parity) (basis : Basis) (
     → runOf 𝓡 parity basis lists (steps ++ later) state ≡ (runOf 𝓡 parity basis lists steps state then λ next. runOf 𝓡 parity basis lists later next)
 unfolding runOf
 run-then 𝓡 parity basis lists [] later state = refl
-run-then {A} 𝓡 parity basis lists (step ∷ steps) later state =
+run-then 𝓡 parity basis lists (step ∷ steps) later state =
     then-alike (stepOf 𝓡 parity basis lists step state) (λ next. run-then 𝓡 parity basis lists steps later next)
     ∙ sym (then-assoc (stepOf 𝓡 parity basis lists step state) _ _)
 

@@ -1,4 +1,4 @@
--- What a store in the array does to the waiting values that it holds.
+-- What a store in the array does to the waiting values that it holds: those before it stay. By recursion on their number.
 use mathlib.Core.Path.{_≡_, refl, ap, ap₂}
 use mathlib.Core.Bool.{Bool}
 use mathlib.Core.List.{List, _∷_}

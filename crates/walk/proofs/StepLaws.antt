@@ -1,4 +1,4 @@
--- A step by its kind, and what the program's answers say of it.
+-- A step by its kind, and what the program's answers say of it: one law for each way out, by the definition at what was found.
 use mathlib.Core.Path.{_≡_, refl, _∙_}
 use mathlib.Core.List.{List}
 use mathlib.Core.Bool.{Bool, true, false}

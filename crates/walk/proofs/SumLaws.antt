@@ -1,4 +1,4 @@
--- A list's sum, place by place, by what is found.
+-- A list's sum, place by place: one law for each way out, by the definition at what was found.
 use mathlib.Core.Path.{_≡_, _∙_}
 use mathlib.Core.List.{List}
 use mathlib.Core.Bool.{true, false}

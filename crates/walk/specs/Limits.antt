@@ -1,4 +1,4 @@
--- The walk's own limits (document 01). The code has them as constants of the same names.
+-- The walk's own limits (document 01), WAITING and MODULUS_LIMIT in the code.
 use Prim.Native.Nat.{ℕ}
 
 -- the most values that wait

@@ -1,5 +1,5 @@
--- The rules of the walk (document 01, "Steps and the walk"): what it makes of the values at hand. When it can't go on is no matter of rules.
--- Coefficients and points are whole numbers, whatever the values are.
+-- The rules of the walk (document 01, "Steps and the walk"): what it makes of the values at hand. They say nothing of when it can't go on, which is
+-- the same for all rules. Coefficients and points are whole numbers, whatever the values are.
 use mathlib.Core.Bool.{Bool}
 use Prim.Native.Nat.{ℕ}
 use lib.IntN.{ℤ}
@@ -19,9 +19,9 @@ pub record Rules (A : Type 0) : Type 0 where
   pub productLess : (u v w : A) → A
   -- the sum of no place
   pub nothing : A
-  -- a list's sum with one more place, j, of coefficient c
+  -- a list's sum with one more place, j: its coefficient c and power j
   pub place : (sum : A) (c : ℤ) (j : ℕ) (power : A) → A
-  -- high and low, combined by a power; plain is a combine of kind 4
+  -- high and low combined by a power; plain is said of kind 4
   pub combine : (plain : Bool) (power high low : A) → A
   -- power 1, from the point
   pub input : PolynomialInputTransform → (x : A) → A

@@ -13,11 +13,13 @@ use Rattle.walk.specs.declared.plan.Head.{Head}
 
 -- of one plan, point and modulus
 pub record Follows (head : Head) (coefficients : List ℤ) (bounds steps : List ℕ) (point : ℤ) (modulus : ℕ) : Type 0 where
+  -- the trial walk has a value where the exact walk has one, and it is that one's remainder
   pub walks : trialWalk head coefficients bounds steps point modulus ≡ image (rem modulus) (exactWalk head coefficients bounds steps point)
-  -- where there is an exact value, its remainder is answered; where there is none, 24
+  -- so where there is an exact value, its remainder is answered, and where there is none, 24
   pub answers : (v : ℤ) → exactWalk head coefficients bounds steps point ≡ some v
       → trialOf head coefficients bounds steps point modulus ≡ record { refusal = 0; remainder = rem modulus v }
   pub refuses : exactWalk head coefficients bounds steps point ≡ none → trialOf head coefficients bounds steps point modulus ≡ noTrial 24
+  -- the answered number is from 0 to the modulus less 1
   pub below : trialOf head coefficients bounds steps point modulus .remainder < modulus
 
 -- of all, at a modulus from 2 to 2,147,483,647

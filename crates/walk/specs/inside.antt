@@ -1,4 +1,5 @@
 -- Definitions that only serve the proofs between our own functions: no reader needs them to believe a public call.
+pub mod Modulus
 pub mod Arrays
 pub mod Waits
 pub mod Taken

@@ -11,7 +11,8 @@ ghost use mathlib.Core.Path.{_≡_};
 ghost use Rattle.walk.specs.Rules.{trialRules};
 ghost use Rattle.walk.specs.Lent.{lentWalk};
 ghost use Rattle.walk.specs.Trial.{noTrial, trialOf};
-ghost use Rattle.walk.specs.inside.Arrays.{IsModulus, found};
+ghost use Rattle.walk.specs.inside.Modulus.{IsModulus};
+ghost use Rattle.walk.specs.inside.Arrays.{found};
 
 // What a trial walk answers: 0 or the refusal, and the remainder, zero after a refusal.
 pub struct Trial {

@@ -15,7 +15,8 @@ ghost use Rattle.number.specs.Limits.{countLimit};
 ghost use Rattle.walk.specs.Options.{when};
 ghost use Rattle.walk.specs.Rules.{trialRules};
 ghost use Rattle.walk.specs.Make.{isMakeable, powerFrom, makeOf};
-ghost use Rattle.walk.specs.inside.Arrays.{IsModulus, found, powersOf, firstNumbers, firstMarks, FoundPower, FoundMark};
+ghost use Rattle.walk.specs.inside.Modulus.{IsModulus};
+ghost use Rattle.walk.specs.inside.Arrays.{found, powersOf, firstNumbers, firstMarks, FoundPower, FoundMark};
 
 // A number, or none.
 pub enum Found {

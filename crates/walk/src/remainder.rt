@@ -3,7 +3,7 @@ ghost use mathlib.Core.Path.{_≡_};
 ghost use Prim.Native.Nat.{_-_};
 ghost use Rattle.algebra.specs.Operations.{double};
 ghost use Rattle.algebra.specs.Remainder.{rem, remainders};
-ghost use Rattle.walk.specs.inside.Arrays.{IsModulus};
+ghost use Rattle.walk.specs.inside.Modulus.{IsModulus};
 
 // The remainder of a whole number, from 0 to m - 1. Below zero it is taken of -(x + 1), which fits for every x.
 pub fn remainder_of(x: i64, m: u64) -> u64

@@ -28,7 +28,8 @@ ghost use Rattle.walk.specs.Combine.{combineOf};
 ghost use Rattle.walk.specs.Walk.{stepOf, walkOf};
 ghost use Rattle.walk.specs.Boundaries.{listAt};
 ghost use Rattle.walk.specs.Lent.{stepsFrom};
-ghost use Rattle.walk.specs.inside.Arrays.{IsModulus, found, powersOf};
+ghost use Rattle.walk.specs.inside.Modulus.{IsModulus};
+ghost use Rattle.walk.specs.inside.Arrays.{found, powersOf};
 ghost use Rattle.walk.specs.inside.Waits.{waitingIn, FitsSixteen, Waits};
 ghost use Rattle.walk.specs.inside.Taken.{stateOf, Taken, Runnable};
 
@@ -127,11 +128,10 @@ pub fn run_steps(
     let mut w = none_waiting();
     let mut i: usize = 0;
     while i < count {
-        let step = step_at(i, steps);
         let turn = take_step(
             parity,
             basis,
-            step,
+            step_at(i, steps),
             m,
             w,
             coefficients,

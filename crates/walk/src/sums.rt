@@ -14,7 +14,8 @@ ghost use lib.ListN.{length};
 ghost use Rattle.walk.specs.Rules.{trialRules};
 ghost use Rattle.walk.specs.Load.{addPlace, sumFrom};
 ghost use Rattle.walk.specs.Boundaries.{rises, startOf, partOf};
-ghost use Rattle.walk.specs.inside.Arrays.{IsModulus, found, powersOf};
+ghost use Rattle.walk.specs.inside.Modulus.{IsModulus};
+ghost use Rattle.walk.specs.inside.Arrays.{found, powersOf};
 
 // Whether the boundaries rise strictly from 0 and none passes `most`.
 pub fn bounds_rise(most: usize, bounds: &[u16]) -> bool

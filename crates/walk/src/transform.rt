@@ -8,7 +8,7 @@ ghost use mathlib.Core.Path.{_≡_};
 ghost use Rattle.algebra.specs.Operations.{double};
 ghost use Rattle.algebra.specs.Remainder.{remainders};
 ghost use Rattle.algebra.specs.Transform.{inputOf, outputOf};
-ghost use Rattle.walk.specs.inside.Arrays.{IsModulus};
+ghost use Rattle.walk.specs.inside.Modulus.{IsModulus};
 
 // 2x² - 1.
 fn second_chebyshev(x: u64, m: u64) -> u64

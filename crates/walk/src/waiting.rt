@@ -11,7 +11,8 @@ ghost use Rattle.walk.specs.Rules.{trialRules};
 ghost use Rattle.walk.specs.Load.{pushOf};
 ghost use Rattle.walk.specs.Combine.{joinOf};
 ghost use Rattle.walk.specs.Walk.{oneLeft};
-ghost use Rattle.walk.specs.inside.Arrays.{IsModulus, found};
+ghost use Rattle.walk.specs.inside.Modulus.{IsModulus};
+ghost use Rattle.walk.specs.inside.Arrays.{found};
 ghost use Rattle.walk.specs.inside.Waits.{waitingIn, FitsSixteen, Waits};
 
 // The first `count` values wait; the last of them was pushed last.

@@ -3,19 +3,13 @@ use mathlib.Core.Path.{_≡_}
 use mathlib.Core.Bool.{Bool, true, false}
 use mathlib.Core.List.{List}
 use mathlib.Core.Option.{Option, some, none}
-use Prim.Native.Nat.{ℕ, _≤_}
+use Prim.Native.Nat.{ℕ}
 use lib.ListN.{length, getD, set, replicate}
 use Rattle.number.specs.Limits.{countLimit}
-use Rattle.walk.specs.Limits.{modulusLimit}
 use Rattle.walk.specs.Options.{when}
 use Rattle.walk.specs.State.{Powers}
 use Rattle.walk.specs.declared.powers.Found.{Found}
 use Rattle.walk.specs.declared.powers.Found.the-variants.{Number, Missing}
-
--- a modulus that refusal 11 lets through
-pub record IsModulus (m : ℕ) : Type 0 where
-  pub low : 2 ≤ m
-  pub high : m ≤ modulusLimit
 
 -- what was found
 abbrev pub found : Found → Option ℕ

@@ -9,7 +9,8 @@ use lib.ListN.{length}
 use Rattle.walk.specs.Options.{when}
 use Rattle.walk.specs.State.{State}
 use Rattle.walk.specs.Boundaries.{rises}
-use Rattle.walk.specs.inside.Arrays.{IsModulus, powersOf}
+use Rattle.walk.specs.inside.Modulus.{IsModulus}
+use Rattle.walk.specs.inside.Arrays.{powersOf}
 use Rattle.walk.specs.inside.Waits.{waitingIn, FitsSixteen}
 use Rattle.walk.specs.declared.waiting.Waiting.{Waiting}
 use Rattle.walk.specs.declared.waiting.Turn.{Turn}

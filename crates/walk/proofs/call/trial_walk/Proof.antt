@@ -7,7 +7,8 @@ use denote.Ref.{now}
 use Rattle.walk.specs.Rules.{trialRules}
 use Rattle.walk.specs.Lent.{lentWalk}
 use Rattle.walk.specs.Trial.{trialWalk}
-use Rattle.walk.specs.inside.Arrays.{IsModulus, found}
+use Rattle.walk.specs.inside.Modulus.{IsModulus}
+use Rattle.walk.specs.inside.Arrays.{found}
 use Rattle.walk.proofs.LentLaws.{modulus-low, modulus-high, no-walk, walk-answers}
 use Rattle.walk.proofs.call.trial_walk.Statement.{statement}
 use Rattle.walk.proofs.call.trial_walk.Tie as tie
