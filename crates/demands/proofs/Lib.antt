@@ -1,0 +1,4 @@
+pub mod RunThen
+pub mod PowerRun
+pub mod TreeRun
+pub mod PlanRun
