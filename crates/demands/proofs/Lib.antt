@@ -4,4 +4,8 @@ pub mod TreeRun
 pub mod PlanRun
 pub mod Accepts
 pub mod Refusals
+pub mod StepsRead
 pub mod Right
+pub mod StepKinds
+pub mod Pairs
+pub mod Counted

@@ -47,6 +47,7 @@ use Rattle.demands.specs.Accepts.{LongEnough}
 use Rattle.demands.specs.Right.{listsFor, stepsFor, StepsRight, WalksRight, Stored, StoredRight, PlansRight}
 use Rattle.demands.proofs.Accepts.{Plannable, covered-accepted, plannable}
 use Rattle.demands.proofs.Refusals.{plan-made}
+use Rattle.demands.proofs.StepsRead.{flat-length}
 use Rattle.demands.proofs.PlanRun.{steps-walk}
 
 -- ---- the steps
@@ -109,7 +110,7 @@ module _ (strategy : SplitStrategy) (parity : Parity) (basis : Basis) (folded : 
       sound-for (relists strategy) (plannedDegree strategy parity basis folded c) split (planned strategy parity basis folded c)
       (omega (arith, facts .several)) (facts .few) from-one
 
-  ordered : InOrder wholeOps basis (tree strategy parity basis folded c) (planned strategy parity basis folded c)
+  pub ordered : InOrder wholeOps basis (tree strategy parity basis folded c) (planned strategy parity basis folded c)
   ordered =
       lists-in-order wholeOps (relists strategy) basis (plannedDegree strategy parity basis folded c) split (planned strategy parity basis folded c)
       (omega (arith, facts .several)) (facts .few) from-one
@@ -124,11 +125,6 @@ module _ (strategy : SplitStrategy) (parity : Parity) (basis : Basis) (folded : 
   pub boundaries-length : length (boundariesFor strategy parity basis folded c) ≡ head .lists
   unfolding headOf
   boundaries-length = length-ends (tree strategy parity basis folded c) 0 (length (planned strategy parity basis folded c))
-
-  flat-length : (steps : List Step) → length (flat steps) ≡ 4 * length steps
-  unfolding flat
-  flat-length [] = refl
-  flat-length (step ∷ steps) = let tail = flat-length steps in omega arith
 
   pub numbers-length : length (numbersFor strategy parity basis folded c) ≡ 4 * head .steps
   unfolding headOf
