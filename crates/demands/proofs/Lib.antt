@@ -9,3 +9,4 @@ pub mod Right
 pub mod StepKinds
 pub mod Pairs
 pub mod Counted
+pub mod MadeBefore

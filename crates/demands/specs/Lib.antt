@@ -1,3 +1,4 @@
 pub mod Accepts
 pub mod Right
 pub mod Counted
+pub mod MadeBefore
