@@ -10,3 +10,4 @@ pub mod StepKinds
 pub mod Pairs
 pub mod Counted
 pub mod MadeBefore
+pub mod Total

@@ -2,3 +2,4 @@ pub mod Accepts
 pub mod Right
 pub mod Counted
 pub mod MadeBefore
+pub mod Total
