@@ -11,3 +11,4 @@ pub mod Pairs
 pub mod Counted
 pub mod MadeBefore
 pub mod Total
+pub mod FitLaws

@@ -105,7 +105,7 @@ module _ (strategy : SplitStrategy) (parity : Parity) (basis : Basis) (folded : 
       chosen (plannedParity folded parity) basis (plannedDegree strategy parity basis folded c) .from-one strategy (omega (arith, facts .several))
       (facts .few)
 
-  sound : Sound (2 ^ split) (tree strategy parity basis folded c) (length (planned strategy parity basis folded c))
+  pub sound : Sound (2 ^ split) (tree strategy parity basis folded c) (length (planned strategy parity basis folded c))
   sound =
       sound-for (relists strategy) (plannedDegree strategy parity basis folded c) split (planned strategy parity basis folded c)
       (omega (arith, facts .several)) (facts .few) from-one

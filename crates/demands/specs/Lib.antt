@@ -3,3 +3,4 @@ pub mod Right
 pub mod Counted
 pub mod MadeBefore
 pub mod Total
+pub mod Fits
