@@ -12,3 +12,4 @@ pub mod Counted
 pub mod MadeBefore
 pub mod Total
 pub mod FitLaws
+pub mod Equal

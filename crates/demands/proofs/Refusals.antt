@@ -2,14 +2,14 @@
 use mathlib.Core.Path.{_≡_, refl, sym, _∙_}
 use mathlib.Core.Bool.{Bool, true, false}
 use mathlib.Core.List.{List, [], _∷_, _++_}
-use Prim.Native.Nat.{ℕ, _*_, _≤_, _<_}
+use Prim.Native.Nat.{ℕ, zero, suc, _*_, _≤_, _<_}
 use native.Mathlib.Omega.{arith}
 use borrow.Author.Tests.{ltb-false, le-ltb}
 use lib.IntN.{ℤ}
 use lib.ListN.{length}
 use Rattle.algebra.specs.declared.Basis.{Basis}
 use Rattle.algebra.specs.declared.Parity.{Parity}
-use Rattle.number.specs.Refusal.{Test, firstRefusal, Numbered}
+use Rattle.number.specs.Refusal.{Test, firstRefusal, unlessRefused, Numbered}
 use Rattle.number.specs.Tests.{noRoom, noBoundaries, noSteps}
 use Rattle.number.proofs.Refusal.{none-holds}
 use Rattle.counts.specs.declared.choice.SplitStrategy.{SplitStrategy}
@@ -35,6 +35,13 @@ pub first-passed : (tests later : List Test) → Numbered tests → firstRefusal
 first-passed [] later numbers passed = refl
 first-passed ((true, k) ∷ tests) later numbers passed = passed
 first-passed ((false, k) ∷ tests) later numbers passed = first-passed tests later (numbers .1) passed
+
+-- the refusal that an answer carries
+pub refusal-of : {X : Type 0} (k : ℕ) (accepted refused : X) (read : X → ℕ) → read accepted ≡ 0 → read refused ≡ k
+    → read (unlessRefused k accepted refused) ≡ k
+unfolding unlessRefused
+refusal-of zero accepted refused read none-is some-is = none-is
+refusal-of (suc k) accepted refused read none-is some-is = some-is
 
 -- ---- the plan call's
 

@@ -100,7 +100,7 @@ module _ (strategy : SplitStrategy) (parity : Parity) (basis : Basis) (folded : 
   facts : Plannable (plannedParity folded parity) (planned strategy parity basis folded c)
   facts = plannable folded parity basis c accepted
 
-  from-one : 1 ≤ split
+  pub from-one : 1 ≤ split
   from-one =
       chosen (plannedParity folded parity) basis (plannedDegree strategy parity basis folded c) .from-one strategy (omega (arith, facts .several))
       (facts .few)

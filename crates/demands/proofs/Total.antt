@@ -33,7 +33,7 @@ use Rattle.plan.specs.PlanCall.{inputTests, headFor, planTests, planRefusal, pl
 use Rattle.plan.specs.declared.call.Planned.{Planned}
 use Rattle.demands.specs.Accepts.{LongEnough}
 use Rattle.demands.specs.Total.{Ends, answers, refuses, ZeroHead, PlansTotal, PlansMade, PlanOrder, FoldsTotal, ListsTotal, TrialAnswered, TrialsTotal}
-use Rattle.demands.proofs.Refusals.{inputs-numbered, bufferTests, plan-made, made-accepted, made-long}
+use Rattle.demands.proofs.Refusals.{refusal-of, inputs-numbered, bufferTests, plan-made, made-accepted, made-long}
 use Rattle.demands.proofs.Right.{plans-right}
 
 -- ---- a call by its tests
@@ -47,13 +47,6 @@ ends : (tests : List Test) (refusal : ℕ) {Answered Refused : Type 0} → Numbe
 ends tests zero {Answered} {Refused} numbers is made refused = answers (refusals-say tests numbers .accepted (sym is)) refl (made refl)
 ends tests (suc k) {Answered} {Refused} numbers is made refused =
     refuses (rw is (refusals-say tests numbers .refused (omega arith))) (omega arith) (refused (omega arith))
-
--- the refusal that an answer carries
-refusal-of : {X : Type 0} (k : ℕ) (accepted refused : X) (read : X → ℕ) → read accepted ≡ 0 → read refused ≡ k
-    → read (unlessRefused k accepted refused) ≡ k
-unfolding unlessRefused
-refusal-of zero accepted refused read none-is some-is = none-is
-refusal-of (suc k) accepted refused read none-is some-is = some-is
 
 -- ---- the plan call
 

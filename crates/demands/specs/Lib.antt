@@ -4,3 +4,4 @@ pub mod Counted
 pub mod MadeBefore
 pub mod Total
 pub mod Fits
+pub mod Equal
