@@ -1,8 +1,8 @@
 -- The accepted polynomials are those that the demand names, and what is planned of them has from 2 to 4,096 coefficients of the planned parity.
-use mathlib.Core.Path.{_≡_, refl, ap, _∙_}
-use mathlib.Core.Bool.{Bool, true, false, not, true≢false, false≢true}
+use mathlib.Core.Path.{_≡_, refl}
+use mathlib.Core.Bool.{Bool, true, false, true≢false, false≢true}
 use mathlib.Core.List.{List}
-use Prim.Native.Nat.{ℕ, _+_, _-_, _/_, _^_, _≤_, _<_}
+use Prim.Native.Nat.{ℕ, _-_, _≤_, _<_}
 use native.Mathlib.Omega.{arith}
 use borrow.Author.Tests.{ltb-false, le-ltb, leb-true, le-leb, eqb-false, ne-eqb, not-false}
 use lib.Dec.{leb}
@@ -19,7 +19,6 @@ use Rattle.algebra.proofs.FoldPlaces.{fold-length}
 use Rattle.number.specs.Limits.{planLimit, sumLimit}
 use Rattle.number.specs.Numbers.{wholeNumbers}
 use Rattle.number.specs.Parity.{hasParity}
-use Rattle.number.specs.Refusal.{NoneHolds}
 use Rattle.number.specs.Tests.{degreeOf, leastFolded, isFull}
 use Rattle.number.proofs.ParityTold.{parity-told}
 use Rattle.number.proofs.Refusal.{none-holds}

@@ -1,14 +1,13 @@
 -- What a plan reports is what its steps and lists cost. The head's counts are read off the planned steps, and these stand in the lent buffer; an
 -- unfolded MinMult plan has the pair of its split, which is the least of all.
-use mathlib.Core.Path.{_≡_, refl, sym, _∙_, ap, ap₂}
-use mathlib.Core.Bool.{Bool, true, false}
-use mathlib.Core.Logic.{_⊎_, inl, inr}
-use mathlib.Core.List.{List, _++_, map}
+use mathlib.Core.Path.{_≡_, refl, sym, _∙_, ap}
+use mathlib.Core.Bool.{false}
+use mathlib.Core.Logic.{inr}
+use mathlib.Core.List.{List}
 use Prim.Native.Nat.{ℕ, suc, _+_, _≤_, _<_}
 use native.Mathlib.Decide.{decLt}
 use native.Mathlib.Omega.{arith}
 use borrow.Author.Tests.{le-ltb}
-use lib.IntN.{ℤ}
 use lib.ListN.{length}
 use Rattle.algebra.specs.Transform.{transformOf}
 use Rattle.algebra.specs.declared.Basis.{Basis}
@@ -33,8 +32,8 @@ use Rattle.lists.specs.Arrange.{lengthsOf}
 use Rattle.plan.specs.Reported.{ofKind, allowedIn, reported}
 use Rattle.plan.specs.PlanHead.{headOf}
 use Rattle.plan.specs.PlanCall.{plannedParity, planned, plannedDegree, tree, headFor}
-use Rattle.demands.specs.Counted.{Reports, PlansReport, TransformCosts, reportedPair, LeastReported, MinMultLeast}
-use Rattle.demands.specs.Right.{listsFor, stepsFor}
+use Rattle.demands.specs.Counted.{PlansReport, TransformCosts, reportedPair, MinMultLeast}
+use Rattle.demands.specs.Right.{stepsFor}
 use Rattle.demands.proofs.Accepts.{covered-accepted, plannable}
 use Rattle.demands.proofs.StepsRead.{steps-read}
 use Rattle.demands.proofs.Pairs.{pair-reported}

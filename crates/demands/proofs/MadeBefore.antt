@@ -19,7 +19,7 @@ use Rattle.algebra.specs.declared.Basis.the-variants.{Monomial, Chebyshev}
 use Rattle.algebra.specs.declared.Parity.{Parity}
 use Rattle.walk.specs.Options.{_then_, when, missing}
 use Rattle.walk.specs.Rules.{Rules, exactRules}
-use Rattle.walk.specs.State.{Powers, Lists, State, withPowers, withWaiting}
+use Rattle.walk.specs.State.{Powers, Lists, State, withWaiting}
 use Rattle.walk.specs.Make.{isMakeable, withPower, firstPowers, powerFrom, makeOf}
 use Rattle.walk.specs.Load.{placedIf, addPlace, sumFrom, loadOf}
 use Rattle.walk.specs.Combine.{combineOf}

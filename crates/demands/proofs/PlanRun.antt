@@ -1,10 +1,10 @@
 -- The steps of a plan run, and what they leave is the polynomial's value: the needed powers first, then the tree, whose lists and combines use only
 -- needed powers. So it is at every split from 1 up, whether or not a leading slice is listed again.
 use mathlib.Core.Path.{_≡_, refl, sym}
-use mathlib.Core.List.{List, [], _∷_, _++_, map, append-nil, List·Memᴰ}
+use mathlib.Core.List.{List, [], _∷_, map, append-nil}
 use mathlib.Core.Bool.{Bool}
 use mathlib.Core.Option.{some}
-use Prim.Native.Nat.{ℕ, zero, suc, _-_, _^_, _≤_, _<_}
+use Prim.Native.Nat.{ℕ, zero, suc, _^_, _≤_, _<_}
 use native.Mathlib.Nat.{lt-of-not-le}
 use native.Mathlib.Omega.{arith}
 use lib.IntN.{ℤ}
@@ -30,14 +30,13 @@ use Rattle.lists.specs.Lists.{listsOf}
 use Rattle.lists.proofs.TreeFacts.{high-cuts-few}
 use Rattle.lists.proofs.Bounds.{sound-for}
 use Rattle.walk.specs.Limits.{waitingLimit}
-use Rattle.walk.specs.Options.{_then_}
 use Rattle.walk.specs.Rules.{exactRules}
 use Rattle.walk.specs.Make.{firstPowers}
 use Rattle.walk.specs.Walk.{oneLeft, firstState, runOf, walkOf}
 use Rattle.walk.specs.WalksHeld.{numbered}
 use Rattle.plan.specs.PlanSteps.{makeStep, powerSteps, lastPlain, treeSteps, listSteps, stepsAt}
 use Rattle.demands.proofs.RunThen.{run-then}
-use Rattle.demands.proofs.PowerRun.{Makeable, Right, Made, start, run-powers}
+use Rattle.demands.proofs.PowerRun.{Makeable, Made, start, run-powers}
 use Rattle.demands.proofs.TreeRun.{Serves, run-tree}
 
 module _ (leading : Bool) (parity : Parity) (basis : Basis) (split : ℕ) (c : List ℤ) (y : ℤ) (from-one : 1 ≤ split) (several : 1 < length c)

@@ -1,7 +1,7 @@
 -- The power steps of a plan run, and make the needed powers, each with its value. The needed powers are listed rising, and the set is closed under
 -- parts, which are smaller: so the parts of each were made before it. By induction over the list.
 use mathlib.Core.Path.{_≡_, refl, sym, _∙_, ap}
-use mathlib.Core.Logic.{_⊎_, ⊎-elim}
+use mathlib.Core.Logic.{⊎-elim}
 use mathlib.Core.List.{List, [], _∷_, map, List·Memᴰ, List·Memᴰ·head, List·Memᴰ·tail, List·Memᴰ·not-nil, List·Memᴰ·cases-cons}
 use mathlib.Core.Option.{some, none}
 use Prim.Native.Nat.{ℕ, zero, suc, _+_, _≤_, _<_}
@@ -19,13 +19,12 @@ use Rattle.algebra.proofs.Chebyshev.{cheb-zero, cheb-one}
 use Rattle.algebra.proofs.Integers.{integers}
 use Rattle.algebra.proofs.ProductLaw.{product-law}
 use Rattle.number.specs.Limits.{planLimit}
-use Rattle.number.specs.Split.{partsOf, splitOf}
+use Rattle.number.specs.Split.{partsOf}
 use Rattle.number.proofs.SplitParts.{parted, split-accepted}
 use Rattle.needed.specs.Needed.{partsDistance, first, second, apart, Closed}
-use Rattle.needed.specs.Promises.{Rising, empty, single, next}
-use Rattle.walk.specs.Options.{_then_, when, missing}
+use Rattle.needed.specs.Promises.{Rising, empty, next}
 use Rattle.walk.specs.Rules.{exactRules}
-use Rattle.walk.specs.State.{Powers, Lists, State}
+use Rattle.walk.specs.State.{Powers, Lists}
 use Rattle.walk.specs.Make.{isMakeable, withPower, firstPowers, powerFrom, makeOf}
 use Rattle.walk.specs.Walk.{actOf, stepOf, runOf}
 use Rattle.walk.specs.declared.plan.Step.{Step}

@@ -3,10 +3,9 @@
 use mathlib.Core.Path.{_≡_, refl, ap, sym, _∙_}
 use mathlib.Core.Bool.{Bool, true, false}
 use mathlib.Core.List.{List, [], _∷_, _++_}
-use mathlib.Core.Option.{Option, some, none}
-use Prim.Native.Nat.{ℕ, suc, _+_, _-_, _*_, _^_, _≤_, _<_}
+use mathlib.Core.Option.{Option, some}
+use Prim.Native.Nat.{ℕ, _+_, _*_, _^_, _≤_, _<_}
 use native.Mathlib.Omega.{arith}
-use borrow.Author.Tests.{le-ltb}
 use lib.IntN.{ℤ}
 use lib.ListN.{length, take, drop}
 use lib.Seq.{sets, sets-eq}
@@ -24,26 +23,21 @@ use Rattle.counts.specs.Choice.{splitFor}
 use Rattle.counts.specs.declared.choice.SplitStrategy.{SplitStrategy}
 use Rattle.counts.proofs.Promises.{chosen}
 use Rattle.lists.specs.Tree.{Tree, leaf, cut, relists}
-use Rattle.lists.specs.Arrange.{arranged}
 use Rattle.lists.specs.TreeFacts.{Sound}
-use Rattle.lists.specs.Lists.{listsOf, joined, endsFrom, InOrder}
+use Rattle.lists.specs.Lists.{listsOf, InOrder}
 use Rattle.lists.proofs.Arranging.{length-ends, low-size, high-size}
 use Rattle.lists.proofs.Bounds.{sound-for}
 use Rattle.lists.proofs.Lists.{lists-in-order, length-arranged}
 use Rattle.walk.specs.Options.{_then_, missing}
 use Rattle.walk.specs.Rules.{exactRules}
-use Rattle.walk.specs.Walk.{walkOf}
 use Rattle.walk.specs.Lent.{exactWalk}
-use Rattle.walk.specs.WalksHeld.{flat, Filled, empty, more, numbered, Holds}
+use Rattle.walk.specs.WalksHeld.{Filled, empty, more, Holds}
 use Rattle.walk.specs.declared.plan.Head.{Head}
-use Rattle.walk.specs.declared.plan.Step.{Step}
 use Rattle.walk.proofs.TrialFollows.{trial-follows}
 use Rattle.walk.proofs.Unrunnable.{refused-for-reasons}
 use Rattle.walk.proofs.WalksHeld.{walks-held}
 use Rattle.plan.specs.PlanHead.{headOf}
-use Rattle.plan.specs.PlanCall.{plannedCoefficients, plannedParity, plannedTransform, inputTests, Accepted, planned, plannedDegree, tree, headFor, coefficientsFor, boundariesFor, numbersFor, planRefusal, planAnswer, planCoefficients, planBoundaries, planNumbers, PlanCall}
-use Rattle.plan.specs.declared.call.Planned.{Planned}
-use Rattle.demands.specs.Accepts.{LongEnough}
+use Rattle.plan.specs.PlanCall.{plannedCoefficients, plannedParity, plannedTransform, Accepted, planned, plannedDegree, tree, headFor, coefficientsFor, boundariesFor, numbersFor, planRefusal, planAnswer, planCoefficients, planBoundaries, planNumbers}
 use Rattle.demands.specs.Right.{listsFor, stepsFor, StepsRight, WalksRight, Stored, StoredRight, PlansRight}
 use Rattle.demands.proofs.Accepts.{Plannable, covered-accepted, plannable}
 use Rattle.demands.proofs.Refusals.{plan-made}

@@ -4,8 +4,7 @@ use mathlib.Core.Path.{_≡_, refl, ap, sym, subst, _∙_}
 use mathlib.Core.Bool.{Bool, true, false, _||_, true≢false}
 use mathlib.Core.List.{List, [], _∷_, _++_}
 use mathlib.Core.Option.{Option, some, none}
-use Prim.Native.Nat.{ℕ, zero, suc, _≤_, _<_}
-use native.Mathlib.Decide.{ℕ-discrete}
+use Prim.Native.Nat.{ℕ, zero, suc, _<_}
 use native.Mathlib.Omega.{arith}
 use borrow.Author.Tests.{ltb-false}
 use lib.Dec.{ltb}
@@ -14,8 +13,7 @@ use Rattle.algebra.specs.Remainder.{rem}
 use Rattle.algebra.specs.declared.Basis.{Basis}
 use Rattle.algebra.specs.declared.Parity.{Parity}
 use Rattle.number.specs.FoldCall.{foldTests, foldRefusal, foldAnswer, foldBuffer}
-use Rattle.number.specs.Numbers.{Numbers}
-use Rattle.number.specs.Refusal.{Test, firstRefusal, unlessRefused, Numbered}
+use Rattle.number.specs.Refusal.{Test, firstRefusal, Numbered}
 use Rattle.number.specs.declared.fold.Folded.{Folded}
 use Rattle.number.proofs.Refusal.{none-holds, refusals-say, when-refused, when-accepted}
 use Rattle.counts.specs.declared.choice.SplitStrategy.{SplitStrategy}
@@ -24,14 +22,13 @@ use Rattle.lists.specs.declared.call.Listed.{Listed}
 use Rattle.walk.specs.Limits.{modulusLimit}
 use Rattle.walk.specs.Options.{missing, image}
 use Rattle.walk.specs.Lent.{exactWalk}
-use Rattle.walk.specs.Trial.{noTrial, trialTests, trialRefusal, trialOf}
+use Rattle.walk.specs.Trial.{trialTests, trialRefusal, trialOf}
 use Rattle.walk.specs.declared.plan.Head.{Head}
 use Rattle.walk.specs.declared.call.Trial.{Trial}
 use Rattle.walk.proofs.TrialFollows.{trial-follows}
 use Rattle.plan.specs.PlanHead.{noHead}
-use Rattle.plan.specs.PlanCall.{inputTests, headFor, planTests, planRefusal, planAnswer, planCoefficients, planBoundaries, planNumbers, PlanCall}
+use Rattle.plan.specs.PlanCall.{inputTests, planTests, planRefusal, planAnswer, planCoefficients, planBoundaries, planNumbers, PlanCall}
 use Rattle.plan.specs.declared.call.Planned.{Planned}
-use Rattle.demands.specs.Accepts.{LongEnough}
 use Rattle.demands.specs.Total.{Ends, answers, refuses, ZeroHead, PlansTotal, PlansMade, PlanOrder, FoldsTotal, ListsTotal, TrialAnswered, TrialsTotal}
 use Rattle.demands.proofs.Refusals.{refusal-of, inputs-numbered, bufferTests, plan-made, made-accepted, made-long}
 use Rattle.demands.proofs.Right.{plans-right}

@@ -4,7 +4,7 @@ use mathlib.Core.Path.{_≡_, refl, sym, _∙_, ap, ap₂, subst}
 use mathlib.Core.List.{List, [], _∷_, _++_, append-assoc}
 use mathlib.Core.Bool.{Bool, true, false, cond, _&&_}
 use mathlib.Core.Option.{some}
-use Prim.Native.Nat.{ℕ, zero, suc, max, _+_, _-_, _^_, _%_, _≤_, _<_}
+use Prim.Native.Nat.{ℕ, suc, _+_, _-_, _^_, _%_, _≤_, _<_}
 use native.Mathlib.Nat.{zero-add, two-pow-succ}
 use native.Mathlib.Omega.{arith}
 use borrow.Author.Tests.{lt-ltb}
@@ -31,10 +31,9 @@ use Rattle.lists.specs.TreeFacts.{Sound, highCuts}
 use Rattle.lists.specs.Lists.{listsOf}
 use Rattle.lists.proofs.Arranging.{low-size, high-size}
 use Rattle.walk.specs.Limits.{waitingLimit}
-use Rattle.walk.specs.Options.{_then_, when}
 use Rattle.walk.specs.Rules.{exactRules}
-use Rattle.walk.specs.State.{Powers, Lists, State}
-use Rattle.walk.specs.Load.{placedIf, addPlace, sumFrom, pushOf, loadOf}
+use Rattle.walk.specs.State.{Powers, Lists}
+use Rattle.walk.specs.Load.{addPlace, sumFrom, pushOf, loadOf}
 use Rattle.walk.specs.Combine.{joinOf, combineOf}
 use Rattle.walk.specs.Walk.{actOf, runOf}
 use Rattle.walk.specs.WalksHeld.{numbered}

@@ -54,7 +54,7 @@ use Rattle.lists.specs.Promises.{ListsTo53, FoldedListsTo53, ListsSame, FoldedL
 use Rattle.lists.specs.declared.call.Listed.{Listed}
 use Rattle.walk.specs.declared.plan.Head.{Head}
 use Rattle.plan.specs.Reported.{transformCost}
-use Rattle.plan.specs.PlanCall.{plannedParity, Accepted, planned, plannedDegree, headFor, coefficientsFor, boundariesFor}
+use Rattle.plan.specs.PlanCall.{plannedParity, Accepted, planned, headFor, coefficientsFor, boundariesFor}
 
 -- ---- the published rules
 
