@@ -1,0 +1,15 @@
+pub mod RunThen
+pub mod PowerRun
+pub mod TreeRun
+pub mod PlanRun
+pub mod Accepts
+pub mod Refusals
+pub mod StepsRead
+pub mod Right
+pub mod StepKinds
+pub mod Pairs
+pub mod Counted
+pub mod MadeBefore
+pub mod Total
+pub mod FitLaws
+pub mod Equal

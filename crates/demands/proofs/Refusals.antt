@@ -1,0 +1,87 @@
+-- The plan call's tests, ahead of 21 and from there on: all pass exactly if the polynomial is accepted and the buffers are long enough.
+use mathlib.Core.Path.{_≡_, refl, sym, _∙_}
+use mathlib.Core.Bool.{Bool, true, false}
+use mathlib.Core.List.{List, [], _∷_, _++_}
+use Prim.Native.Nat.{ℕ, zero, suc, _*_, _<_}
+use native.Mathlib.Omega.{arith}
+use borrow.Author.Tests.{ltb-false, le-ltb}
+use lib.IntN.{ℤ}
+use lib.ListN.{length}
+use Rattle.algebra.specs.declared.Basis.{Basis}
+use Rattle.algebra.specs.declared.Parity.{Parity}
+use Rattle.number.specs.Refusal.{Test, firstRefusal, unlessRefused, Numbered}
+use Rattle.number.specs.Tests.{noRoom, noBoundaries, noSteps}
+use Rattle.number.proofs.Refusal.{none-holds}
+use Rattle.counts.specs.declared.choice.SplitStrategy.{SplitStrategy}
+use Rattle.walk.specs.declared.plan.Head.{Head}
+use Rattle.plan.specs.PlanCall.{inputTests, Accepted, headFor, planRefusal}
+use Rattle.demands.specs.Accepts.{LongEnough}
+
+-- ---- tests, and then others
+
+-- if none of the first holds, the others decide
+pub after : (tests later : List Test) → Numbered tests → firstRefusal tests ≡ 0 → firstRefusal (tests ++ later) ≡ firstRefusal later
+after [] later numbers passed = refl
+after ((true, k) ∷ tests) later numbers passed = absurd (omega (arith, numbers .0))
+after ((false, k) ∷ tests) later numbers passed = after tests later (numbers .1) passed
+
+-- if one of the first holds, it decides
+pub ahead : (tests later : List Test) → Numbered tests → 0 < firstRefusal tests → firstRefusal (tests ++ later) ≡ firstRefusal tests
+ahead [] later numbers refused = absurd (omega arith)
+ahead ((true, k) ∷ tests) later numbers refused = refl
+ahead ((false, k) ∷ tests) later numbers refused = ahead tests later (numbers .1) refused
+
+pub first-passed : (tests later : List Test) → Numbered tests → firstRefusal (tests ++ later) ≡ 0 → firstRefusal tests ≡ 0
+first-passed [] later numbers passed = refl
+first-passed ((true, k) ∷ tests) later numbers passed = passed
+first-passed ((false, k) ∷ tests) later numbers passed = first-passed tests later (numbers .1) passed
+
+-- the refusal that an answer carries
+pub refusal-of : {X : Type 0} (k : ℕ) (accepted refused : X) (read : X → ℕ) → read accepted ≡ 0 → read refused ≡ k
+    → read (unlessRefused k accepted refused) ≡ k
+unfolding unlessRefused
+refusal-of zero accepted refused read none-is some-is = none-is
+refusal-of (suc k) accepted refused read none-is some-is = some-is
+
+-- ---- the plan call's
+
+pub inputs-numbered : (folded : Bool) (parity : Parity) (c : List ℤ) → Numbered (inputTests folded parity c)
+inputs-numbered true parity c = (omega arith, (omega arith, (omega arith, (omega arith, (omega arith, (omega arith, tt))))))
+inputs-numbered false parity c = (omega arith, (omega arith, (omega arith, (omega arith, tt))))
+
+module _ (strategy : SplitStrategy) (parity : Parity) (basis : Basis) (folded : Bool) (c out : List ℤ) (bounds steps : List ℕ) where
+  abbrev head : Head
+  head = headFor strategy parity basis folded c
+
+  -- 21, 22, 23
+  abbrev pub bufferTests : List Test
+  bufferTests = noRoom (length out) (head .coefficients) ∷ noBoundaries (length bounds) (head .lists) ∷ noSteps (length steps) (head .steps) ∷ []
+
+  pub late-refusal : Accepted folded parity c → planRefusal strategy parity basis folded c out bounds steps ≡ firstRefusal bufferTests
+  unfolding planRefusal
+  late-refusal accepted = after (inputTests folded parity c) bufferTests (inputs-numbered folded parity c) accepted
+
+  buffers-pass : LongEnough strategy parity basis folded c out bounds steps → firstRefusal bufferTests ≡ 0
+  buffers-pass long = rw (
+    le-ltb (length out) (head .coefficients) (long .coefficients),
+    le-ltb (length bounds) (head .lists) (long .boundaries),
+    le-ltb (length steps) (4 * head .steps) (long .numbers),
+  )
+
+  pub plan-made : Accepted folded parity c → LongEnough strategy parity basis folded c out bounds steps
+      → planRefusal strategy parity basis folded c out bounds steps ≡ 0
+  plan-made accepted long = late-refusal accepted ∙ buffers-pass long
+
+  pub made-accepted : planRefusal strategy parity basis folded c out bounds steps ≡ 0 → Accepted folded parity c
+  unfolding planRefusal
+  made-accepted made = first-passed (inputTests folded parity c) bufferTests (inputs-numbered folded parity c) made
+
+  pub made-long : planRefusal strategy parity basis folded c out bounds steps ≡ 0 → LongEnough strategy parity basis folded c out bounds steps
+  made-long made =
+      let late : firstRefusal bufferTests ≡ 0 = sym (late-refusal (made-accepted made)) ∙ made in
+      let tests = none-holds bufferTests (omega arith, (omega arith, (omega arith, tt))) late in
+      record {
+        coefficients = ltb-false (length out) (head .coefficients) (tests .0);
+        boundaries = ltb-false (length bounds) (head .lists) (tests .1 .0);
+        numbers = ltb-false (length steps) (4 * head .steps) (tests .1 .1 .0);
+      }

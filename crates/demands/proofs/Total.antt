@@ -1,0 +1,193 @@
+-- Every call ends with an answer or a refusal. A call's refusal is that of its list of tests, so by cases of its number: 0 says that no test holds, any
+-- other number that it is the first test's that does; and what is left after either is what the call's definition says.
+use mathlib.Core.Path.{_≡_, refl, ap, sym, subst, _∙_}
+use mathlib.Core.Bool.{Bool, true, false, _||_, true≢false}
+use mathlib.Core.List.{List, [], _∷_, _++_}
+use mathlib.Core.Option.{Option, some, none}
+use Prim.Native.Nat.{ℕ, zero, suc, _<_}
+use native.Mathlib.Omega.{arith}
+use borrow.Author.Tests.{ltb-false}
+use lib.Dec.{ltb}
+use lib.IntN.{ℤ}
+use Rattle.algebra.specs.Remainder.{rem}
+use Rattle.algebra.specs.declared.Basis.{Basis}
+use Rattle.algebra.specs.declared.Parity.{Parity}
+use Rattle.number.specs.FoldCall.{foldTests, foldRefusal, foldAnswer, foldBuffer}
+use Rattle.number.specs.Refusal.{Test, firstRefusal, Numbered}
+use Rattle.number.specs.declared.fold.Folded.{Folded}
+use Rattle.number.proofs.Refusal.{none-holds, refusals-say, when-refused, when-accepted}
+use Rattle.counts.specs.declared.choice.SplitStrategy.{SplitStrategy}
+use Rattle.lists.specs.ListCall.{listTests, listRefusal, listAnswer, listCoefficients, listBoundaries}
+use Rattle.lists.specs.declared.call.Listed.{Listed}
+use Rattle.walk.specs.Limits.{modulusLimit}
+use Rattle.walk.specs.Options.{missing, image}
+use Rattle.walk.specs.Lent.{exactWalk}
+use Rattle.walk.specs.Trial.{trialTests, trialRefusal, trialOf}
+use Rattle.walk.specs.declared.plan.Head.{Head}
+use Rattle.walk.specs.declared.call.Trial.{Trial}
+use Rattle.walk.proofs.TrialFollows.{trial-follows}
+use Rattle.plan.specs.PlanHead.{noHead}
+use Rattle.plan.specs.PlanCall.{inputTests, planTests, planRefusal, planAnswer, planCoefficients, planBoundaries, planNumbers, PlanCall}
+use Rattle.plan.specs.declared.call.Planned.{Planned}
+use Rattle.demands.specs.Total.{Ends, answers, refuses, ZeroHead, PlansTotal, PlansMade, PlanOrder, FoldsTotal, ListsTotal, TrialAnswered, TrialsTotal}
+use Rattle.demands.proofs.Refusals.{refusal-of, inputs-numbered, bufferTests, plan-made, made-accepted, made-long}
+use Rattle.demands.proofs.Right.{plans-right}
+
+-- ---- a call by its tests
+
+numbered-append : (tests later : List Test) → Numbered tests → Numbered later → Numbered (tests ++ later)
+numbered-append [] later first second = second
+numbered-append (test ∷ tests) later first second = (first .0, numbered-append tests later (first .1) second)
+
+ends : (tests : List Test) (refusal : ℕ) {Answered Refused : Type 0} → Numbered tests → refusal ≡ firstRefusal tests → (refusal ≡ 0 → Answered)
+    → (0 < refusal → Refused) → Ends tests refusal Answered Refused
+ends tests zero {Answered} {Refused} numbers is made refused = answers (refusals-say tests numbers .accepted (sym is)) refl (made refl)
+ends tests (suc k) {Answered} {Refused} numbers is made refused =
+    refuses (rw is (refusals-say tests numbers .refused (omega arith))) (omega arith) (refused (omega arith))
+
+-- ---- the plan call
+
+module _ (strategy : SplitStrategy) (parity : Parity) (basis : Basis) (folds : Bool) (c out : List ℤ) (bounds steps : List ℕ) (r : Planned)
+    (out′ : List ℤ) (bounds′ steps′ : List ℕ) (call : PlanCall strategy parity basis folds c out bounds steps r out′ bounds′ steps′) where
+  abbrev k : ℕ
+  k = planRefusal strategy parity basis folds c out bounds steps
+
+  tests-numbered : Numbered (planTests strategy parity basis folds c out bounds steps)
+  tests-numbered =
+      numbered-append (inputTests folds parity c) (bufferTests strategy parity basis folds c out bounds steps) (inputs-numbered folds parity c)
+      (omega arith, (omega arith, (omega arith, tt)))
+
+  refusal-is : r .refusal ≡ k
+  unfolding planAnswer
+  refusal-is = ap (λ (p : Planned). p .refusal) (call .answer) ∙ refusal-of k _ _ (λ (p : Planned). p .refusal) refl refl
+
+  no-head : 0 < k → r .head ≡ noHead
+  unfolding planAnswer
+  no-head some-test = ap (λ (p : Planned). p .head) (call .answer ∙ sym (when-refused k _ _ some-test))
+
+zero-head : ZeroHead noHead
+zero-head = record {
+  basis = refl;
+  parity = refl;
+  strategy = refl;
+  transform = refl;
+  degree = refl;
+  base = refl;
+  ct = refl;
+  pt = refl;
+  depth = refl;
+  coefficients = refl;
+  lists = refl;
+  steps = refl;
+}
+
+pub plans-total : PlansTotal
+unfolding planRefusal planCoefficients planBoundaries planNumbers
+plans-total strategy parity basis folds c out bounds steps r out′ bounds′ steps′ call =
+    let refusal = refusal-is strategy parity basis folds c out bounds steps r out′ bounds′ steps′ call in
+    ends (planTests strategy parity basis folds c out bounds steps) (r .refusal)
+    (tests-numbered strategy parity basis folds c out bounds steps r out′ bounds′ steps′ call) refusal
+    (λ accepted. let made = sym refusal ∙ accepted in
+    plans-right strategy parity basis folds c out bounds steps r out′ bounds′ steps′
+    (made-accepted strategy parity basis folds c out bounds steps made) (made-long strategy parity basis folds c out bounds steps made) call)
+    (λ refused. let some-test : 0 < planRefusal strategy parity basis folds c out bounds steps = rw refusal at refused in
+    record {
+      zero-head = subst ZeroHead (sym (no-head strategy parity basis folds c out bounds steps r out′ bounds′ steps′ call some-test)) zero-head;
+      coefficients = call .coefficients ∙ sym (when-refused _ _ out some-test);
+      boundaries = call .boundaries ∙ sym (when-refused _ _ bounds some-test);
+      numbers = call .numbers ∙ sym (when-refused _ _ steps some-test);
+    })
+
+pub plans-made : PlansMade
+plans-made strategy parity basis folds c out bounds steps r out′ bounds′ steps′ call =
+    let refusal = refusal-is strategy parity basis folds c out bounds steps r out′ bounds′ steps′ call in (
+      λ accepted. let made = sym refusal ∙ accepted in
+          (made-accepted strategy parity basis folds c out bounds steps made, made-long strategy parity basis folds c out bounds steps made),
+      λ both. refusal ∙ plan-made strategy parity basis folds c out bounds steps (both .0) (both .1),
+    )
+
+pub plan-order : (strategy : SplitStrategy) (parity : Parity) (basis : Basis) (c out : List ℤ) (bounds steps : List ℕ)
+    → PlanOrder strategy parity basis c out bounds steps
+plan-order strategy parity basis c out bounds steps = record { unfolded = refl; with-folding = refl }
+
+-- ---- the fold call
+
+pub folds-total : (A : Type 0) → FoldsTotal A
+unfolding foldRefusal foldAnswer foldBuffer
+folds-total A numbers parity basis c out r left call =
+    let k = foldRefusal numbers parity basis c out in
+    let refusal : r .refusal ≡ k = ap (λ (f : Folded). f .refusal) (call .answer) ∙ refusal-of k _ _ (λ (f : Folded). f .refusal) refl refl in
+    ends (foldTests numbers parity basis c out) (r .refusal) (omega arith, (omega arith, (omega arith, (omega arith, (omega arith, (omega arith, tt))))))
+    refusal (λ accepted. call .buffer ∙ sym (when-accepted _ _ (sym refusal ∙ accepted)))
+    (λ refused. let some-test : 0 < foldRefusal numbers parity basis c out = rw refusal at refused in
+    let is = call .answer ∙ sym (when-refused k _ _ some-test) in
+    record { transform = rw is; parity = rw is; count = rw is; buffer = call .buffer ∙ sym (when-refused k _ out some-test) })
+
+-- ---- the list calls
+
+pub lists-total : (A : Type 0) → ListsTotal A
+unfolding listRefusal listAnswer listCoefficients listBoundaries
+lists-total A numbers strategy parity basis c out bounds r out′ bounds′ call =
+    let k = listRefusal numbers strategy parity basis c out bounds in
+    let refusal : r .refusal ≡ k = ap (λ (f : Listed). f .refusal) (call .answer) ∙ refusal-of k _ _ (λ (f : Listed). f .refusal) refl refl in
+    ends (listTests numbers strategy parity basis c out bounds) (r .refusal)
+    (omega arith, (omega arith, (omega arith, (omega arith, (omega arith, tt))))) refusal
+    (λ accepted. let passed = sym refusal ∙ accepted in
+    record {
+      coefficients = call .coefficients ∙ sym (when-accepted _ _ passed);
+      boundaries = call .boundaries ∙ sym (when-accepted _ _ passed);
+    })
+    (λ refused. let some-test : 0 < listRefusal numbers strategy parity basis c out bounds = rw refusal at refused in
+    let is = call .answer ∙ sym (when-refused k _ _ some-test) in
+    record {
+      degree = rw is;
+      base = rw is;
+      coefficients = rw is;
+      lists = rw is;
+      first-buffer = call .coefficients ∙ sym (when-refused k _ out some-test);
+      second-buffer = call .boundaries ∙ sym (when-refused k _ bounds some-test);
+    })
+
+-- ---- the trial walk
+
+neither : (a b : Bool) → (a || b) ≡ false → (a ≡ false) × (b ≡ false)
+neither false b none-is = (refl, none-is)
+neither true b none-is = absurd (true≢false none-is)
+
+-- a value whose image is there
+imaged : (m : ℕ) (o : Option ℤ) → missing (image (rem m) o) ≡ false → (v : ℤ) × (o ≡ some v)
+imaged m (some v) is = (v, refl)
+imaged m none is = absurd (true≢false is)
+
+module _ (head : Head) (coefficients : List ℤ) (bounds steps : List ℕ) (point : ℤ) (modulus : ℕ) where
+  trial-refusal-is : trialOf head coefficients bounds steps point modulus .refusal ≡ trialRefusal head coefficients bounds steps point modulus
+  unfolding trialOf
+  trial-refusal-is = refusal-of (trialRefusal head coefficients bounds steps point modulus) _ _ (λ (t : Trial). t .refusal) refl refl
+
+  trial-zero : 0 < trialRefusal head coefficients bounds steps point modulus → trialOf head coefficients bounds steps point modulus .remainder ≡ 0
+  unfolding trialOf
+  trial-zero some-test = ap (λ (t : Trial). t .remainder) (sym (when-refused (trialRefusal head coefficients bounds steps point modulus) _ _ some-test))
+
+  trial-answered : trialRefusal head coefficients bounds steps point modulus ≡ 0
+      → TrialAnswered head coefficients bounds steps point modulus
+  unfolding trialRefusal
+  trial-answered passed =
+      let tests = none-holds (trialTests head coefficients bounds steps point modulus) (omega arith, (omega arith, tt)) passed in
+      let range = neither (ltb modulus 2) (ltb modulusLimit modulus) (tests .0) in
+      let low = ltb-false modulus 2 (range .0) in
+      let high = ltb-false modulusLimit modulus (range .1) in
+      let follows = trial-follows head coefficients bounds steps point modulus low high in
+      let found = imaged modulus (exactWalk head coefficients bounds steps point) (rw (follows .walks) at (tests .1 .0)) in
+      record {
+        value = found .0;
+        exact = found .1;
+        remainder = ap (λ (t : Trial). t .remainder) (follows .answers (found .0) (found .1));
+      }
+
+pub trials-total : TrialsTotal
+unfolding trialRefusal
+trials-total head coefficients bounds steps point modulus =
+    let refusal = trial-refusal-is head coefficients bounds steps point modulus in
+    ends (trialTests head coefficients bounds steps point modulus) (trialOf head coefficients bounds steps point modulus .refusal)
+    (omega arith, (omega arith, tt)) refusal (λ accepted. trial-answered head coefficients bounds steps point modulus (sym refusal ∙ accepted))
+    (λ refused. trial-zero head coefficients bounds steps point modulus (rw refusal at refused))

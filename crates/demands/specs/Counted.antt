@@ -1,0 +1,71 @@
+-- Demand 3: what a plan reports is what its steps and lists cost. For every accepted polynomial (specs/Accepts), each basis, parity and strategy,
+-- folded or not.
+use mathlib.Core.Path.{_≡_}
+use mathlib.Core.Bool.{Bool, true, false}
+use mathlib.Core.List.{List, map}
+use Prim.Native.Nat.{ℕ, _+_, _^_, _≤_}
+use lib.IntN.{ℤ}
+use lib.ListN.{length}
+use Rattle.algebra.specs.declared.Basis.{Basis}
+use Rattle.algebra.specs.declared.Parity.{Parity}
+use Rattle.algebra.specs.declared.Parity.the-variants.{Even, Odd}
+use Rattle.number.specs.Bits.{bitLen}
+use Rattle.number.specs.Tests.{degreeOf}
+use Rattle.counts.specs.Pair.{pairAt}
+use Rattle.counts.specs.MinMult.{AtMost, minMult}
+use Rattle.counts.specs.Calls.{countsCall}
+use Rattle.counts.specs.declared.pair.Pair.{Pair}
+use Rattle.counts.specs.declared.choice.SplitStrategy.{SplitStrategy}
+use Rattle.counts.specs.declared.choice.SplitStrategy.the-variants.{MinMult}
+use Rattle.walk.specs.Lent.{lentSteps}
+use Rattle.walk.specs.declared.plan.Head.{Head}
+use Rattle.walk.specs.declared.plan.Step.{Step}
+use Rattle.plan.specs.Reported.{ofKind, allowedIn, transformCost}
+use Rattle.plan.specs.PlanCall.{plannedTransform, Accepted, headFor, PlanCall}
+use Rattle.plan.specs.declared.call.Planned.{Planned}
+use Rattle.demands.specs.Accepts.{LongEnough}
+use Rattle.demands.specs.Right.{listsFor}
+
+-- ---- "Encrypted multiplications reported = steps of kind 1 + steps of kind 3 + 0, 1 or 2 for the transform."
+
+-- the counts of a head, by lists and steps
+pub record Reports (head : Head) (lists : List (List ℤ)) (steps : List Step) : Type 0 where
+  pub encrypted : head .ct ≡ ofKind 1 steps + ofKind 3 steps + transformCost (head .transform)
+  -- the plain ones are the allowed powers from 1 up over all lists, and the steps of kind 4
+  pub plain : head .pt ≡ allowedIn (head .parity) (map length lists) + ofKind 4 steps
+
+-- the steps are those that the call left in the lent buffer
+abbrev pub PlansReport : Type 0
+PlansReport = (strategy : SplitStrategy) (parity : Parity) (basis : Basis) (folded : Bool) (c out : List ℤ) (bounds steps : List ℕ) (r : Planned)
+    (out′ : List ℤ) (bounds′ steps′ : List ℕ) → Accepted folded parity c → LongEnough strategy parity basis folded c out bounds steps
+    → PlanCall strategy parity basis folded c out bounds steps r out′ bounds′ steps′
+    → Reports (r .head) (listsFor strategy parity basis folded c) (lentSteps (r .head) steps′)
+
+-- the transform's are 0 without folding, 1 for Even, 2 for Odd
+pub record TransformCosts (basis : Basis) : Type 0 where
+  pub unfolded : (parity : Parity) → transformCost (plannedTransform false parity basis) ≡ 0
+  pub even : transformCost (plannedTransform true Even basis) ≡ 1
+  pub odd : transformCost (plannedTransform true Odd basis) ≡ 2
+
+-- ---- "In an unfolded MinMult plan the reported pair of counts is that of its split. Every other split from 1 to the degree's bit length has a pair
+-- at least as large, encrypted ones compared first."
+
+-- the pair that a head reports
+abbrev pub reportedPair : Head → Pair
+reportedPair head = record { ct = head .ct; pt = head .pt }
+
+pub record LeastReported (parity : Parity) (basis : Basis) (degree : ℕ) (head : Head) : Type 0 where
+  -- its split
+  pub split : ℕ
+  pub split-is : split ≡ minMult parity basis degree
+  pub base : head .base ≡ 2 ^ split
+  pub from-one : 1 ≤ split
+  pub to-length : split ≤ bitLen degree
+  -- the pair of its split, which `bsgs_op_counts` answers too
+  pub pair : reportedPair head ≡ pairAt parity basis degree split
+  pub counts : countsCall MinMult parity basis degree ≡ record { refusal = 0; ct = head .ct; pt = head .pt }
+  pub least : (other : ℕ) → 1 ≤ other → other ≤ bitLen degree → AtMost (reportedPair head) (pairAt parity basis degree other)
+
+abbrev pub MinMultLeast : Type 0
+MinMultLeast = (parity : Parity) (basis : Basis) (c : List ℤ) → Accepted false parity c
+    → LeastReported parity basis (degreeOf c) (headFor MinMult parity basis false c)

@@ -1,0 +1,129 @@
+-- Demand 1: "A polynomial handed in, of any length and content, with any basis, parity, strategy and buffers, comes back as a plan or as a refusal number
+-- of document 01. A refusal carries zero in every other field and changes no lent buffer. No call relies on a test by its caller." Nothing is asked
+-- of any argument below; the contracts of the code ask nothing of theirs.
+use mathlib.Core.Path.{_≡_}
+use mathlib.Core.Bool.{Bool, true, false}
+use mathlib.Core.List.{List, [], _∷_, map}
+use mathlib.Core.Logic.{_↔_}
+use mathlib.Core.Option.{some}
+use Prim.Native.Nat.{ℕ, _<_}
+use lib.IntN.{ℤ}
+use lib.ListN.{length}
+use lib.Seq.{sets}
+use Rattle.algebra.specs.EnumNumbers.{basisNumber, parityNumber, transformNumber}
+use Rattle.algebra.specs.Remainder.{rem}
+use Rattle.algebra.specs.declared.Basis.{Basis}
+use Rattle.algebra.specs.declared.Parity.{Parity}
+use Rattle.number.specs.FoldCall.{folded, foldTests, FoldCall}
+use Rattle.number.specs.Numbers.{Numbers}
+use Rattle.number.specs.Refusal.{Test, NoneHolds, FirstHolds}
+use Rattle.number.specs.Tests.{degreeOf}
+use Rattle.number.specs.declared.fold.Folded.{Folded}
+use Rattle.counts.specs.StrategyNumber.{strategyNumber}
+use Rattle.counts.specs.declared.choice.SplitStrategy.{SplitStrategy}
+use Rattle.lists.specs.Tree.{planTree}
+use Rattle.lists.specs.Arrange.{arranged, endsOf}
+use Rattle.lists.specs.ListCall.{listTests, ListCall}
+use Rattle.lists.specs.declared.call.Listed.{Listed}
+use Rattle.walk.specs.Lent.{exactWalk}
+use Rattle.walk.specs.Trial.{trialTests, trialOf}
+use Rattle.walk.specs.declared.plan.Head.{Head}
+use Rattle.plan.specs.PlanCall.{Accepted, planTests, PlanCall}
+use Rattle.plan.specs.declared.call.Planned.{Planned}
+use Rattle.demands.specs.Accepts.{LongEnough}
+use Rattle.demands.specs.Right.{PlanRight}
+
+-- how a call ends: none of its tests holds, and it answers; or it refuses with the number of the first test that holds
+pub data Ends (tests : List Test) (refusal : ℕ) (Answered Refused : Type 0) : Type 0 where
+  answers : NoneHolds tests → refusal ≡ 0 → Answered → Ends tests refusal Answered Refused
+  refuses : FirstHolds refusal tests → 0 < refusal → Refused → Ends tests refusal Answered Refused
+
+-- the numbers of tests, in order
+abbrev pub numbersOf : List Test → List ℕ
+numbersOf tests = map (λ (test : Test). test .1) tests
+
+-- ---- the plan call
+
+-- zero in every field of a head; an enum counts by its number (docs/RULES.md, "Numbers of the kinds")
+pub record ZeroHead (head : Head) : Type 0 where
+  pub basis : basisNumber (head .basis) ≡ 0
+  pub parity : parityNumber (head .parity) ≡ 0
+  pub strategy : strategyNumber (head .strategy) ≡ 0
+  pub transform : transformNumber (head .transform) ≡ 0
+  pub degree : head .degree ≡ 0
+  pub base : head .base ≡ 0
+  pub ct : head .ct ≡ 0
+  pub pt : head .pt ≡ 0
+  pub depth : head .depth ≡ 0
+  pub coefficients : head .coefficients ≡ 0
+  pub lists : head .lists ≡ 0
+  pub steps : head .steps ≡ 0
+
+pub record PlanRefused (head : Head) (out out′ : List ℤ) (bounds bounds′ steps steps′ : List ℕ) : Type 0 where
+  pub zero-head : ZeroHead head
+  pub coefficients : out′ ≡ out
+  pub boundaries : bounds′ ≡ bounds
+  pub numbers : steps′ ≡ steps
+
+-- a plan, which is right (specs/Right), or a refusal
+abbrev pub PlansTotal : Type 0
+PlansTotal = (strategy : SplitStrategy) (parity : Parity) (basis : Basis) (folds : Bool) (c out : List ℤ) (bounds steps : List ℕ) (r : Planned)
+    (out′ : List ℤ) (bounds′ steps′ : List ℕ) → PlanCall strategy parity basis folds c out bounds steps r out′ bounds′ steps′
+    → Ends (planTests strategy parity basis folds c out bounds steps) (r .refusal) (PlanRight strategy parity basis folds c r out′ bounds′ steps′)
+    (PlanRefused (r .head) out out′ bounds bounds′ steps steps′)
+
+-- what is accepted, with long enough buffers, gets a plan, and only that
+abbrev pub PlansMade : Type 0
+PlansMade = (strategy : SplitStrategy) (parity : Parity) (basis : Basis) (folds : Bool) (c out : List ℤ) (bounds steps : List ℕ) (r : Planned)
+    (out′ : List ℤ) (bounds′ steps′ : List ℕ) → PlanCall strategy parity basis folds c out bounds steps r out′ bounds′ steps′
+    → (r .refusal ≡ 0) ↔ (Accepted folds parity c × LongEnough strategy parity basis folds c out bounds steps)
+
+-- its refusal numbers, in document 01's order
+pub record PlanOrder (strategy : SplitStrategy) (parity : Parity) (basis : Basis) (c out : List ℤ) (bounds steps : List ℕ) : Type 0 where
+  pub unfolded : numbersOf (planTests strategy parity basis false c out bounds steps) ≡ 2 ∷ 1 ∷ 4 ∷ 3 ∷ 21 ∷ 22 ∷ 23 ∷ []
+  pub with-folding : numbersOf (planTests strategy parity basis true c out bounds steps) ≡ 2 ∷ 1 ∷ 5 ∷ 6 ∷ 4 ∷ 3 ∷ 21 ∷ 22 ∷ 23 ∷ []
+
+-- ---- the other calls on polynomials and plans, on whole numbers or f64
+
+-- the fold call: the fold in the buffer's first places, or zero in every field and the buffer unchanged
+pub record FoldRefused {A : Type 0} (r : Folded) (out left : List A) : Type 0 where
+  pub transform : transformNumber (r .transform) ≡ 0
+  pub parity : parityNumber (r .parity) ≡ 0
+  pub count : r .count ≡ 0
+  pub buffer : left ≡ out
+
+abbrev pub FoldsTotal : Type 0 → Type 0
+FoldsTotal A = (numbers : Numbers A) (parity : Parity) (basis : Basis) (c out : List A) (r : Folded) (left : List A)
+    → FoldCall numbers parity basis c out r left
+    → Ends (foldTests numbers parity basis c out) (r .refusal) (left ≡ sets out 0 (folded numbers parity basis c out)) (FoldRefused r out left)
+
+-- the list calls: the lists in one buffer and their boundaries in the other, or zero in every field and both unchanged
+pub record ListAnswered {A : Type 0} (numbers : Numbers A) (strategy : SplitStrategy) (parity : Parity) (basis : Basis) (c out out′ : List A)
+    (bounds bounds′ : List ℕ) : Type 0 where
+  pub coefficients : out′ ≡ sets out 0 (arranged (numbers .ops) basis (planTree strategy parity basis (degreeOf c)) c)
+  pub boundaries : bounds′ ≡ sets bounds 0 (endsOf (planTree strategy parity basis (degreeOf c)) 0 (length c))
+
+pub record ListRefused {A : Type 0} (r : Listed) (out out′ : List A) (bounds bounds′ : List ℕ) : Type 0 where
+  pub degree : r .degree ≡ 0
+  pub base : r .base ≡ 0
+  pub coefficients : r .coefficients ≡ 0
+  pub lists : r .lists ≡ 0
+  pub first-buffer : out′ ≡ out
+  pub second-buffer : bounds′ ≡ bounds
+
+abbrev pub ListsTotal : Type 0 → Type 0
+ListsTotal A = (numbers : Numbers A) (strategy : SplitStrategy) (parity : Parity) (basis : Basis) (c out : List A) (bounds : List ℕ) (r : Listed)
+    (out′ : List A) (bounds′ : List ℕ) → ListCall numbers strategy parity basis c out bounds r out′ bounds′
+    → Ends (listTests numbers strategy parity basis c out bounds) (r .refusal)
+    (ListAnswered numbers strategy parity basis c out out′ bounds bounds′) (ListRefused r out out′ bounds bounds′)
+
+-- the trial walk, of any head and buffers at any point and modulus: the remainder of an exact value, or zero. It writes in no buffer.
+pub record TrialAnswered (head : Head) (coefficients : List ℤ) (bounds steps : List ℕ) (point : ℤ) (modulus : ℕ) : Type 0 where
+  pub value : ℤ
+  pub exact : exactWalk head coefficients bounds steps point ≡ some value
+  pub remainder : trialOf head coefficients bounds steps point modulus .remainder ≡ rem modulus value
+
+abbrev pub TrialsTotal : Type 0
+TrialsTotal = (head : Head) (coefficients : List ℤ) (bounds steps : List ℕ) (point : ℤ) (modulus : ℕ)
+    → Ends (trialTests head coefficients bounds steps point modulus) (trialOf head coefficients bounds steps point modulus .refusal)
+    (TrialAnswered head coefficients bounds steps point modulus) (trialOf head coefficients bounds steps point modulus .remainder ≡ 0)

@@ -1,0 +1,1 @@
+// The three demands, stated and proved: definitions and theorems, no code.
