@@ -122,6 +122,7 @@ pub fn plans(r: &mut Rec) {
     chebyshev(r);
     waits(r);
     beyond(r);
+    refusals(r);
 }
 
 /// Each for a reason of its own.
@@ -246,4 +247,50 @@ fn beyond(r: &mut Rec) {
     plan.coefficients = 6;
     plan.c.push(9);
     r.by_hand(&line(&plan, 2, 100, 0, 29));
+}
+
+/// What the plan call refuses, on `c` with buffers of so many places.
+fn refused(settings: &str, room: [usize; 3], c: &[i64], refusal: u8) -> String {
+    let mut out = format!("plan_refused\t{settings}");
+    room.iter().for_each(|n| out.push_str(&format!("\t{n}")));
+    out.push_str(&format!("\t{}", c.len()));
+    c.iter().for_each(|x| out.push_str(&format!("\t{x}")));
+    out.push_str(&format!("\t=\t{refusal}"));
+    out
+}
+
+/// Each refusal of the plan call, and that those ahead in the order win: 2, 1, then with folding 5, 6, 4, without it 4; then 3, 21, 22, 23.
+fn refusals(r: &mut Rec) {
+    let max = 1 << 30;
+    let none = [0, 0, 0];
+    let long = vec![max; 4_097];
+    let cases: [(&str, [usize; 3], &[i64], u8); 22] = [
+        ("M\tO\tD\tN", none, &long, 2),
+        ("M\tF\tD\tY", none, &long, 2),
+        ("M\tF\tD\tN", none, &[], 1),
+        ("C\tO\tM\tN", none, &[max + 1], 1),
+        ("C\tF\tM\tY", none, &[5], 1),
+        ("M\tF\tD\tY", none, &[max, max], 5),
+        ("M\tE\tD\tY", none, &[max, max], 6),
+        ("M\tO\tD\tY", none, &[max, max, max], 6),
+        ("C\tE\tD\tY", none, &[max, max, max], 4),
+        ("C\tO\tD\tY", none, &[max, 0, 0, max], 4),
+        ("C\tE\tD\tN", none, &[max, max], 4),
+        ("M\tO\tM\tN", none, &[max, max], 4),
+        ("M\tF\tD\tN", none, &[max, 1], 3),
+        ("M\tF\tD\tN", none, &[-max, -1], 3),
+        ("C\tE\tD\tY", none, &[max, 0, 1], 3),
+        ("M\tF\tD\tN", none, &[max, 0], 21),
+        // Five coefficients, two lists, six steps.
+        ("M\tF\tD\tN", [4, 2, 24], &[1, 2, 3, 4, 5], 21),
+        ("M\tF\tD\tN", [5, 1, 0], &[1, 2, 3, 4, 5], 22),
+        ("M\tF\tD\tN", [5, 2, 23], &[1, 2, 3, 4, 5], 23),
+        // A fold of two coefficients, one list, one step.
+        ("C\tO\tD\tY", [1, 1, 4], &[0, 1, 0, 2], 21),
+        ("C\tO\tD\tY", [2, 0, 4], &[0, 1, 0, 2], 22),
+        ("C\tO\tD\tY", [2, 1, 3], &[0, 1, 0, 2], 23),
+    ];
+    for (settings, room, c, refusal) in cases {
+        r.by_hand(&refused(settings, room, c, refusal));
+    }
 }
