@@ -5,3 +5,4 @@ pub mod MadeBefore
 pub mod Total
 pub mod Fits
 pub mod Equal
+pub mod Starred

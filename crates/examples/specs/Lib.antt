@@ -2,4 +2,5 @@ pub mod Algebra
 pub mod Folding
 pub mod Evaluation
 pub mod Interpolation
-pub mod Starred
+pub mod Walk
+pub mod Plan

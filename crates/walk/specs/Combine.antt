@@ -1,4 +1,4 @@
--- Combining two waiting values (document 01, "Steps and the walk"): steps `3 p 0 0` and `4 p 0 0`.
+-- Combining two waiting values (docs/RULES.md, "Steps and the walk"): steps `3 p 0 0` and `4 p 0 0`.
 use mathlib.Core.Bool.{Bool}
 use mathlib.Core.List.{List, [], _∷_}
 use mathlib.Core.Option.{Option, some, none}

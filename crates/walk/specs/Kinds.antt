@@ -1,4 +1,4 @@
--- The kinds of steps (document 01, "Steps and the walk").
+-- The kinds of steps (docs/RULES.md, "Steps and the walk").
 use mathlib.Core.Bool.{Bool, true, false}
 use Prim.Native.Nat.{ℕ, zero, suc}
 

@@ -1,4 +1,4 @@
--- The walk's own limits (document 01), WAITING and MODULUS_LIMIT in the code.
+-- The walk's own limits (docs/RULES.md), WAITING and MODULUS_LIMIT in the code.
 use Prim.Native.Nat.{ℕ}
 
 -- the most values that wait

@@ -1,4 +1,4 @@
--- Loading a list (document 01, "Steps and the walk"): step `2 i 0 0` pushes its value, the sum of c_j times power j over the allowed j, and the
+-- Loading a list (docs/RULES.md, "Steps and the walk"): step `2 i 0 0` pushes its value, the sum of c_j times power j over the allowed j, and the
 -- constant unless Odd.
 use mathlib.Core.Bool.{Bool, true, false}
 use mathlib.Core.List.{List, [], _∷_}

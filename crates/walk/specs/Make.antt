@@ -1,4 +1,4 @@
--- Making a power (document 01, "Steps and the walk"): step `1 n a b`.
+-- Making a power (docs/RULES.md, "Steps and the walk"): step `1 n a b`.
 use mathlib.Core.Bool.{Bool, cond, _&&_}
 use mathlib.Core.Option.{Option, some, none}
 use Prim.Native.Nat.{ℕ, zero, suc}

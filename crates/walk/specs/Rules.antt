@@ -1,4 +1,4 @@
--- The rules of the walk (document 01, "Steps and the walk"): what it makes of the values at hand. They say nothing of when it can't go on, which is
+-- The rules of the walk (docs/RULES.md, "Steps and the walk"): what it makes of the values at hand. They say nothing of when it can't go on, which is
 -- the same for all rules. Coefficients and points are whole numbers, whatever the values are.
 use mathlib.Core.Bool.{Bool}
 use Prim.Native.Nat.{ℕ}

@@ -1,4 +1,4 @@
--- The trial walk (document 01, "Steps and the walk" and "Refusals"): 11, then 24, and the remainder.
+-- The trial walk (docs/RULES.md, "Steps and the walk" and "Refusals"): 11, then 24, and the remainder.
 use mathlib.Core.Bool.{_||_}
 use mathlib.Core.List.{List, [], _∷_}
 use mathlib.Core.Option.{Option, some, none}

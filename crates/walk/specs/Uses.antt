@@ -1,4 +1,4 @@
--- The powers that a step uses (document 01, "Steps and the walk").
+-- The powers that a step uses (docs/RULES.md, "Steps and the walk").
 use mathlib.Core.Bool.{Bool, true, false}
 use mathlib.Core.List.{List, [], _∷_}
 use mathlib.Core.Option.{Option, some, none}

@@ -1,4 +1,4 @@
--- A walk that has a value uses only powers that earlier steps made, besides powers 0 and 1 (document 01, "Steps and the walk").
+-- A walk that has a value uses only powers that earlier steps made, besides powers 0 and 1 (docs/RULES.md, "Steps and the walk").
 use mathlib.Core.Path.{_≡_}
 use mathlib.Core.Bool.{Bool, true, false, _&&_, _||_}
 use mathlib.Core.List.{List, [], _∷_}

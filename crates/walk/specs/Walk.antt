@@ -1,4 +1,4 @@
--- The walk of lists and steps (document 01, "Steps and the walk"), over any rules.
+-- The walk of lists and steps (docs/RULES.md, "Steps and the walk"), over any rules.
 use mathlib.Core.Bool.{Bool, _&&_}
 use mathlib.Core.List.{List, [], _∷_}
 use mathlib.Core.Option.{Option, some, none}

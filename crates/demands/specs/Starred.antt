@@ -1,4 +1,4 @@
--- The starred examples of document 01, in one table. MinDepth's reported pair at degree 7 waits for the plan.
+-- Worked examples of all the rules in one table, each with the words that ask for it.
 use mathlib.Core.Path.{_≡_}
 use mathlib.Core.List.{[], _∷_, map}
 use Prim.Native.Nat.{ℕ}
@@ -11,6 +11,7 @@ use Rattle.algebra.specs.declared.Basis.{Basis}
 use Rattle.algebra.specs.declared.Basis.the-variants.{Chebyshev}
 use Rattle.algebra.specs.declared.Parity.{Parity}
 use Rattle.algebra.specs.declared.Parity.the-variants.{Full, Odd}
+use Rattle.algebra.specs.declared.PolynomialInputTransform.the-variants.{Identity}
 use Rattle.number.specs.Split.{splitOf}
 use Rattle.counts.specs.MinDepth.{minDepth}
 use Rattle.counts.specs.Calls.{minMultCall, countsCall, depthCall, bitsCall}
@@ -18,6 +19,7 @@ use Rattle.counts.specs.declared.choice.SplitStrategy.the-variants.{MinDepth, M
 use Rattle.lists.specs.Tree.{planTree}
 use Rattle.lists.specs.Arrange.{lengthsOf}
 use Rattle.lists.specs.Lists.{listsOf}
+use Rattle.plan.specs.PlanHead.{planCounts}
 
 -- the split and the pair of MinMult with parity Full
 pub record MultFull (basis : Basis) (degree split ct pt : ℕ) : Type 0 where
@@ -37,9 +39,10 @@ pub record Starred : Type 0 where
   pub mult-4 : (basis : Basis) → MultFull basis 4 1 3 3
   pub mult-5 : (basis : Basis) → MultFull basis 5 1 4 3
   pub mult-7 : (basis : Basis) → MultFull basis 7 2 4 6
-  -- MinDepth list lengths: degree 6: 4, 3; degree 7: 4, 2, 2
+  -- MinDepth list lengths: degree 6: 4, 3; degree 7: 4, 2, 2, reported (5, 5)
   pub lengths-6 : (parity : Parity) (basis : Basis) → lengthsOf (planTree MinDepth parity basis 6) 7 ≡ 4 ∷ 3 ∷ []
   pub lengths-7 : (parity : Parity) (basis : Basis) → lengthsOf (planTree MinDepth parity basis 7) 8 ≡ 4 ∷ 2 ∷ 2 ∷ []
+  pub reported-7 : (basis : Basis) → planCounts MinDepth Full basis Identity 7 ≡ record { ct = 5; pt = 5 }
   -- Chebyshev 1..6, MinMult: [1, 4], [3, −4], [5, 12]; value at 2: 2,787
   pub lists-1-6 : listsOf wholeOps Chebyshev (planTree MinMult Full Chebyshev 5) (map pos (1 ∷ 2 ∷ 3 ∷ 4 ∷ 5 ∷ 6 ∷ []))
       ≡ (pos 1 ∷ pos 4 ∷ []) ∷ (pos 3 ∷ negsuc 3 ∷ []) ∷ (pos 5 ∷ pos 12 ∷ []) ∷ []

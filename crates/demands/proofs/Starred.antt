@@ -14,6 +14,7 @@ use Rattle.algebra.specs.Value.{sum, dot}
 use Rattle.algebra.specs.declared.Basis.{Basis}
 use Rattle.algebra.specs.declared.Basis.the-variants.{Monomial, Chebyshev}
 use Rattle.algebra.specs.declared.Parity.the-variants.{Full}
+use Rattle.algebra.specs.declared.PolynomialInputTransform.the-variants.{Identity}
 use Rattle.number.specs.Bits.{digits, bitLen, topPower, powerBelow, isPowerOfTwo}
 use Rattle.number.specs.Refusal.{unlessRefused}
 use Rattle.number.specs.Split.{partsOf, splitRefusal, splitOf}
@@ -29,11 +30,14 @@ use Rattle.counts.specs.Depth.{depthOf}
 use Rattle.counts.specs.ConsumedBits.{pureChain, chainBefore, bitsOf}
 use Rattle.counts.specs.Calls.{minMultCall, countsCall, depthCall, bitsCall}
 use Rattle.counts.specs.declared.choice.SplitChoice.{SplitChoice}
-use Rattle.counts.specs.declared.choice.SplitStrategy.the-variants.{MinMult}
+use Rattle.counts.specs.declared.choice.SplitStrategy.the-variants.{MinDepth, MinMult}
 use Rattle.lists.specs.Tree.{listedAgain, treeIn, treeOf}
-use Rattle.lists.specs.Arrange.{lengthsOf}
+use Rattle.lists.specs.Arrange.{leavesOf, lengthsOf}
 use Rattle.lists.specs.Lists.{listsOf}
-use Rattle.examples.specs.Starred.{MultFull, Starred}
+use Rattle.plan.specs.PlanSteps.{powerSteps, lastLength, lastPlain, combineKind, treeSteps, listSteps, stepsAt}
+use Rattle.plan.specs.Reported.{ofKind, allowedIn, reported}
+use Rattle.plan.specs.PlanHead.{planCounts}
+use Rattle.demands.specs.Starred.{MultFull, Starred}
 
 in-both : (P : Basis → Type 0) → P Monomial → P Chebyshev → (basis : Basis) → P basis
 in-both P in-monomial in-chebyshev Monomial = in-monomial
@@ -58,6 +62,13 @@ lists-at-1 : listsOf wholeOps Chebyshev (treeOf false 5 5 1) (map pos (1 ∷ 2 �
 unfolding listsOf cutAt lowered doubled differences treeOf treeIn topPower bitLen digits
 lists-at-1 = refl
 
+-- MinDepth's counts of degree 7
+counts-of-7 : (basis : Basis) → planCounts MinDepth Full basis Identity 7 ≡ record { ct = 5; pt = 5 }
+unfolding reported allowedIn ofKind stepsAt listSteps treeSteps combineKind lastPlain lastLength powerSteps leavesOf lengthsOf treeOf treeIn
+    listedAgain splitFor minDepth aExceedsB allowedTo neededList markedFrom neededMarks sweepFrom targetMarks markParts markApart sweepAt markAt
+    places isTarget allows topPower partsOf powerBelow isPowerOfTwo bitLen digits
+counts-of-7 = in-both (λ (basis : Basis). planCounts MinDepth Full basis Identity 7 ≡ record { ct = 5; pt = 5 }) refl refl
+
 -- ---- the table
 
 pub starred : Starred
@@ -79,6 +90,7 @@ starred = record {
       in-both (λ (basis : Basis). MultFull basis 7 2 4 6) (record { chosen = refl; counted = refl }) (record { chosen = refl; counted = refl });
   lengths-6 = λ parity basis. refl;
   lengths-7 = λ parity basis. refl;
+  reported-7 = counts-of-7;
   lists-1-6 = rw split-of-5 lists-at-1;
   value-1-6 = refl;
   folded = refl;
