@@ -9,14 +9,36 @@ use native.Mathlib.Omega.{arith}
 use borrow.Author.Tests.{ltb-false}
 use lib.Dec.{ltb}
 use lib.IntN.{ℤ}
+use lib.ListN.{length}
 use Rattle.algebra.specs.Remainder.{rem}
 use Rattle.algebra.specs.declared.Basis.{Basis}
+use Rattle.algebra.specs.declared.Basis.the-variants.{Monomial}
 use Rattle.algebra.specs.declared.Parity.{Parity}
+use Rattle.algebra.specs.declared.Parity.the-variants.{Full}
+use Rattle.number.specs.Bits.{bitLen, isPowerOfTwo}
 use Rattle.number.specs.FoldCall.{foldTests, foldRefusal, foldAnswer, foldBuffer}
-use Rattle.number.specs.Refusal.{Test, firstRefusal, Numbered}
+use Rattle.number.specs.Limits.{planLimit, degreeLimit}
+use Rattle.number.specs.Refusal.{Test, firstRefusal, unlessRefused, Numbered}
+use Rattle.number.specs.Split.{partsBy, partsOf, noParts, splitRefusal, splitOf}
+use Rattle.number.specs.Tests.{noDegree, tooHigh, unordered, miscounted, outOfRange, tooWide, noRoom}
 use Rattle.number.specs.declared.fold.Folded.{Folded}
+use Rattle.number.specs.declared.split.Parts.{Parts}
 use Rattle.number.proofs.Refusal.{none-holds, refusals-say, when-refused, when-accepted}
+use Rattle.interpolation.specs.InterpolateCall.{interpolateRefusal, interpolateAnswer, interpolateBuffer}
+use Rattle.interpolation.specs.declared.Interpolated.{Interpolated}
+use Rattle.counts.specs.Calls.{noSplit, minDepthRefusal, minDepthCall, minMultRefusal, minMultCall, noCounts, countsRefusal, countsCall}
+use Rattle.counts.specs.Calls.{noDepth, depthRefusal, depthCall, noBits, bitsRefusal, bitsCall}
+use Rattle.counts.specs.Choice.{splitFor, countsOf}
+use Rattle.counts.specs.ConsumedBits.{bitsOf}
+use Rattle.counts.specs.Depth.{depthOf}
+use Rattle.counts.specs.MinDepth.{minDepth}
+use Rattle.counts.specs.MinMult.{minMult}
+use Rattle.counts.specs.declared.choice.OpCounts.{OpCounts}
+use Rattle.counts.specs.declared.choice.SplitChoice.{SplitChoice}
 use Rattle.counts.specs.declared.choice.SplitStrategy.{SplitStrategy}
+use Rattle.counts.specs.declared.choice.SplitStrategy.the-variants.{MinDepth, MinMult}
+use Rattle.counts.specs.declared.consumed.ConsumedBits.{ConsumedBits}
+use Rattle.counts.specs.declared.depth.EvalDepth.{EvalDepth}
 use Rattle.lists.specs.ListCall.{listTests, listRefusal, listAnswer, listCoefficients, listBoundaries}
 use Rattle.lists.specs.declared.call.Listed.{Listed}
 use Rattle.walk.specs.Limits.{modulusLimit}
@@ -29,7 +51,7 @@ use Rattle.walk.proofs.TrialFollows.{trial-follows}
 use Rattle.plan.specs.PlanHead.{noHead}
 use Rattle.plan.specs.PlanCall.{inputTests, planTests, planRefusal, planAnswer, planCoefficients, planBoundaries, planNumbers, PlanCall}
 use Rattle.plan.specs.declared.call.Planned.{Planned}
-use Rattle.demands.specs.Total.{Ends, answers, refuses, ZeroHead, PlansTotal, PlansMade, PlanOrder, FoldsTotal, ListsTotal, TrialAnswered, TrialsTotal}
+use Rattle.demands.specs.Total.{Ends, answers, refuses, ZeroHead, PlansTotal, PlansMade, PlanOrder, FoldsTotal, ListsTotal, TrialAnswered, TrialsTotal, InterpolationsTotal, NumbersTotal}
 use Rattle.demands.proofs.Refusals.{refusal-of, inputs-numbered, bufferTests, plan-made, made-accepted, made-long}
 use Rattle.demands.proofs.Right.{plans-right}
 
@@ -191,3 +213,101 @@ trials-total head coefficients bounds steps point modulus =
     ends (trialTests head coefficients bounds steps point modulus) (trialOf head coefficients bounds steps point modulus .refusal)
     (omega arith, (omega arith, tt)) refusal (λ accepted. trial-answered head coefficients bounds steps point modulus (sym refusal ∙ accepted))
     (λ refused. trial-zero head coefficients bounds steps point modulus (rw refusal at refused))
+
+-- ---- interpolation
+
+pub interpolations-total : InterpolationsTotal
+unfolding interpolateRefusal interpolateAnswer interpolateBuffer
+interpolations-total nodes values a b out r left call =
+    let k = interpolateRefusal nodes values a b out in
+    let refusal : r .refusal ≡ k = ap (λ (f : Interpolated). f .refusal) (call .answer) ∙ refusal-of k _ _ (λ (f : Interpolated). f .refusal) refl refl in
+    ends (miscounted (length nodes) (length values) ∷ unordered a b ∷ noRoom (length out) (length nodes) ∷ []) (r .refusal)
+    (omega arith, (omega arith, (omega arith, tt))) refusal (λ accepted. call .buffer ∙ sym (when-accepted _ _ (sym refusal ∙ accepted)))
+    (λ refused. let some-test : 0 < interpolateRefusal nodes values a b out = rw refusal at refused in
+    let is = call .answer ∙ sym (when-refused k _ _ some-test) in
+    record { count = rw is; parity = rw is; interval = rw is; buffer = call .buffer ∙ sym (when-refused k _ out some-test) })
+
+-- ---- the calls on a bare index or degree
+
+-- what a call says, whose answer is one of two
+either-way : {X : Type 0} (tests : List Test) (accepted refused : X) (read : X → ℕ) → Numbered tests → read accepted ≡ 0
+    → read refused ≡ firstRefusal tests
+    → Ends tests (read (unlessRefused (firstRefusal tests) accepted refused)) (unlessRefused (firstRefusal tests) accepted refused ≡ accepted)
+    (unlessRefused (firstRefusal tests) accepted refused ≡ refused)
+either-way tests accepted refused read numbers none-is some-is =
+    let is = refusal-of (firstRefusal tests) accepted refused read none-is some-is in
+    ends tests (read (unlessRefused (firstRefusal tests) accepted refused)) numbers is
+    (λ passed. sym (when-accepted accepted refused (sym is ∙ passed)))
+    (λ held. sym (when-refused (firstRefusal tests) accepted refused (rw is at held)))
+
+-- the same of other facts that follow
+ends-by : {tests : List Test} {refusal : ℕ} {A B A′ B′ : Type 0} → (A → A′) → (B → B′) → Ends tests refusal A B → Ends tests refusal A′ B′
+ends-by f g (answers none-holds is made) = answers none-holds is (f made)
+ends-by f g (refuses first-holds positive left) = refuses first-holds positive (g left)
+
+index-split : (n : ℕ) → Ends (outOfRange n ∷ []) (splitOf n .refusal) (splitOf n ≡ partsOf n) (splitOf n ≡ noParts (splitOf n .refusal))
+unfolding splitOf splitRefusal partsOf
+index-split n =
+    ends-by (λ is. is) (λ is. is ∙ ap noParts (sym (ap (λ (p : Parts). p .refusal) is)))
+    (either-way (outOfRange n ∷ []) (partsBy (isPowerOfTwo n) n) (noParts (firstRefusal (outOfRange n ∷ []))) (λ (p : Parts). p .refusal)
+    (omega arith, tt) (by (isPowerOfTwo n)) refl)
+  where
+    by : (test : Bool) → partsBy test n .refusal ≡ 0
+    by true = refl
+    by false = refl
+
+min-depth-split : (degree : ℕ) → Ends (tooHigh degreeLimit degree ∷ noDegree degree ∷ []) (minDepthCall degree .refusal)
+    (minDepthCall degree .split ≡ splitFor MinDepth Full Monomial degree) (minDepthCall degree .split ≡ 0)
+unfolding minDepthCall splitFor
+min-depth-split degree =
+    ends-by (λ is. ap (λ (r : SplitChoice). r .split) is) (λ is. ap (λ (r : SplitChoice). r .split) is)
+    (either-way (tooHigh degreeLimit degree ∷ noDegree degree ∷ []) (record { refusal = 0; split = minDepth (bitLen degree) })
+    (noSplit (minDepthRefusal degree)) (λ (r : SplitChoice). r .refusal) (omega arith, (omega arith, tt)) refl refl)
+
+min-mult-split : (parity : Parity) (basis : Basis) (degree : ℕ) → Ends (tooHigh planLimit degree ∷ []) (minMultCall parity basis degree .refusal)
+    (minMultCall parity basis degree .split ≡ splitFor MinMult parity basis degree) (minMultCall parity basis degree .split ≡ 0)
+unfolding minMultCall splitFor
+min-mult-split parity basis degree =
+    ends-by (λ is. ap (λ (r : SplitChoice). r .split) is) (λ is. ap (λ (r : SplitChoice). r .split) is)
+    (either-way (tooHigh planLimit degree ∷ []) (record { refusal = 0; split = minMult parity basis degree }) (noSplit (minMultRefusal degree))
+    (λ (r : SplitChoice). r .refusal) (omega arith, tt) refl refl)
+
+op-counts : (strategy : SplitStrategy) (parity : Parity) (basis : Basis) (degree : ℕ)
+    → Ends (tooHigh planLimit degree ∷ []) (countsCall strategy parity basis degree .refusal)
+    (countsCall strategy parity basis degree
+    ≡ record { refusal = 0; ct = countsOf strategy parity basis degree .ct; pt = countsOf strategy parity basis degree .pt })
+    (countsCall strategy parity basis degree ≡ noCounts (countsCall strategy parity basis degree .refusal))
+unfolding countsCall
+op-counts strategy parity basis degree =
+    ends-by (λ is. is) (λ is. is ∙ ap noCounts (sym (ap (λ (r : OpCounts). r .refusal) is)))
+    (either-way (tooHigh planLimit degree ∷ [])
+    (record { refusal = 0; ct = countsOf strategy parity basis degree .ct; pt = countsOf strategy parity basis degree .pt })
+    (noCounts (countsRefusal degree)) (λ (r : OpCounts). r .refusal) (omega arith, tt) refl refl)
+
+eval-depth : (strategy : SplitStrategy) (degree : ℕ) → Ends (tooHigh degreeLimit degree ∷ []) (depthCall strategy degree .refusal)
+    (depthCall strategy degree .depth ≡ depthOf strategy degree) (depthCall strategy degree .depth ≡ 0)
+unfolding depthCall
+eval-depth strategy degree =
+    ends-by (λ is. ap (λ (r : EvalDepth). r .depth) is) (λ is. ap (λ (r : EvalDepth). r .depth) is)
+    (either-way (tooHigh degreeLimit degree ∷ []) (record { refusal = 0; depth = depthOf strategy degree }) (noDepth (depthRefusal degree))
+    (λ (r : EvalDepth). r .refusal) (omega arith, tt) refl refl)
+
+consumed-bits : (strategy : SplitStrategy) (degree input coeff : ℕ)
+    → Ends (tooHigh degreeLimit degree ∷ tooWide input ∷ tooWide coeff ∷ []) (bitsCall strategy degree input coeff .refusal)
+    (bitsCall strategy degree input coeff .bits ≡ bitsOf strategy degree input coeff) (bitsCall strategy degree input coeff .bits ≡ 0)
+unfolding bitsCall
+consumed-bits strategy degree input coeff =
+    ends-by (λ is. ap (λ (r : ConsumedBits). r .bits) is) (λ is. ap (λ (r : ConsumedBits). r .bits) is)
+    (either-way (tooHigh degreeLimit degree ∷ tooWide input ∷ tooWide coeff ∷ [])
+    (record { refusal = 0; bits = bitsOf strategy degree input coeff }) (noBits (bitsRefusal degree input coeff)) (λ (r : ConsumedBits). r .refusal)
+    (omega arith, (omega arith, (omega arith, tt))) refl refl)
+
+pub numbers-total : NumbersTotal
+numbers-total = record {
+  index-split = index-split;
+  min-depth-split = min-depth-split;
+  min-mult-split = min-mult-split;
+  op-counts = op-counts;
+  eval-depth = eval-depth;
+  consumed-bits = consumed-bits;
+}

@@ -8,19 +8,33 @@ use mathlib.Core.Logic.{_↔_}
 use mathlib.Core.Option.{some}
 use Prim.Native.Nat.{ℕ, _<_}
 use lib.IntN.{ℤ}
+use lib.Ieee.{Float}
 use lib.ListN.{length}
 use lib.Seq.{sets}
 use Rattle.algebra.specs.EnumNumbers.{basisNumber, parityNumber, transformNumber}
 use Rattle.algebra.specs.Remainder.{rem}
 use Rattle.algebra.specs.declared.Basis.{Basis}
+use Rattle.algebra.specs.declared.Basis.the-variants.{Monomial}
 use Rattle.algebra.specs.declared.Parity.{Parity}
+use Rattle.algebra.specs.declared.Parity.the-variants.{Full}
 use Rattle.number.specs.FoldCall.{folded, foldTests, FoldCall}
+use Rattle.number.specs.Interval.{noInterval}
+use Rattle.number.specs.Limits.{planLimit, degreeLimit}
 use Rattle.number.specs.Numbers.{Numbers}
 use Rattle.number.specs.Refusal.{Test, NoneHolds, FirstHolds}
-use Rattle.number.specs.Tests.{degreeOf}
+use Rattle.number.specs.Split.{partsOf, noParts, splitOf}
+use Rattle.number.specs.Tests.{degreeOf, noDegree, tooHigh, unordered, miscounted, outOfRange, tooWide, noRoom}
 use Rattle.number.specs.declared.fold.Folded.{Folded}
+use Rattle.interpolation.specs.Interpolate.{coefficientsOf}
+use Rattle.interpolation.specs.InterpolateCall.{InterpolateCall}
+use Rattle.interpolation.specs.declared.Interpolated.{Interpolated}
+use Rattle.counts.specs.Calls.{minDepthCall, minMultCall, noCounts, countsCall, depthCall, bitsCall}
+use Rattle.counts.specs.Choice.{splitFor, countsOf}
+use Rattle.counts.specs.ConsumedBits.{bitsOf}
+use Rattle.counts.specs.Depth.{depthOf}
 use Rattle.counts.specs.StrategyNumber.{strategyNumber}
 use Rattle.counts.specs.declared.choice.SplitStrategy.{SplitStrategy}
+use Rattle.counts.specs.declared.choice.SplitStrategy.the-variants.{MinDepth, MinMult}
 use Rattle.lists.specs.Tree.{planTree}
 use Rattle.lists.specs.Arrange.{arranged, endsOf}
 use Rattle.lists.specs.ListCall.{listTests, ListCall}
@@ -127,3 +141,38 @@ abbrev pub TrialsTotal : Type 0
 TrialsTotal = (head : Head) (coefficients : List ℤ) (bounds steps : List ℕ) (point : ℤ) (modulus : ℕ)
     → Ends (trialTests head coefficients bounds steps point modulus) (trialOf head coefficients bounds steps point modulus .refusal)
     (TrialAnswered head coefficients bounds steps point modulus) (trialOf head coefficients bounds steps point modulus .remainder ≡ 0)
+
+-- interpolation, on any nodes, values and interval
+pub record InterpolateRefused (r : Interpolated) (out left : List Float) : Type 0 where
+  pub count : r .count ≡ 0
+  pub parity : parityNumber (r .parity) ≡ 0
+  pub interval : r .interval ≡ noInterval
+  pub buffer : left ≡ out
+
+abbrev pub InterpolationsTotal : Type 0
+InterpolationsTotal = (nodes values : List Float) (a b : Float) (out : List Float) (r : Interpolated) (left : List Float)
+    → InterpolateCall nodes values a b out r left
+    → Ends (miscounted (length nodes) (length values) ∷ unordered a b ∷ noRoom (length out) (length nodes) ∷ []) (r .refusal)
+    (left ≡ sets out 0 (coefficientsOf nodes values)) (InterpolateRefused r out left)
+
+-- ---- the calls on a bare index or degree
+
+pub record NumbersTotal : Type 0 where
+  pub index-split : (n : ℕ) → Ends (outOfRange n ∷ []) (splitOf n .refusal) (splitOf n ≡ partsOf n) (splitOf n ≡ noParts (splitOf n .refusal))
+  pub min-depth-split : (degree : ℕ)
+      → Ends (tooHigh degreeLimit degree ∷ noDegree degree ∷ []) (minDepthCall degree .refusal)
+      (minDepthCall degree .split ≡ splitFor MinDepth Full Monomial degree) (minDepthCall degree .split ≡ 0)
+  pub min-mult-split : (parity : Parity) (basis : Basis) (degree : ℕ)
+      → Ends (tooHigh planLimit degree ∷ []) (minMultCall parity basis degree .refusal)
+      (minMultCall parity basis degree .split ≡ splitFor MinMult parity basis degree) (minMultCall parity basis degree .split ≡ 0)
+  pub op-counts : (strategy : SplitStrategy) (parity : Parity) (basis : Basis) (degree : ℕ)
+      → Ends (tooHigh planLimit degree ∷ []) (countsCall strategy parity basis degree .refusal)
+      (countsCall strategy parity basis degree
+      ≡ record { refusal = 0; ct = countsOf strategy parity basis degree .ct; pt = countsOf strategy parity basis degree .pt })
+      (countsCall strategy parity basis degree ≡ noCounts (countsCall strategy parity basis degree .refusal))
+  pub eval-depth : (strategy : SplitStrategy) (degree : ℕ)
+      → Ends (tooHigh degreeLimit degree ∷ []) (depthCall strategy degree .refusal) (depthCall strategy degree .depth ≡ depthOf strategy degree)
+      (depthCall strategy degree .depth ≡ 0)
+  pub consumed-bits : (strategy : SplitStrategy) (degree input coeff : ℕ)
+      → Ends (tooHigh degreeLimit degree ∷ tooWide input ∷ tooWide coeff ∷ []) (bitsCall strategy degree input coeff .refusal)
+      (bitsCall strategy degree input coeff .bits ≡ bitsOf strategy degree input coeff) (bitsCall strategy degree input coeff .bits ≡ 0)
