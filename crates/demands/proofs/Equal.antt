@@ -13,8 +13,8 @@ use lib.Seq.{sets}
 use Rattle.algebra.specs.Operations.{wholeOps}
 use Rattle.algebra.specs.Fold.{fold}
 use Rattle.algebra.specs.Magnitude.{sumAbs}
-use Rattle.algebra.specs.declared.Basis.{Basis}
 use Rattle.algebra.specs.Transform.{transformOf}
+use Rattle.algebra.specs.declared.Basis.{Basis}
 use Rattle.algebra.specs.declared.Parity.{Parity}
 use Rattle.algebra.specs.declared.Parity.the-variants.{Full}
 use Rattle.algebra.proofs.CutLaw.{cut-law}

@@ -13,4 +13,4 @@ pub mod MadeBefore
 pub mod Total
 pub mod FitLaws
 pub mod Equal
-pub mod Starred
+pub mod Demands

@@ -2,10 +2,10 @@
 -- folded or not.
 use mathlib.Core.Path.{_≡_}
 use mathlib.Core.Bool.{Bool, true, false}
-use mathlib.Core.List.{List, map}
-use Prim.Native.Nat.{ℕ, _+_, _^_, _≤_}
+use mathlib.Core.List.{List, [], _∷_}
+use Prim.Native.Nat.{ℕ, _+_, _-_, _^_, _≤_}
 use lib.IntN.{ℤ}
-use lib.ListN.{length}
+use lib.ListN.{take}
 use Rattle.algebra.specs.declared.Basis.{Basis}
 use Rattle.algebra.specs.declared.Parity.{Parity}
 use Rattle.algebra.specs.declared.Parity.the-variants.{Even, Odd}
@@ -21,25 +21,29 @@ use Rattle.walk.specs.Lent.{lentSteps}
 use Rattle.walk.specs.declared.plan.Head.{Head}
 use Rattle.walk.specs.declared.plan.Step.{Step}
 use Rattle.plan.specs.Reported.{ofKind, allowedIn, transformCost}
-use Rattle.plan.specs.PlanCall.{plannedTransform, Accepted, headFor, PlanCall}
+use Rattle.plan.specs.PlanCall.{plannedTransform, Accepted, PlanCall}
 use Rattle.plan.specs.declared.call.Planned.{Planned}
 use Rattle.demands.specs.Accepts.{LongEnough}
-use Rattle.demands.specs.Right.{listsFor}
 
 -- ---- "Encrypted multiplications reported = steps of kind 1 + steps of kind 3 + 0, 1 or 2 for the transform."
 
--- the counts of a head, by lists and steps
-pub record Reports (head : Head) (lists : List (List ℤ)) (steps : List Step) : Type 0 where
+-- the lengths of lists, by the places where they end
+unfoldable pub lengthsFrom : (at : ℕ) → (bounds : List ℕ) → List ℕ
+lengthsFrom at [] = []
+lengthsFrom at (bound ∷ bounds) = (bound - at) ∷ lengthsFrom bound bounds
+
+-- the counts of a head, by steps and the lengths of lists
+pub record Reports (head : Head) (lengths : List ℕ) (steps : List Step) : Type 0 where
   pub encrypted : head .ct ≡ ofKind 1 steps + ofKind 3 steps + transformCost (head .transform)
   -- the plain ones are the allowed powers from 1 up over all lists, and the steps of kind 4
-  pub plain : head .pt ≡ allowedIn (head .parity) (map length lists) + ofKind 4 steps
+  pub plain : head .pt ≡ allowedIn (head .parity) lengths + ofKind 4 steps
 
--- the steps are those that the call left in the lent buffer
+-- the steps and boundaries are those that the call left in the lent buffers
 abbrev pub PlansReport : Type 0
 PlansReport = (strategy : SplitStrategy) (parity : Parity) (basis : Basis) (folded : Bool) (c out : List ℤ) (bounds steps : List ℕ) (r : Planned)
     (out′ : List ℤ) (bounds′ steps′ : List ℕ) → Accepted folded parity c → LongEnough strategy parity basis folded c out bounds steps
     → PlanCall strategy parity basis folded c out bounds steps r out′ bounds′ steps′
-    → Reports (r .head) (listsFor strategy parity basis folded c) (lentSteps (r .head) steps′)
+    → Reports (r .head) (lengthsFrom 0 (take (r .head .lists) bounds′)) (lentSteps (r .head) steps′)
 
 -- the transform's are 0 without folding, 1 for Even, 2 for Odd
 pub record TransformCosts (basis : Basis) : Type 0 where
@@ -67,5 +71,6 @@ pub record LeastReported (parity : Parity) (basis : Basis) (degree : ℕ) (head 
   pub least : (other : ℕ) → 1 ≤ other → other ≤ bitLen degree → AtMost (reportedPair head) (pairAt parity basis degree other)
 
 abbrev pub MinMultLeast : Type 0
-MinMultLeast = (parity : Parity) (basis : Basis) (c : List ℤ) → Accepted false parity c
-    → LeastReported parity basis (degreeOf c) (headFor MinMult parity basis false c)
+MinMultLeast = (parity : Parity) (basis : Basis) (c out : List ℤ) (bounds steps : List ℕ) (r : Planned) (out′ : List ℤ) (bounds′ steps′ : List ℕ)
+    → Accepted false parity c → LongEnough MinMult parity basis false c out bounds steps
+    → PlanCall MinMult parity basis false c out bounds steps r out′ bounds′ steps′ → LeastReported parity basis (degreeOf c) (r .head)

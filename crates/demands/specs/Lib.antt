@@ -1,8 +1,8 @@
+pub mod Demands
+pub mod Total
+pub mod Equal
 pub mod Accepts
 pub mod Right
-pub mod Counted
 pub mod MadeBefore
-pub mod Total
+pub mod Counted
 pub mod Fits
-pub mod Equal
-pub mod Starred

@@ -1,0 +1,41 @@
+-- The three demands are met: each statement by the theorem of its name.
+use Rattle.demands.specs.Demands.{Total, Equal, Right, Demands}
+use Rattle.demands.proofs.Accepts.{covered-accepted}
+use Rattle.demands.proofs.Right.{steps-right, stored-right, plans-right}
+use Rattle.demands.proofs.MadeBefore.{runs-made-before, plans-made-before}
+use Rattle.demands.proofs.Counted.{plans-report, transform-costs, min-mult-least}
+use Rattle.demands.proofs.Total.{plans-total, plans-made, plan-order, folds-total, lists-total, trials-total, interpolations-total, numbers-total}
+use Rattle.demands.proofs.Equal.{published, floats-equal, plans-equal}
+use Rattle.demands.proofs.FitLaws.{plans-fit}
+
+pub total : Total
+total = record {
+  plans-total = plans-total;
+  plans-made = plans-made;
+  plan-order = plan-order;
+  folds-total = folds-total;
+  lists-total = lists-total;
+  trials-total = trials-total;
+  interpolations-total = interpolations-total;
+  numbers-total = numbers-total;
+}
+
+pub equal : Equal
+equal = record { floats-equal = floats-equal; plans-equal = plans-equal; published = published }
+
+pub right : Right
+right = record {
+  steps-right = steps-right;
+  plans-right = plans-right;
+  stored-right = stored-right;
+  covered-accepted = covered-accepted;
+  plans-made-before = plans-made-before;
+  runs-made-before = runs-made-before;
+  plans-report = plans-report;
+  transform-costs = transform-costs;
+  min-mult-least = min-mult-least;
+  plans-fit = plans-fit;
+}
+
+pub demands : Demands
+demands = record { total = total; equal = equal; right = right }
