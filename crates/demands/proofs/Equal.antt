@@ -57,7 +57,8 @@ use Rattle.lists.proofs.TreeRule.{trees-by-rule}
 use Rattle.walk.specs.declared.plan.Head.{Head}
 use Rattle.plan.specs.PlanHead.{headOf}
 use Rattle.plan.specs.Reported.{transformCost}
-use Rattle.plan.specs.PlanCall.{plannedCoefficients, plannedParity, plannedTransform, inputTests, Accepted, planned, plannedDegree, tree, headFor, coefficientsFor, boundariesFor}
+use Rattle.plan.specs.PlanCall.{plannedCoefficients, plannedParity, plannedTransform, inputTests, Accepted, planned, plannedDegree, tree, headFor}
+use Rattle.plan.specs.PlanCall.{coefficientsFor, boundariesFor}
 use Rattle.demands.specs.Accepts.{Covered}
 use Rattle.demands.specs.Equal.{Published, FloatsEqual, plannedFloats, splitCall, ListsPlan, FoldsPlan, PlansEqual}
 use Rattle.demands.proofs.Accepts.{Plannable, covered-accepted, plannable}
@@ -196,7 +197,14 @@ module _ (parity : Parity) (basis : Basis) (c : List ℤ) (accepted : Accepted t
   unfolding foldRefusal
   whole-passes =
       let tests = none-holds (inputTests true parity c) (inputs-numbered true parity c) accepted in
-      rw (tests .0, tests .1 .1 .0, tests .1 .1 .1 .0, tests .1 .1 .1 .1 .0, tests .1 .1 .1 .1 .1 .0, le-ltb (length whole-fold) (length whole-fold) (omega arith))
+      rw (
+        tests .0,
+        tests .1 .1 .0,
+        tests .1 .1 .1 .0,
+        tests .1 .1 .1 .1 .0,
+        tests .1 .1 .1 .1 .1 .0,
+        le-ltb (length whole-fold) (length whole-fold) (omega arith),
+      )
 
   float-passes : foldRefusal floatNumbers parity basis (map num c) (map num whole-fold) ≡ 0
   unfolding foldAnswer

@@ -37,7 +37,8 @@ use Rattle.walk.proofs.TrialFollows.{trial-follows}
 use Rattle.walk.proofs.Unrunnable.{refused-for-reasons}
 use Rattle.walk.proofs.WalksHeld.{walks-held}
 use Rattle.plan.specs.PlanHead.{headOf}
-use Rattle.plan.specs.PlanCall.{plannedCoefficients, plannedParity, plannedTransform, Accepted, planned, plannedDegree, tree, headFor, coefficientsFor, boundariesFor, numbersFor, planRefusal, planAnswer, planCoefficients, planBoundaries, planNumbers}
+use Rattle.plan.specs.PlanCall.{plannedCoefficients, plannedParity, plannedTransform, Accepted, planned, plannedDegree, tree, headFor}
+use Rattle.plan.specs.PlanCall.{coefficientsFor, boundariesFor, numbersFor, planRefusal, planAnswer, planCoefficients, planBoundaries, planNumbers}
 use Rattle.demands.specs.Right.{listsFor, stepsFor, StepsRight, WalksRight, Stored, StoredRight, PlansRight}
 use Rattle.demands.proofs.Accepts.{Plannable, covered-accepted, plannable}
 use Rattle.demands.proofs.Refusals.{plan-made}
@@ -170,20 +171,23 @@ plans-right strategy parity basis folded c out bounds steps r out′ bounds′ s
     let xs = coefficientsFor strategy parity basis folded c in
     let es = boundariesFor strategy parity basis folded c in
     let ns = numbersFor strategy parity basis folded c in
+    let xs-length = coefficients-length strategy parity basis folded c accepted in
+    let es-length = boundaries-length strategy parity basis folded c accepted in
+    let ns-length = numbers-length strategy parity basis folded c accepted in
     let answer-is = call .answer ∙ sym (when-accepted _ _ done) in
     let stored-is : Stored strategy parity basis folded c out′ bounds′ steps′ = record {
       more-coefficients = drop (length xs) out;
       more-bounds = drop (length es) bounds;
       more-steps = drop (length ns) steps;
-      coefficients-are = call .coefficients ∙ sym (when-accepted (sets out 0 xs) out done)
-          ∙ front xs out (omega (arith, coefficients-length strategy parity basis folded c accepted, long .coefficients));
-      bounds-are = call .boundaries ∙ sym (when-accepted (sets bounds 0 es) bounds done)
-          ∙ front es bounds (omega (arith, boundaries-length strategy parity basis folded c accepted, long .boundaries));
-      steps-are = call .numbers ∙ sym (when-accepted (sets steps 0 ns) steps done)
-          ∙ front ns steps (omega (arith, numbers-length strategy parity basis folded c accepted, long .numbers));
+      coefficients-are = call .coefficients ∙ sym (when-accepted (sets out 0 xs) out done) ∙ front xs out (omega (arith, long .coefficients));
+      bounds-are = call .boundaries ∙ sym (when-accepted (sets bounds 0 es) bounds done) ∙ front es bounds (omega (arith, long .boundaries));
+      steps-are = call .numbers ∙ sym (when-accepted (sets steps 0 ns) steps done) ∙ front ns steps (omega (arith, long .numbers));
     } in
     record {
       answer = answer-is;
       stored = stored-is;
+      coefficients-beyond = rw answer-is (ap (λ (n : ℕ). drop n out) xs-length);
+      bounds-beyond = rw answer-is (ap (λ (n : ℕ). drop n bounds) es-length);
+      steps-beyond = rw answer-is (ap (λ (n : ℕ). drop n steps) ns-length);
       walks = λ x. rw answer-is (stored-right strategy parity basis folded c out′ bounds′ steps′ x accepted stored-is);
     }

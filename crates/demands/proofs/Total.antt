@@ -51,7 +51,8 @@ use Rattle.walk.proofs.TrialFollows.{trial-follows}
 use Rattle.plan.specs.PlanHead.{noHead}
 use Rattle.plan.specs.PlanCall.{inputTests, planTests, planRefusal, planAnswer, planCoefficients, planBoundaries, planNumbers, PlanCall}
 use Rattle.plan.specs.declared.call.Planned.{Planned}
-use Rattle.demands.specs.Total.{Ends, answers, refuses, ZeroHead, PlansTotal, PlansMade, PlanOrder, FoldsTotal, ListsTotal, TrialAnswered, TrialsTotal, InterpolationsTotal, NumbersTotal}
+use Rattle.demands.specs.Total.{Ends, answers, refuses, ZeroHead, PlansTotal, PlansMade, PlanOrder, FoldsTotal, ListsTotal, TrialAnswered}
+use Rattle.demands.specs.Total.{TrialsTotal, InterpolationsTotal, NumbersTotal}
 use Rattle.demands.proofs.Refusals.{refusal-of, inputs-numbered, bufferTests, plan-made, made-accepted, made-long}
 use Rattle.demands.proofs.Right.{plans-right}
 

@@ -3,8 +3,9 @@ use mathlib.Core.Path.{_≡_}
 use mathlib.Core.Bool.{Bool, false}
 use mathlib.Core.List.{List, _++_}
 use mathlib.Core.Option.{some}
-use Prim.Native.Nat.{ℕ, _≤_}
+use Prim.Native.Nat.{ℕ, _*_, _≤_}
 use lib.IntN.{ℤ}
+use lib.ListN.{drop}
 use Rattle.algebra.specs.Operations.{wholeOps}
 use Rattle.algebra.specs.Value.{value}
 use Rattle.algebra.specs.Remainder.{rem}
@@ -24,7 +25,8 @@ use Rattle.walk.specs.WalksHeld.{numbered}
 use Rattle.walk.specs.declared.plan.Head.{Head}
 use Rattle.walk.specs.declared.plan.Step.{Step}
 use Rattle.plan.specs.PlanSteps.{planSteps}
-use Rattle.plan.specs.PlanCall.{plannedParity, plannedTransform, Accepted, planned, plannedDegree, tree, headFor, coefficientsFor, boundariesFor, numbersFor, PlanCall}
+use Rattle.plan.specs.PlanCall.{plannedParity, plannedTransform, Accepted, planned, plannedDegree, tree, headFor, coefficientsFor, boundariesFor}
+use Rattle.plan.specs.PlanCall.{numbersFor, PlanCall}
 use Rattle.plan.specs.declared.call.Planned.{Planned}
 use Rattle.demands.specs.Accepts.{LongEnough}
 
@@ -50,7 +52,8 @@ StepsRight = (strategy : SplitStrategy) (parity : Parity) (basis : Basis) (folde
 pub record WalksRight (head : Head) (coefficients : List ℤ) (bounds steps : List ℕ) (basis : Basis) (c : List ℤ) (x : ℤ) : Type 0 where
   -- exactly
   pub exact : exactWalk head coefficients bounds steps x ≡ some (value wholeOps basis x c)
-  -- "At every point and modulus that it takes, the trial walk of this plan returns the remainder of the polynomial's value at that point."
+  -- "At every point and modulus that it takes, the trial walk of this plan returns the remainder of the polynomial's value at that point." It takes
+  -- every i64 as the point, and every modulus from 2 to 2,147,483,647.
   pub trial : (modulus : ℕ) → 2 ≤ modulus → modulus ≤ modulusLimit
       → trialOf head coefficients bounds steps x modulus ≡ record { refusal = 0; remainder = rem modulus (value wholeOps basis x c) }
   -- none of the reasons of refusal 24 holds
@@ -72,16 +75,19 @@ StoredRight = (strategy : SplitStrategy) (parity : Parity) (basis : Basis) (fold
     → Accepted folded parity c → Stored strategy parity basis folded c coefficients bounds steps
     → WalksRight (headFor strategy parity basis folded c) coefficients bounds steps basis c x
 
--- of an accepted polynomial and long enough buffers the call makes a plan; what it leaves in the buffers, however long they are and whatever stood
--- in them, walks right with the head that it answers
-pub record PlanRight (strategy : SplitStrategy) (parity : Parity) (basis : Basis) (folded : Bool) (c : List ℤ) (r : Planned) (out′ : List ℤ)
-    (bounds′ steps′ : List ℕ) : Type 0 where
+-- of an accepted polynomial and long enough buffers the call makes a plan. What it leaves in the buffers, however long they are and whatever stood in
+-- them, walks right with the head that it answers, and the places beyond the plan are as they were.
+pub record PlanRight (strategy : SplitStrategy) (parity : Parity) (basis : Basis) (folded : Bool) (c out : List ℤ) (bounds steps : List ℕ)
+    (r : Planned) (out′ : List ℤ) (bounds′ steps′ : List ℕ) : Type 0 where
   pub answer : r ≡ record { refusal = 0; head = headFor strategy parity basis folded c }
   pub stored : Stored strategy parity basis folded c out′ bounds′ steps′
+  pub coefficients-beyond : stored .more-coefficients ≡ drop (r .head .coefficients) out
+  pub bounds-beyond : stored .more-bounds ≡ drop (r .head .lists) bounds
+  pub steps-beyond : stored .more-steps ≡ drop (4 * r .head .steps) steps
   pub walks : (x : ℤ) → WalksRight (r .head) out′ bounds′ steps′ basis c x
 
 abbrev pub PlansRight : Type 0
 PlansRight = (strategy : SplitStrategy) (parity : Parity) (basis : Basis) (folded : Bool) (c out : List ℤ) (bounds steps : List ℕ) (r : Planned)
     (out′ : List ℤ) (bounds′ steps′ : List ℕ) → Accepted folded parity c → LongEnough strategy parity basis folded c out bounds steps
     → PlanCall strategy parity basis folded c out bounds steps r out′ bounds′ steps′
-    → PlanRight strategy parity basis folded c r out′ bounds′ steps′
+    → PlanRight strategy parity basis folded c out bounds steps r out′ bounds′ steps′

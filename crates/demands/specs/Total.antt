@@ -83,8 +83,8 @@ pub record PlanRefused (head : Head) (out out′ : List ℤ) (bounds bounds′ s
 abbrev pub PlansTotal : Type 0
 PlansTotal = (strategy : SplitStrategy) (parity : Parity) (basis : Basis) (folds : Bool) (c out : List ℤ) (bounds steps : List ℕ) (r : Planned)
     (out′ : List ℤ) (bounds′ steps′ : List ℕ) → PlanCall strategy parity basis folds c out bounds steps r out′ bounds′ steps′
-    → Ends (planTests strategy parity basis folds c out bounds steps) (r .refusal) (PlanRight strategy parity basis folds c r out′ bounds′ steps′)
-    (PlanRefused (r .head) out out′ bounds bounds′ steps steps′)
+    → Ends (planTests strategy parity basis folds c out bounds steps) (r .refusal)
+    (PlanRight strategy parity basis folds c out bounds steps r out′ bounds′ steps′) (PlanRefused (r .head) out out′ bounds bounds′ steps steps′)
 
 -- what is accepted, with long enough buffers, gets a plan, and only that
 abbrev pub PlansMade : Type 0
