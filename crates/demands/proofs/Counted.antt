@@ -31,16 +31,15 @@ use Rattle.counts.proofs.MinMultLaws.{mult-low}
 use Rattle.counts.proofs.Promises.{chosen}
 use Rattle.lists.specs.Arrange.{lengthsOf}
 use Rattle.lists.specs.Lists.{endsFrom}
-use Rattle.walk.specs.Lent.{lentSteps, stepsFrom}
+use Rattle.walk.specs.Lent.{lentSteps}
 use Rattle.plan.specs.Reported.{ofKind, allowedIn, reported}
 use Rattle.plan.specs.PlanHead.{headOf}
 use Rattle.plan.specs.PlanCall.{plannedParity, Accepted, planned, plannedDegree, tree, headFor, boundariesFor}
 use Rattle.demands.specs.Counted.{lengthsFrom, PlansReport, TransformCosts, reportedPair, LeastReported, MinMultLeast}
 use Rattle.demands.specs.Right.{listsFor, stepsFor}
 use Rattle.demands.proofs.Accepts.{covered-accepted, plannable}
-use Rattle.demands.proofs.StepsRead.{steps-read}
 use Rattle.demands.proofs.Pairs.{pair-reported}
-use Rattle.demands.proofs.Right.{ordered, boundaries-length, plans-right}
+use Rattle.demands.proofs.Right.{ordered, boundaries-length, lent-steps, plans-right}
 
 -- ---- the steps that stand in the buffer
 
@@ -60,8 +59,7 @@ plans-report strategy parity basis folded c out bounds steps r out′ bounds′ 
     let all = stepsFor strategy parity basis folded c in
     let lists = listsFor strategy parity basis folded c in
     let order = ordered strategy parity basis folded c accepted in
-    let steps-are : lentSteps head steps′ ≡ all =
-    ap (λ (l : List ℕ). stepsFrom l 0 (length all)) (right .stored .steps-are) ∙ steps-read all (right .stored .more-steps) in
+    let steps-are : lentSteps head steps′ ≡ all = lent-steps strategy parity basis folded c out′ bounds′ steps′ (right .stored) in
     let lengths-are : lengthsFrom 0 (take (head .lists) bounds′) ≡ map length lists =
     ap (λ (l : List ℕ). lengthsFrom 0 (take (head .lists) l)) (right .stored .bounds-are)
     ∙ ap (lengthsFrom 0) (take-at (boundariesFor strategy parity basis folded c) (right .stored .more-bounds) (head .lists)

@@ -8,6 +8,7 @@ pub mod StepsRead
 pub mod Right
 pub mod StepKinds
 pub mod Pairs
+pub mod PlainStep
 pub mod Counted
 pub mod MadeBefore
 pub mod Total

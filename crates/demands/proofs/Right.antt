@@ -30,7 +30,7 @@ use Rattle.lists.proofs.Bounds.{sound-for}
 use Rattle.lists.proofs.Lists.{lists-in-order, length-arranged}
 use Rattle.walk.specs.Options.{_then_, missing}
 use Rattle.walk.specs.Rules.{exactRules}
-use Rattle.walk.specs.Lent.{exactWalk}
+use Rattle.walk.specs.Lent.{stepsFrom, lentSteps, exactWalk}
 use Rattle.walk.specs.WalksHeld.{Filled, empty, more, Holds}
 use Rattle.walk.specs.declared.plan.Head.{Head}
 use Rattle.walk.proofs.TrialFollows.{trial-follows}
@@ -42,7 +42,7 @@ use Rattle.plan.specs.PlanCall.{coefficientsFor, boundariesFor, numbersFor, pla
 use Rattle.demands.specs.Right.{listsFor, stepsFor, StepsRight, WalksRight, Stored, StoredRight, PlansRight}
 use Rattle.demands.proofs.Accepts.{Plannable, covered-accepted, plannable}
 use Rattle.demands.proofs.Refusals.{plan-made}
-use Rattle.demands.proofs.StepsRead.{flat-length}
+use Rattle.demands.proofs.StepsRead.{steps-read, flat-length}
 use Rattle.demands.proofs.PlanRun.{steps-walk}
 
 -- ---- the steps
@@ -154,6 +154,15 @@ module _ (strategy : SplitStrategy) (parity : Parity) (basis : Basis) (folded : 
       trial = λ modulus low high. trial-follows head coefficients bounds steps x modulus low high .answers (value wholeOps basis x c) (exact x);
       runs = sym (refused-for-reasons ℤ exactRules head coefficients bounds steps x) ∙ ap missing (exact x);
     }
+
+-- the steps that are read from the buffer
+pub lent-steps : (strategy : SplitStrategy) (parity : Parity) (basis : Basis) (folded : Bool) (c coefficients : List ℤ) (bounds steps : List ℕ)
+    → Stored strategy parity basis folded c coefficients bounds steps
+    → lentSteps (headFor strategy parity basis folded c) steps ≡ stepsFor strategy parity basis folded c
+unfolding headOf
+lent-steps strategy parity basis folded c coefficients bounds steps stored =
+    let all = stepsFor strategy parity basis folded c in
+    ap (λ (l : List ℕ). stepsFrom l 0 (length all)) (stored .steps-are) ∙ steps-read all (stored .more-steps)
 
 pub stored-right : StoredRight
 stored-right strategy parity basis folded c coefficients bounds steps x accepted stored =

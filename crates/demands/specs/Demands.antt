@@ -9,7 +9,7 @@ use Rattle.counts.specs.declared.choice.SplitStrategy.{SplitStrategy}
 use Rattle.demands.specs.Accepts.{CoveredAccepted}
 use Rattle.demands.specs.Right.{StepsRight, StoredRight, PlansRight}
 use Rattle.demands.specs.MadeBefore.{PlansMadeBefore, RunsMadeBefore}
-use Rattle.demands.specs.Counted.{PlansReport, TransformCosts, MinMultLeast}
+use Rattle.demands.specs.Counted.{PlansReport, PlansPlain, TransformCosts, MinMultLeast}
 use Rattle.demands.specs.Total.{PlansTotal, PlansMade, PlanOrder, FoldsTotal, ListsTotal, TrialsTotal, InterpolationsTotal, NumbersTotal}
 use Rattle.demands.specs.Equal.{Published, FloatsEqual, PlansEqual}
 use Rattle.demands.specs.Fits.{PlansFit}
@@ -53,6 +53,7 @@ pub record Right : Type 1 where
   pub runs-made-before : (A : Type 0) → RunsMadeBefore A
   -- "Encrypted multiplications reported = steps of kind 1 + steps of kind 3 + 0, 1 or 2 for the transform."
   pub plans-report : PlansReport
+  pub plans-plain : PlansPlain
   pub transform-costs : (basis : Basis) → TransformCosts basis
   -- "In an unfolded MinMult plan the reported pair of counts is that of its split. Every other split from 1 to the degree's bit length has a pair at
   -- least as large, encrypted ones compared first."
