@@ -7,6 +7,7 @@ use Rattle.demands.proofs.PlainStep.{plans-plain}
 use Rattle.demands.proofs.Counted.{plans-report, transform-costs, min-mult-least}
 use Rattle.demands.proofs.Total.{plans-total, plans-made, plan-order, folds-total, lists-total, trials-total, interpolations-total, numbers-total}
 use Rattle.demands.proofs.Equal.{published, floats-equal, plans-equal}
+use Rattle.demands.proofs.HeadTold.{heads-told}
 use Rattle.demands.proofs.FitLaws.{plans-fit}
 
 pub total : Total
@@ -36,6 +37,7 @@ right = record {
   plans-plain = plans-plain;
   transform-costs = transform-costs;
   min-mult-least = min-mult-least;
+  heads-told = heads-told;
   plans-fit = plans-fit;
 }
 

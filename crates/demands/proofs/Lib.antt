@@ -14,4 +14,5 @@ pub mod MadeBefore
 pub mod Total
 pub mod FitLaws
 pub mod Equal
+pub mod HeadTold
 pub mod Demands

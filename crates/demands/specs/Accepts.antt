@@ -36,8 +36,8 @@ abbrev pub CoveredAccepted : Type 0
 CoveredAccepted = (folded : Bool) (parity : Parity) (c : List ℤ) → Accepted folded parity c ↔ Covered folded parity c
 
 -- long enough buffers: a place for each coefficient, a boundary for each list, four numbers for each step
-pub record LongEnough (strategy : SplitStrategy) (parity : Parity) (basis : Basis) (folded : Bool) (c out : List ℤ) (bounds steps : List ℕ) : Type 0
-  where
-    pub coefficients : headFor strategy parity basis folded c .coefficients ≤ length out
-    pub boundaries : headFor strategy parity basis folded c .lists ≤ length bounds
-    pub numbers : 4 * headFor strategy parity basis folded c .steps ≤ length steps
+pub record LongEnough (strategy : SplitStrategy) (parity : Parity) (basis : Basis) (folded : Bool) (c out : List ℤ)
+    (bounds steps : List ℕ) : Type 0 where
+  pub coefficients : headFor strategy parity basis folded c .coefficients ≤ length out
+  pub boundaries : headFor strategy parity basis folded c .lists ≤ length bounds
+  pub numbers : 4 * headFor strategy parity basis folded c .steps ≤ length steps

@@ -12,6 +12,7 @@ use Rattle.demands.specs.MadeBefore.{PlansMadeBefore, RunsMadeBefore}
 use Rattle.demands.specs.Counted.{PlansReport, PlansPlain, TransformCosts, MinMultLeast}
 use Rattle.demands.specs.Total.{PlansTotal, PlansMade, PlanOrder, FoldsTotal, ListsTotal, TrialsTotal, InterpolationsTotal, NumbersTotal}
 use Rattle.demands.specs.Equal.{Published, FloatsEqual, PlansEqual}
+use Rattle.demands.specs.HeadTold.{HeadsTold}
 use Rattle.demands.specs.Fits.{PlansFit}
 
 -- 1. Total.
@@ -58,6 +59,8 @@ pub record Right : Type 1 where
   -- "In an unfolded MinMult plan the reported pair of counts is that of its split. Every other split from 1 to the degree's bit length has a pair at
   -- least as large, encrypted ones compared first."
   pub min-mult-least : MinMultLeast
+  -- the other fields of the head
+  pub heads-told : HeadsTold
   -- and every number of a plan fits the buffers' u16
   pub plans-fit : PlansFit
 

@@ -5,4 +5,5 @@ pub mod Accepts
 pub mod Right
 pub mod MadeBefore
 pub mod Counted
+pub mod HeadTold
 pub mod Fits

@@ -69,14 +69,14 @@ pub record Stored (strategy : SplitStrategy) (parity : Parity) (basis : Basis) (
   pub bounds-are : bounds ≡ boundariesFor strategy parity basis folded c ++ more-bounds
   pub steps-are : steps ≡ numbersFor strategy parity basis folded c ++ more-steps
 
--- a plan walks right wherever it is stored
+-- so it is with a plan, wherever it is stored
 abbrev pub StoredRight : Type 0
 StoredRight = (strategy : SplitStrategy) (parity : Parity) (basis : Basis) (folded : Bool) (c coefficients : List ℤ) (bounds steps : List ℕ) (x : ℤ)
     → Accepted folded parity c → Stored strategy parity basis folded c coefficients bounds steps
     → WalksRight (headFor strategy parity basis folded c) coefficients bounds steps basis c x
 
 -- of an accepted polynomial and long enough buffers the call makes a plan. What it leaves in the buffers, however long they are and whatever stood in
--- them, walks right with the head that it answers, and the places beyond the plan are as they were.
+-- them, gives the value when it is walked with the head that it answers; the places beyond the plan are as they were.
 pub record PlanRight (strategy : SplitStrategy) (parity : Parity) (basis : Basis) (folded : Bool) (c out : List ℤ) (bounds steps : List ℕ)
     (r : Planned) (out′ : List ℤ) (bounds′ steps′ : List ℕ) : Type 0 where
   pub answer : r ≡ record { refusal = 0; head = headFor strategy parity basis folded c }

@@ -1,0 +1,46 @@
+-- The fields of a plan's head are what its definition says; the lists are counted by the tree, and the steps by their kinds.
+use mathlib.Core.Path.{_≡_, refl}
+use mathlib.Core.Bool.{Bool}
+use mathlib.Core.List.{List}
+use Prim.Native.Nat.{ℕ, suc}
+use native.Mathlib.Omega.{arith}
+use lib.IntN.{ℤ}
+use lib.ListN.{length}
+use Rattle.algebra.specs.declared.Basis.{Basis}
+use Rattle.algebra.specs.declared.Parity.{Parity}
+use Rattle.counts.specs.Choice.{splitFor}
+use Rattle.counts.specs.declared.choice.SplitStrategy.{SplitStrategy}
+use Rattle.lists.specs.Tree.{relists}
+use Rattle.plan.specs.PlanHead.{headOf}
+use Rattle.plan.specs.PlanCall.{plannedParity, Accepted, planned, plannedDegree, headFor}
+use Rattle.demands.specs.HeadTold.{HeadTold, HeadsTold}
+use Rattle.demands.proofs.Accepts.{plannable}
+use Rattle.demands.proofs.StepKinds.{kinds}
+use Rattle.demands.proofs.Right.{ordered, plans-right}
+
+head-told : (strategy : SplitStrategy) (parity : Parity) (basis : Basis) (folded : Bool) (c : List ℤ) → Accepted folded parity c
+    → HeadTold strategy parity basis folded c (headFor strategy parity basis folded c)
+unfolding headOf
+head-told strategy parity basis folded c accepted =
+    let degree = plannedDegree strategy parity basis folded c in
+    let several = plannable folded parity basis c accepted .several in
+    let places : suc degree ≡ length (planned strategy parity basis folded c) = omega arith in
+    let told = kinds (relists strategy) (plannedParity folded parity) basis degree (splitFor strategy (plannedParity folded parity) basis degree) in
+    record {
+      basis-is = refl;
+      strategy-is = refl;
+      parity-is = refl;
+      transform-is = refl;
+      degree-is = refl;
+      base-is = refl;
+      depth-is = refl;
+      coefficients-are = places;
+      lists-are = ordered strategy parity basis folded c accepted .count;
+      steps-are = refl;
+      steps-count = omega (arith, told .count);
+    }
+
+pub heads-told : HeadsTold
+heads-told strategy parity basis folded c out bounds steps r out′ bounds′ steps′ accepted long call =
+    rw (plans-right strategy parity basis folded c out bounds steps r out′ bounds′ steps′ accepted long call .answer)
+    (head-told strategy parity basis folded c accepted)

@@ -1,0 +1,42 @@
+-- The fields of a plan's head (docs/RULES.md, "The head"), as the call answers them for every accepted polynomial. Its counts are in specs/Counted.
+use mathlib.Core.Path.{_≡_}
+use mathlib.Core.Bool.{Bool}
+use mathlib.Core.List.{List}
+use Prim.Native.Nat.{ℕ, _+_, _*_, _^_}
+use lib.IntN.{ℤ}
+use lib.ListN.{length}
+use Rattle.algebra.specs.declared.Basis.{Basis}
+use Rattle.algebra.specs.declared.Parity.{Parity}
+use Rattle.number.specs.Tests.{degreeOf}
+use Rattle.needed.specs.NeededList.{neededCount}
+use Rattle.counts.specs.Choice.{splitFor}
+use Rattle.counts.specs.Depth.{depthOf}
+use Rattle.counts.specs.declared.choice.SplitStrategy.{SplitStrategy}
+use Rattle.walk.specs.declared.plan.Head.{Head}
+use Rattle.plan.specs.Reported.{transformCost}
+use Rattle.plan.specs.PlanCall.{plannedParity, plannedTransform, Accepted, planned, PlanCall}
+use Rattle.plan.specs.declared.call.Planned.{Planned}
+use Rattle.demands.specs.Accepts.{LongEnough}
+use Rattle.demands.specs.Right.{listsFor, stepsFor}
+
+pub record HeadTold (strategy : SplitStrategy) (parity : Parity) (basis : Basis) (folded : Bool) (c : List ℤ) (head : Head) : Type 0 where
+  -- the settings; when folded the parity is Full, and the transform that of the fold
+  pub basis-is : head .basis ≡ basis
+  pub strategy-is : head .strategy ≡ strategy
+  pub parity-is : head .parity ≡ plannedParity folded parity
+  pub transform-is : head .transform ≡ plannedTransform folded parity basis
+  -- the degree of what is planned, the base of its split, the depth with the transform's
+  pub degree-is : head .degree ≡ degreeOf (planned strategy parity basis folded c)
+  pub base-is : head .base ≡ 2 ^ splitFor strategy (head .parity) basis (head .degree)
+  pub depth-is : head .depth ≡ depthOf strategy (head .degree) + transformCost (head .transform)
+  -- how many coefficients, lists and steps there are: a step for each needed power, one for each list, and one for each list but the first
+  pub coefficients-are : head .coefficients ≡ length (planned strategy parity basis folded c)
+  pub lists-are : head .lists ≡ length (listsFor strategy parity basis folded c)
+  pub steps-are : head .steps ≡ length (stepsFor strategy parity basis folded c)
+  pub steps-count : head .steps + 1
+      ≡ neededCount (head .parity) basis (head .degree) (splitFor strategy (head .parity) basis (head .degree)) + 2 * head .lists
+
+abbrev pub HeadsTold : Type 0
+HeadsTold = (strategy : SplitStrategy) (parity : Parity) (basis : Basis) (folded : Bool) (c out : List ℤ) (bounds steps : List ℕ) (r : Planned)
+    (out′ : List ℤ) (bounds′ steps′ : List ℕ) → Accepted folded parity c → LongEnough strategy parity basis folded c out bounds steps
+    → PlanCall strategy parity basis folded c out bounds steps r out′ bounds′ steps′ → HeadTold strategy parity basis folded c (r .head)
