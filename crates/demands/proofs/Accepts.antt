@@ -1,4 +1,4 @@
--- The accepted polynomials are those that the demand names, and what is planned of them has from 2 to 4,096 coefficients of the planned parity.
+-- The accepted polynomials are those that demand 3 names, and what is planned of them has from 2 to 4,096 coefficients of the planned parity.
 use mathlib.Core.Path.{_≡_, refl}
 use mathlib.Core.Bool.{Bool, true, false, true≢false, false≢true}
 use mathlib.Core.List.{List}

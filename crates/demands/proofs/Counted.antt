@@ -1,5 +1,5 @@
--- What a plan reports is what its steps and lists cost. The head's counts are read off the planned steps, and these stand in the lent buffer; an
--- unfolded MinMult plan has the pair of its split, which is the least of all.
+-- What a plan reports is what its steps and lists cost (demand 3). The head's counts are read off the planned steps, and these stand in the lent
+-- buffer; an unfolded MinMult plan has the pair of its split, which is the least of all.
 use mathlib.Core.Path.{_≡_, refl, sym, _∙_, ap, ap₂}
 use mathlib.Core.Bool.{false}
 use mathlib.Core.Logic.{inr}

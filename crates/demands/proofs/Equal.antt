@@ -1,5 +1,6 @@
--- The published rules are laws of the crates below. A plan has the base and depth of the calls on its degree, and its lists are those of the f64 calls on
--- the same coefficients: the f64 fold writes equal numbers, and so does the listing of whatever sums, times its length, to at most 2^53.
+-- The published rules are laws of the crates below (demand 2). A plan has the base and depth of the calls on its degree, and its lists are those of
+-- the f64 calls on the same coefficients: the f64 fold writes equal numbers, and so does the listing of whatever sums, times its length, to at most
+-- 2^53.
 use mathlib.Core.Path.{_≡_, refl, ap, sym, subst, _∙_}
 use mathlib.Core.Bool.{Bool, true, false, false≢true}
 use mathlib.Core.List.{List, map}

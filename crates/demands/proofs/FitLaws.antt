@@ -1,5 +1,5 @@
--- The numbers of a plan are small: kinds are at most 4, powers and their parts at most the degree, lists fewer than coefficients, boundaries at most
--- their number. By induction over the list of powers and over the tree.
+-- The numbers of a plan are small: kinds are at most 4, powers and their parts at most the degree, lists fewer than coefficients, boundaries at
+-- most their number. By induction over the list of powers and over the tree.
 use mathlib.Core.Path.{_≡_, refl}
 use mathlib.Core.Bool.{Bool, true, false, cond, _&&_}
 use mathlib.Core.List.{List, [], _∷_, _++_, map, List·Memᴰ, List·Memᴰ·head, List·Memᴰ·tail}

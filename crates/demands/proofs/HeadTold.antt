@@ -1,4 +1,5 @@
--- The fields of a plan's head are what its definition says; the lists are counted by the tree, and the steps by their kinds.
+-- The fields of a plan's head (docs/RULES.md, "The head") are what its definition says; the lists are counted by the tree, and the steps by their
+-- kinds.
 use mathlib.Core.Path.{_≡_, refl}
 use mathlib.Core.Bool.{Bool}
 use mathlib.Core.List.{List}

@@ -1,18 +1,18 @@
-pub mod RunThen
-pub mod PowerRun
-pub mod TreeRun
-pub mod PlanRun
+mod RunThen
+mod PowerRun
+mod TreeRun
+mod PlanRun
+mod Refusals
+mod StepsRead
+mod StepKinds
+mod Pairs
 pub mod Accepts
-pub mod Refusals
-pub mod StepsRead
 pub mod Right
-pub mod StepKinds
-pub mod Pairs
+pub mod MadeBefore
 pub mod PlainStep
 pub mod Counted
-pub mod MadeBefore
-pub mod Total
-pub mod FitLaws
-pub mod Equal
 pub mod HeadTold
+pub mod FitLaws
+pub mod Total
+pub mod Equal
 pub mod Demands

@@ -1,5 +1,6 @@
--- Which combine is plain. A power of two at least the base is cut at itself: its high side is one constant, the last list, so that the last combine is of
--- kind 4. A degree below the base is one list, since its own split is never listed again at a smaller one, and has no combine.
+-- Which combine is plain (docs/RULES.md, "Steps"). A power of two at least the base is cut at itself: its high side is one constant, the last list,
+-- so that the last combine is of kind 4. A degree below the base is one list, since its own split is never listed again at a smaller one, and has
+-- no combine.
 use mathlib.Core.Path.{_≡_, refl, sym, _∙_, ap}
 use mathlib.Core.Bool.{Bool, true, false, cond, _&&_}
 use mathlib.Core.List.{List, [], _∷_, _++_, map, append-assoc}
@@ -43,7 +44,8 @@ power-cut : (leading : Bool) (degree split : ℕ) → isPowerOfTwo degree ≡ tr
 power-cut leading degree split power above =
     let top : topPower degree ≡ degree = sym (power-is degree power) in
     let none-left : degree - degree ≡ 0 = omega arith in
-    tree-cut leading degree degree split above ∙ rw (top, none-left) (ap (cut degree (treeOf false degree (degree - 1) split)) (constant-leaf leading degree split))
+    tree-cut leading degree degree split above
+    ∙ rw (top, none-left) (ap (cut degree (treeOf false degree (degree - 1) split)) (constant-leaf leading degree split))
 
 -- a degree below its own base is one list
 below-leaf : (strategy : SplitStrategy) (parity : Parity) (basis : Basis) (degree : ℕ) → degree < 2 ^ splitFor strategy parity basis degree
@@ -87,7 +89,8 @@ module _ (leading : Bool) (parity : Parity) (basis : Basis) (degree split : ℕ)
         let first = treeSteps false low 0 in
         let load : List Step = loadStep (0 + leavesOf low) ∷ [] in
         let last : List Step = combineStep 4 degree ∷ [] in
-        rw (plain, power-cut leading degree split power above) (sym (append-assoc made (first ++ load) last ∙ ap (made ++_) (append-assoc first load last)))
+        rw (plain, power-cut leading degree split power above)
+        (sym (append-assoc made (first ++ load) last ∙ ap (made ++_) (append-assoc first load last)))
 
     -- there is at most one
     none-before : ofKind 4 before ≡ 0

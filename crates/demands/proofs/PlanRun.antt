@@ -1,5 +1,5 @@
--- The steps of a plan run, and what they leave is the polynomial's value: the needed powers first, then the tree, whose lists and combines use only
--- needed powers. So it is at every split from 1 up, whether or not a leading slice is listed again.
+-- The steps of a plan run (docs/RULES.md, "What a plan promises"), and what they leave is the polynomial's value: the needed powers first, then the
+-- tree, whose lists and combines use only needed powers. So it is at every split from 1 up, whether or not a leading slice is listed again.
 use mathlib.Core.Path.{_≡_, refl, sym}
 use mathlib.Core.List.{List, [], _∷_, map, append-nil}
 use mathlib.Core.Bool.{Bool}

@@ -1,5 +1,5 @@
--- The power steps of a plan run, and make the needed powers, each with its value. The needed powers are listed rising, and the set is closed under
--- parts, which are smaller: so the parts of each were made before it. By induction over the list.
+-- The power steps of a plan run (docs/RULES.md, "Steps"), and make the needed powers, each with its value. The needed powers are listed rising, and
+-- the set is closed under parts, which are smaller: so the parts of each were made before it. By induction over the list.
 use mathlib.Core.Path.{_≡_, refl, sym, _∙_, ap}
 use mathlib.Core.Logic.{⊎-elim}
 use mathlib.Core.List.{List, [], _∷_, map, List·Memᴰ, List·Memᴰ·head, List·Memᴰ·tail, List·Memᴰ·not-nil, List·Memᴰ·cases-cons}

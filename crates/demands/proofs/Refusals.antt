@@ -1,4 +1,5 @@
--- The plan call's tests, ahead of 21 and from there on: all pass exactly if the polynomial is accepted and the buffers are long enough.
+-- The plan call's tests (docs/RULES.md, "Refusals"), ahead of 21 and from there on: all pass exactly if the polynomial is accepted and the buffers
+-- are long enough.
 use mathlib.Core.Path.{_≡_, refl, sym, _∙_}
 use mathlib.Core.Bool.{Bool, true, false}
 use mathlib.Core.List.{List, [], _∷_, _++_}

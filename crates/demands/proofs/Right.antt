@@ -1,5 +1,6 @@
--- The plan is right. Its steps leave the planned polynomial's value at the transform's y (PlanRun), from which the fold law makes the value of the
--- polynomial handed in. The buffers hold the lists and steps, so their walk is that of the lists and steps; and the trial walk follows.
+-- The plan is right (demand 3). Its steps leave the planned polynomial's value at the transform's y (PlanRun), from which the fold law makes the
+-- value of the polynomial handed in. The buffers hold the lists and steps, so their walk is that of the lists and steps; and the trial walk
+-- follows.
 use mathlib.Core.Path.{_≡_, refl, ap, sym, _∙_}
 use mathlib.Core.Bool.{Bool, true, false}
 use mathlib.Core.List.{List, [], _∷_, _++_}

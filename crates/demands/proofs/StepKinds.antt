@@ -1,5 +1,5 @@
--- How many steps of a plan are of each kind: one of kind 1 for each needed power, one combine fewer than there are lists, of which one is of kind 4
--- where the last list is plain. By induction over the list of powers and over the tree.
+-- How many steps of a plan are of each kind (docs/RULES.md, "Steps"): one of kind 1 for each needed power, one combine fewer than there are lists,
+-- of which one is of kind 4 where the last list is plain. By induction over the list of powers and over the tree.
 use mathlib.Core.Path.{_≡_, refl, _∙_, ap, ap₂}
 use mathlib.Core.Bool.{Bool, true, false, cond, _&&_}
 use mathlib.Core.List.{List, [], _∷_, _++_, map}

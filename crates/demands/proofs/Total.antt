@@ -1,5 +1,5 @@
--- Every call ends with an answer or a refusal. A call's refusal is that of its list of tests, so by cases of its number: 0 says that no test holds, any
--- other number that it is the first test's that does; and what is left after either is what the call's definition says.
+-- Every call ends with an answer or a refusal (demand 1). A call's refusal is that of its list of tests, so by cases of its number: 0 says that no
+-- test holds, any other number that it is the first test's that does; and what is left after either is what the call's definition says.
 use mathlib.Core.Path.{_≡_, refl, ap, sym, subst, _∙_}
 use mathlib.Core.Bool.{Bool, true, false, _||_, true≢false}
 use mathlib.Core.List.{List, [], _∷_, _++_}

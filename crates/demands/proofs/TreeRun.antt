@@ -1,5 +1,6 @@
--- The loads and combines of a tree run, and push one value: that of its coefficients. A leaf pushes its list's value, since the powers that its
--- parity allows are there and all other coefficients are zero; a cut joins the values of its parts by the cut law. By induction over a sound tree.
+-- The loads and combines of a tree run (docs/RULES.md, "Steps"), and push one value: that of its coefficients. A leaf pushes its list's value,
+-- since the powers that its parity allows are there and all other coefficients are zero; a cut joins the values of its parts by the cut law. By
+-- induction over a sound tree.
 use mathlib.Core.Path.{_≡_, refl, sym, _∙_, ap, ap₂, subst}
 use mathlib.Core.List.{List, [], _∷_, _++_, append-assoc}
 use mathlib.Core.Bool.{Bool, true, false, cond, _&&_}

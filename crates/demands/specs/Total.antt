@@ -1,6 +1,6 @@
--- Demand 1: "A polynomial handed in, of any length and content, with any basis, parity, strategy and buffers, comes back as a plan or as a refusal number
--- of document 01. A refusal carries zero in every other field and changes no lent buffer. No call relies on a test by its caller." Nothing is asked
--- of any argument below; the contracts of the code ask nothing of theirs.
+-- Demand 1: "A polynomial handed in, of any length and content, with any basis, parity, strategy and buffers, comes back as a plan or as a refusal
+-- number of document 01. A refusal carries zero in every other field and changes no lent buffer. No call relies on a test by its caller." Nothing
+-- is asked of any argument below; the contracts of the code ask nothing of theirs.
 use mathlib.Core.Path.{_≡_}
 use mathlib.Core.Bool.{Bool, true, false}
 use mathlib.Core.List.{List, [], _∷_, map}
