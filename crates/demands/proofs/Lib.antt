@@ -15,4 +15,5 @@ pub mod HeadTold
 pub mod FitLaws
 pub mod Total
 pub mod Equal
+pub mod Starred
 pub mod Demands

@@ -7,3 +7,4 @@ pub mod MadeBefore
 pub mod Counted
 pub mod HeadTold
 pub mod Fits
+pub mod Starred
