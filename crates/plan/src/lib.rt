@@ -1,5 +1,8 @@
 // The plan call on whole coefficients: refusals, head, lists and steps.
 pub mod call;
+pub mod powers;
+pub mod step;
+pub mod tree;
 
 pub use call::Planned;
 pub use walk::Head;

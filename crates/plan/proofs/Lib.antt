@@ -1,0 +1,4 @@
+mod StepNumbers
+mod PowerSteps
+pub mod StepCounts
+mod TreeSteps
