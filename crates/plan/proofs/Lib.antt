@@ -2,3 +2,5 @@ mod StepNumbers
 mod PowerSteps
 pub mod StepCounts
 mod TreeSteps
+pub mod ListTotals
+mod HeadCounts

@@ -1,5 +1,7 @@
 // The plan call on whole coefficients: refusals, head, lists and steps.
 pub mod call;
+pub mod head;
+pub mod outline;
 pub mod powers;
 pub mod step;
 pub mod tree;
