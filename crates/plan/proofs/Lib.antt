@@ -4,3 +4,4 @@ pub mod StepCounts
 mod TreeSteps
 pub mod ListTotals
 mod HeadCounts
+mod PlanTests

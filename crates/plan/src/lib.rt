@@ -1,6 +1,7 @@
 // The plan call on whole coefficients: refusals, head, lists and steps.
 pub mod call;
 pub mod head;
+pub mod input;
 pub mod outline;
 pub mod powers;
 pub mod step;
