@@ -5,3 +5,4 @@ mod TreeSteps
 pub mod ListTotals
 mod HeadCounts
 mod PlanTests
+mod FilledBuffers

@@ -6,6 +6,7 @@ pub mod outline;
 pub mod powers;
 pub mod step;
 pub mod tree;
+pub mod write;
 
 pub use call::Planned;
 pub use walk::Head;
