@@ -17,6 +17,8 @@ use Rattle.number.specs.Tests.{degreeOf}
 use Rattle.number.specs.inside.Between.{Between}
 use Rattle.number.specs.inside.Room.{SumByLengthTo53}
 use Rattle.needed.specs.NeededList.{neededList, neededCount}
+use Rattle.needed.specs.inside.Planned.{Planned}
+use Rattle.counts.specs.Choice.{splitFor}
 use Rattle.counts.specs.declared.choice.SplitStrategy.{SplitStrategy}
 use Rattle.lists.specs.Tree.{Tree, treeOf, relists, planTree}
 use Rattle.lists.specs.Arrange.{leavesOf}
@@ -30,9 +32,11 @@ use Rattle.plan.specs.PlanSteps.{makeStep, powerSteps, treeSteps, listSt
 use Rattle.plan.specs.PlanCall.{plannedCoefficients, plannedParity, coefficientsFor, boundariesFor, numbersFor}
 use Rattle.plan.specs.inside.Writing.{PowersPut, TreeFits, TreePut, StepsFit}
 use Rattle.plan.specs.inside.Filling.{PlanFits}
+use Rattle.plan.specs.declared.outline.Outline.{Outline}
 use Rattle.plan.specs.declared.tree.Place.{Place}
 use Rattle.plan.proofs.StepNumbers.{flat-append, flat-length}
 use Rattle.plan.proofs.StepCounts.{steps-counted}
+use Rattle.plan.proofs.HeadCounts.{planned-at}
 
 -- ---- the steps
 
@@ -90,31 +94,43 @@ planned-to-53 : (folded : Bool) (parity : Parity) (basis : Basis) (c : List ℤ)
 planned-to-53 true parity basis c small within = fold-sum-by-length parity basis c small within
 planned-to-53 false parity basis c small within = sum-by-length-start c small within
 
-module _ {strategy : SplitStrategy} {parity : Parity} {basis : Basis} {folded : Bool} {count split : ℕ} {plain : Bool}
-    {c out : List ℤ} {bounds steps : List ℕ} (fits : PlanFits strategy parity basis folded count split plain c out bounds steps) where
+module _ {strategy : SplitStrategy} {parity : Parity} {basis : Basis} {folded : Bool} {count : ℕ} {outline : Outline}
+    {c out : List ℤ} {bounds steps : List ℕ} (fits : PlanFits strategy parity basis folded count outline c out bounds steps) where
   abbrev q : List ℤ
   q = plannedCoefficients folded parity basis c
 
   abbrev whole-tree : Tree
   whole-tree = planTree strategy (plannedParity folded parity) basis (degreeOf q)
 
+  abbrev split : ℕ
+  split = outline .split
+
+  split-is : split ≡ splitFor strategy (plannedParity folded parity) basis (count - 1)
+  split-is = ap (λ (o : Outline). o .split) (fits .outline-is)
+
+  plain-is : outline .plain ≡ lastPlain (count - 1) (planTree strategy (plannedParity folded parity) basis (count - 1))
+  plain-is = ap (λ (o : Outline). o .plain) (fits .outline-is)
+
+  ranges : Planned (count - 1) split
+  ranges = planned-at strategy (plannedParity folded parity) basis (count - 1) (fits .degrees) split-is
+
   tree-is : {leading : Bool} → leading ≡ relists strategy
       → treeOf leading (count - 1) (count - 1) split ≡ planTree strategy (plannedParity folded parity) basis (count - 1)
-  tree-is leading-is = ap₂ (λ (s : ℕ) (l : Bool). treeOf l (count - 1) (count - 1) s) (fits .split-is) leading-is
+  tree-is leading-is = ap₂ (λ (s : ℕ) (l : Bool). treeOf l (count - 1) (count - 1) s) (split-is) leading-is
 
   -- the steps
   pub steps-fit : {leading : Bool} {planned : Parity} → leading ≡ relists strategy → planned ≡ plannedParity folded parity
-      → StepsFit leading plain planned basis (count - 1) split steps
+      → StepsFit leading (outline .plain) planned basis (count - 1) split steps
   steps-fit leading-is planned-is = record {
-    planned = fits .ranges;
-    plain-is = fits .plain-is ∙ ap (lastPlain (count - 1)) (sym (tree-is leading-is));
-    places = rw (planned-is, leading-is, fits .split-is) (fits .step-room);
+    planned = ranges;
+    plain-is = plain-is ∙ ap (lastPlain (count - 1)) (sym (tree-is leading-is));
+    places = rw (planned-is, leading-is, split-is) (fits .step-room);
   }
 
   pub numbers-are : {leading : Bool} {planned : Parity} {steps′ : List ℕ} → leading ≡ relists strategy → planned ≡ plannedParity folded parity
       → steps′ ≡ sets steps 0 (flat (stepsAt leading planned basis (count - 1) split))
       → steps′ ≡ sets steps 0 (numbersFor strategy parity basis folded c)
-  numbers-are leading-is planned-is is = is ∙ rw (fits .split-is, leading-is, planned-is, fits .count-is)
+  numbers-are leading-is planned-is is = is ∙ rw (split-is, leading-is, planned-is, fits .count-is)
 
   -- the lists
   module _ {copied : List ℤ} {leading : Bool} (copy : copied ≡ sets out 0 q) (leading-is : leading ≡ relists strategy) where
@@ -129,7 +145,7 @@ module _ {strategy : SplitStrategy} {parity : Parity} {basis : Basis} {folded : 
 
     pub listable : Listable leading (count - 1) split 0 0 (take count copied) bounds
     listable =
-        let range = fits .ranges in
+        let range = ranges in
         let room : leavesOf (treeOf leading (degreeOf q) (degreeOf q) split) ≤ length bounds =
         rw (← fits .count-is, tree-is leading-is) (fits .boundary-room) in
         let degrees : Between 1 (degreeOf q) planLimit =

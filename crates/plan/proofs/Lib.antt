@@ -6,3 +6,4 @@ pub mod ListTotals
 mod HeadCounts
 mod PlanTests
 mod FilledBuffers
+mod CallAnswers

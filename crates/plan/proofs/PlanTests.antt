@@ -22,6 +22,7 @@ use Rattle.number.specs.Refusal.{Test, Numbered, firstRefusal}
 use Rattle.number.specs.Tests.{degreeOf, isFull, leastFolded}
 use Rattle.number.specs.inside.Between.{Between}
 use Rattle.number.proofs.Refusal.{none-holds}
+use Rattle.walk.specs.declared.plan.Head.{Head}
 use Rattle.plan.specs.PlanCall.{plannedCoefficients, inputTests, Accepted}
 use Rattle.plan.specs.inside.Filling.{plannedCount, bufferTests, bufferRefusal}
 
@@ -106,20 +107,20 @@ steps-short steps numbers short = lt-ltb numbers (4 * steps) (omega arith)
 pub steps-fit : (steps numbers : ℕ) → steps ≤ numbers / 4 → ltb numbers (4 * steps) ≡ false
 steps-fit steps numbers fits = le-ltb numbers (4 * steps) (omega arith)
 
-pub record BuffersFit (coefficients lists steps room boundaries numbers : ℕ) : Type 0 where
-  pub coefficient-room : coefficients ≤ room
-  pub boundary-room : lists ≤ boundaries
-  pub step-room : 4 * steps ≤ numbers
+pub record BuffersFit (head : Head) (room boundaries numbers : ℕ) : Type 0 where
+  pub coefficient-room : head .coefficients ≤ room
+  pub boundary-room : head .lists ≤ boundaries
+  pub step-room : 4 * head .steps ≤ numbers
 
-pub buffers-fit : (coefficients lists steps room boundaries numbers : ℕ) → bufferRefusal coefficients lists steps room boundaries numbers ≡ 0
-    → BuffersFit coefficients lists steps room boundaries numbers
+pub buffers-fit : (head : Head) (room boundaries numbers : ℕ) → bufferRefusal head room boundaries numbers ≡ 0
+    → BuffersFit head room boundaries numbers
 unfolding bufferRefusal
-buffers-fit coefficients lists steps room boundaries numbers accepted =
-    let tests = bufferTests coefficients lists steps room boundaries numbers in
+buffers-fit head room boundaries numbers accepted =
+    let tests = bufferTests head room boundaries numbers in
     let numbered : Numbered tests = (omega arith, (omega arith, (omega arith, tt))) in
     let none = none-holds tests numbered accepted in
     record {
-      coefficient-room = ltb-false room coefficients (none .0);
-      boundary-room = ltb-false boundaries lists (none .1 .0);
-      step-room = ltb-false numbers (4 * steps) (none .1 .1 .0);
+      coefficient-room = ltb-false room (head .coefficients) (none .0);
+      boundary-room = ltb-false boundaries (head .lists) (none .1 .0);
+      step-room = ltb-false numbers (4 * head .steps) (none .1 .1 .0);
     }

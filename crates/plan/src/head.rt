@@ -1,4 +1,6 @@
 // The head of a plan.
+use super::input::planned_parity;
+use super::input::planned_transform;
 use super::outline::Outline;
 use counts::SplitStrategy;
 use counts::depth_from_one;
@@ -14,6 +16,7 @@ ghost use Rattle.number.specs.Limits.{planLimit};
 ghost use Rattle.number.specs.inside.Between.{Between};
 ghost use Rattle.plan.specs.Reported.{transformCost};
 ghost use Rattle.plan.specs.PlanHead.{headOf, noHead};
+ghost use Rattle.plan.specs.PlanCall.{plannedParity, plannedTransform};
 ghost use Rattle.plan.specs.inside.Outlines.{outlineFor};
 
 // How many steps are of kind 4.
@@ -39,18 +42,20 @@ fn cost_of(transform: PolynomialInputTransform) -> usize
     }
 }
 
-// The head of a degree, behind a transform.
+// The head of what is planned, which has this degree and outline.
 pub fn head_of(
     strategy: SplitStrategy,
     parity: Parity,
     basis: Basis,
-    transform: PolynomialInputTransform,
+    fold: bool,
     degree: usize,
     outline: Outline,
 ) -> Head
-    requires { ⌜ Between 1 degree planLimit × (outline ≡ outlineFor strategy parity basis degree) ⌝ }
-    ensures { λ r. ⌜ r ≡ headOf strategy parity basis transform degree ⌝ }
+    requires { ⌜ Between 1 degree planLimit × (outline ≡ outlineFor strategy (plannedParity fold parity) basis degree) ⌝ }
+    ensures { λ r. ⌜ r ≡ headOf strategy (plannedParity fold parity) basis (plannedTransform fold parity basis) degree ⌝ }
 {
+    let planned = planned_parity(fold, parity);
+    let transform = planned_transform(fold, parity, basis);
     let four = plain_steps(outline.plain, outline.lists);
     let cost = cost_of(transform);
     let depth = depth_from_one(strategy, degree);
@@ -58,7 +63,7 @@ pub fn head_of(
     let cuts = outline.lists - 1;
     Head {
         basis,
-        parity,
+        parity: planned,
         strategy,
         transform,
         degree,

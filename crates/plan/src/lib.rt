@@ -9,4 +9,5 @@ pub mod tree;
 pub mod write;
 
 pub use call::Planned;
+pub use call::plan;
 pub use walk::Head;

@@ -1,5 +1,6 @@
 // What an accepted call writes: the planned coefficients, listed in place, and the steps.
 use super::input::planned_parity;
+use super::outline::Outline;
 use super::powers::write_powers;
 use super::tree::write_tree;
 use counts::SplitStrategy;
@@ -29,21 +30,30 @@ fn place_coeffs(fold: bool, parity: Parity, basis: Basis, c: &[i64], out: &mut [
     }
 }
 
-// All steps of a degree at a split.
+// All steps of a degree.
 fn write_steps(
     leading: bool,
-    plain: bool,
     parity: Parity,
     basis: Basis,
     degree: usize,
-    split: usize,
+    outline: Outline,
     steps: &mut [u16],
 )
-    requires { ⌜ StepsFit leading plain parity basis degree split (now steps) ⌝ }
-    ensures { λ _. ⌜ now (steps .exit) ≡ sets (now (steps .entry)) 0 (flat (stepsAt leading parity basis degree split)) ⌝ }
+    requires { ⌜ StepsFit leading (outline .plain) parity basis degree (outline .split) (now steps) ⌝ }
+    ensures { λ _. ⌜ now (steps .exit) ≡ sets (now (steps .entry)) 0 (flat (stepsAt leading parity basis degree (outline .split))) ⌝ }
 {
+    let split = outline.split;
     let step = write_powers(parity, basis, degree, split, steps);
-    write_tree(leading, plain, degree, degree, split, 0, step, steps);
+    write_tree(
+        leading,
+        outline.plain,
+        degree,
+        degree,
+        split,
+        0,
+        step,
+        steps,
+    );
 }
 
 // The plan of `count` coefficients in the three buffers.
@@ -53,23 +63,24 @@ pub fn fill(
     basis: Basis,
     fold: bool,
     count: usize,
-    split: usize,
-    plain: bool,
+    outline: Outline,
     c: &[i64],
     out: &mut [i64],
     bounds: &mut [u16],
     steps: &mut [u16],
 )
-    requires { ⌜ PlanFits strategy parity basis fold count split plain (now c) (now out) (now bounds) (now steps) ⌝ }
+    requires { ⌜ PlanFits strategy parity basis fold count outline (now c) (now out) (now bounds) (now steps) ⌝ }
     ensures { λ _. ⌜ PlanPut strategy parity basis fold (now (c .entry)) (now (out .entry)) (now (bounds .entry)) (now (steps .entry))
         (now (out .exit)) (now (bounds .exit)) (now (steps .exit)) ⌝ }
 {
     place_coeffs(fold, parity, basis, c, out);
+    let degree = count - 1;
     let leading = relists(strategy);
+    let split = outline.split;
     list_coeffs(
         leading,
         basis,
-        count - 1,
+        degree,
         split,
         0,
         0,
@@ -77,5 +88,5 @@ pub fn fill(
         bounds,
     );
     let planned = planned_parity(fold, parity);
-    write_steps(leading, plain, planned, basis, count - 1, split, steps);
+    write_steps(leading, planned, basis, degree, outline, steps);
 }

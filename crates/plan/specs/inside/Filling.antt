@@ -13,14 +13,16 @@ use Rattle.algebra.specs.declared.Parity.{Parity}
 use Rattle.number.specs.Limits.{planLimit, sumLimit}
 use Rattle.number.specs.Refusal.{Test, firstRefusal}
 use Rattle.number.specs.Tests.{degreeOf, noRoom, noBoundaries, noSteps}
+use Rattle.number.specs.inside.Between.{Between}
 use Rattle.number.specs.inside.Folding.{Foldable}
-use Rattle.needed.specs.inside.Planned.{Planned}
-use Rattle.counts.specs.Choice.{splitFor}
 use Rattle.counts.specs.declared.choice.SplitStrategy.{SplitStrategy}
 use Rattle.lists.specs.Tree.{planTree}
 use Rattle.lists.specs.Arrange.{leavesOf}
-use Rattle.plan.specs.PlanSteps.{lastPlain, planSteps}
+use Rattle.walk.specs.declared.plan.Head.{Head}
+use Rattle.plan.specs.PlanSteps.{planSteps}
 use Rattle.plan.specs.PlanCall.{plannedCoefficients, plannedParity, coefficientsFor, boundariesFor, numbersFor}
+use Rattle.plan.specs.inside.Outlines.{outlineFor}
+use Rattle.plan.specs.declared.outline.Outline.{Outline}
 
 -- how many of n coefficients are planned
 abbrev pub plannedCount : (folded : Bool) → Parity → (n : ℕ) → ℕ
@@ -28,11 +30,12 @@ plannedCount true parity n = foldedLength parity n
 plannedCount false parity n = n
 
 -- the tests of buffers of so many places: 21, 22, 23
-abbrev pub bufferTests : (coefficients lists steps room boundaries numbers : ℕ) → List Test
-bufferTests coefficients lists steps room boundaries numbers = noRoom room coefficients ∷ noBoundaries boundaries lists ∷ noSteps numbers steps ∷ []
+abbrev pub bufferTests : Head → (room boundaries numbers : ℕ) → List Test
+bufferTests head room boundaries numbers =
+    noRoom room (head .coefficients) ∷ noBoundaries boundaries (head .lists) ∷ noSteps numbers (head .steps) ∷ []
 
-unfoldable pub bufferRefusal : (coefficients lists steps room boundaries numbers : ℕ) → ℕ
-bufferRefusal coefficients lists steps room boundaries numbers = firstRefusal (bufferTests coefficients lists steps room boundaries numbers)
+unfoldable pub bufferRefusal : Head → (room boundaries numbers : ℕ) → ℕ
+bufferRefusal head room boundaries numbers = firstRefusal (bufferTests head room boundaries numbers)
 
 -- a place for each planned coefficient, of which none grows too large
 pub record CoefficientsFit (folded : Bool) (parity : Parity) (c out : List ℤ) : Type 0 where
@@ -40,15 +43,14 @@ pub record CoefficientsFit (folded : Bool) (parity : Parity) (c out : List ℤ) 
   pub copy-room : folded ≡ false → length c ≤ length out
   pub sum-limit : sumAbs c ≤ sumLimit
 
--- every test is passed, and count, split and the rule of kind 4 are worked out
-pub record PlanFits (strategy : SplitStrategy) (parity : Parity) (basis : Basis) (folded : Bool) (count split : ℕ) (plain : Bool)
+-- every test is passed, and the number of planned coefficients and their outline are worked out
+pub record PlanFits (strategy : SplitStrategy) (parity : Parity) (basis : Basis) (folded : Bool) (count : ℕ) (outline : Outline)
     (c out : List ℤ) (bounds steps : List ℕ) : Type 0 where
   pub coefficients-fit : CoefficientsFit folded parity c out
   pub input-limit : degreeOf c ≤ planLimit
   pub count-is : count ≡ length (plannedCoefficients folded parity basis c)
-  pub split-is : split ≡ splitFor strategy (plannedParity folded parity) basis (count - 1)
-  pub plain-is : plain ≡ lastPlain (count - 1) (planTree strategy (plannedParity folded parity) basis (count - 1))
-  pub ranges : Planned (count - 1) split
+  pub outline-is : outline ≡ outlineFor strategy (plannedParity folded parity) basis (count - 1)
+  pub degrees : Between 1 (count - 1) planLimit
   pub room : count ≤ length out
   pub boundary-room : leavesOf (planTree strategy (plannedParity folded parity) basis (count - 1)) ≤ length bounds
   pub step-room : 4 * length (planSteps strategy (plannedParity folded parity) basis (count - 1)) ≤ length steps

@@ -13,8 +13,8 @@ place-coeffs-requires c κs = search needs
 relists-requires : tie.Need-relists-requires
 relists-requires c κs = search needs
 
-sub-list-coeffs : tie.Need-sub-list-coeffs
-sub-list-coeffs c = search needs
+sub-degree : tie.Need-sub-degree
+sub-degree c = search needs
 
 slice-relend-prefix-list-coeffs : tie.Need-slice-relend-prefix-list-coeffs
 slice-relend-prefix-list-coeffs c = search needs
@@ -37,9 +37,6 @@ list-coeffs-requires c κs =
 
 planned-parity-requires : tie.Need-planned-parity-requires
 planned-parity-requires c κs = search needs
-
-sub-write-steps : tie.Need-sub-write-steps
-sub-write-steps c = search needs
 
 write-steps-requires : tie.Need-write-steps-requires
 write-steps-requires c κs =
@@ -78,13 +75,12 @@ fill-spec =
     tie.close
     (tie.spec
     place-coeffs-requires
+    sub-degree
     relists-requires
-    sub-list-coeffs
     slice-relend-prefix-list-coeffs
     slice-aggregate-list-coeffs
     list-coeffs-requires
     planned-parity-requires
-    sub-write-steps
     write-steps-requires
     same-length
     same-length-2
