@@ -22,3 +22,4 @@ pub use choice::split_for_strategy;
 pub use depth::depth_from_one;
 pub use pair::Pair;
 pub use pair::estimate_op_counts;
+pub use slices::allowed_to;

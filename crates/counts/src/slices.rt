@@ -18,7 +18,7 @@ pub struct Tally {
 }
 
 // How many of the powers 1 to the degree the parity allows.
-fn allowed_to(parity: Parity, degree: usize) -> usize
+pub fn allowed_to(parity: Parity, degree: usize) -> usize
     requires { ⌜ degree ≤ planLimit ⌝ }
     ensures { λ r. ⌜ r ≡ allowedTo parity degree ⌝ }
 {

@@ -51,7 +51,7 @@ module _ {A : Type 0} (𝓞 : Operations A) (basis : Basis) (p : ℕ) (c : List 
   high-size = length-drop p (cutAt 𝓞 basis p c) ∙ ap (λ (k : ℕ). k - p) (cut-length 𝓞 p c (omega arith) basis)
 
 -- values set behind values set
-sets-append : (b xs ys : List ℕ) (n m : ℕ) → m ≡ n + length xs → sets (sets b n xs) m ys ≡ sets b n (xs ++ ys)
+pub sets-append : (b xs ys : List ℕ) (n m : ℕ) → m ≡ n + length xs → sets (sets b n xs) m ys ≡ sets b n (xs ++ ys)
 sets-append b [] ys n m behind = ap (λ (k : ℕ). sets b k ys) (omega arith)
 sets-append b (x ∷ xs) ys n m behind = sets-append (set b n x) xs ys (suc n) m (omega arith)
 

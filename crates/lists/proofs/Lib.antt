@@ -4,7 +4,7 @@ pub mod SumByLength
 pub mod Arranging
 mod Counting
 mod ListedAgain
-mod Shape
+pub mod Shape
 mod ListerCuts
 pub mod ListCall
 pub mod Lists

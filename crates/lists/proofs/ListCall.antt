@@ -27,7 +27,7 @@ use Rattle.lists.specs.declared.call.Shape.{Shape}
 use Rattle.lists.proofs.Shape.{Early, all-passed}
 
 -- a whole polynomial can be listed from the first place on
-whole-listable : {A : Type 0} (leading : Bool) (split : ℕ) (c : List A) (bounds : List ℕ) → Between 1 (degreeOf c) planLimit → split ≤ 12
+pub whole-listable : {A : Type 0} (leading : Bool) (split : ℕ) (c : List A) (bounds : List ℕ) → Between 1 (degreeOf c) planLimit → split ≤ 12
     → leavesOf (treeOf leading (degreeOf c) (degreeOf c) split) ≤ length bounds → Listable leading (degreeOf c) split 0 0 c bounds
 whole-listable leading split c bounds degree small long = record {
   nonempty = omega arith;
@@ -37,7 +37,7 @@ whole-listable leading split c bounds degree small long = record {
 }
 
 -- values at the front of a buffer
-front : {A : Type 0} (xs out : List A) → length xs ≤ length out → sets out 0 xs ≡ xs ++ drop (length xs) out
+pub front : {A : Type 0} (xs out : List A) → length xs ≤ length out → sets out 0 xs ≡ xs ++ drop (length xs) out
 front xs out fits = let all : 0 + length xs ≡ length xs = omega arith in sets-eq xs out 0 (omega arith) ∙ ap (λ (k : ℕ). xs ++ drop k out) all
 
 -- the shape's fields

@@ -16,13 +16,13 @@ use Rattle.lists.specs.inside.Shape.{earlyTests, earlyRefusal, refusalBy
 -- ---- tests behind others
 
 -- a refusal is the same whatever tests follow
-first-kept : (tests more : List Test) → 0 < firstRefusal tests → firstRefusal (tests ++ more) ≡ firstRefusal tests
+pub first-kept : (tests more : List Test) → 0 < firstRefusal tests → firstRefusal (tests ++ more) ≡ firstRefusal tests
 first-kept [] more some = absurd (omega arith)
 first-kept ((true, k) ∷ tests) more some = refl
 first-kept ((false, k) ∷ tests) more some = first-kept tests more some
 
 -- where none holds, those that follow decide
-first-of-more : (tests more : List Test) → Numbered tests → firstRefusal tests ≡ 0 → firstRefusal (tests ++ more) ≡ firstRefusal more
+pub first-of-more : (tests more : List Test) → Numbered tests → firstRefusal tests ≡ 0 → firstRefusal (tests ++ more) ≡ firstRefusal more
 first-of-more [] more numbered none = refl
 first-of-more ((true, k) ∷ tests) more numbered none = absurd (omega (arith, numbered .0))
 first-of-more ((false, k) ∷ tests) more numbered none = first-of-more tests more (numbered .1) none

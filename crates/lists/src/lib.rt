@@ -15,4 +15,5 @@ pub use count::count_lists;
 pub use count::listed_again;
 pub use count::relists;
 pub use count::smaller_split;
+pub use whole::copy_coeffs;
 pub use whole::list_coeffs;

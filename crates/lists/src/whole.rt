@@ -88,7 +88,7 @@ fn list_slice(
 }
 
 // The coefficients copied to the front of a buffer.
-fn copy_coeffs(c: &[i64], out: &mut [i64])
+pub fn copy_coeffs(c: &[i64], out: &mut [i64])
     requires { ⌜ length (now c) ≤ length (now out) ⌝ }
     ensures { λ _. ⌜ now (out .exit) ≡ sets (now (out .entry)) 0 (now (c .entry)) ⌝ }
 {

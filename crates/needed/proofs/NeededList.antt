@@ -18,7 +18,7 @@ use Rattle.needed.proofs.PlaceLaws.{count-most}
 use Rattle.needed.proofs.NeededMarks.{greatest-within, needed-length, marked-needed}
 
 -- its length is the number of marks
-marked-count : (i : ℕ) (marks : List Bool) → countMarks marks ≡ length (markedFrom i marks)
+pub marked-count : (i : ℕ) (marks : List Bool) → countMarks marks ≡ length (markedFrom i marks)
 unfolding countMarks markedFrom
 marked-count i [] = refl
 marked-count i (true ∷ marks) = omega (arith, marked-count (suc i) marks)

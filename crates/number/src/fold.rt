@@ -34,7 +34,7 @@ pub struct Folded {
 }
 
 // Whether the parity is Full.
-fn is_full(parity: Parity) -> bool
+pub fn is_full(parity: Parity) -> bool
     ensures { λ r. ⌜ r ≡ isFull parity ⌝ }
 {
     match parity {
@@ -45,7 +45,7 @@ fn is_full(parity: Parity) -> bool
 }
 
 // The least degree that folds.
-fn least_folded(parity: Parity) -> usize
+pub fn least_folded(parity: Parity) -> usize
     ensures { λ r. ⌜ r ≡ leastFolded parity ⌝ }
 {
     match parity {

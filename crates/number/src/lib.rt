@@ -43,6 +43,11 @@ pub use split::split_degree;
 // What serves planning, which calls it within its ranges.
 pub use factor::factorize_coeffs_chebyshev;
 pub use factor::factorize_coeffs_chebyshev_f64;
+pub use fold::fold_count;
 pub use fold::fold_into;
+pub use fold::is_full;
+pub use fold::least_folded;
+pub use parity::has_parity;
 pub use powers::power_of_two;
 pub use powers::top_power;
+pub use transform::transform_of;

@@ -2,3 +2,4 @@ pub mod PlanSteps
 pub mod Reported
 pub mod PlanHead
 pub mod PlanCall
+pub mod inside

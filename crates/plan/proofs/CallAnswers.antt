@@ -1,0 +1,129 @@
+-- The plan call over plain values: a refusal of the input or of the buffers leaves all as it was; past the tests the head is that of the planned degree,
+-- and the buffers can be filled.
+use mathlib.Core.Path.{_≡_, ap, ap₂, sym, subst, _∙_}
+use mathlib.Core.Bool.{Bool, true, false, _&&_}
+use mathlib.Core.List.{List}
+use Prim.Native.Nat.{ℕ, suc, _-_, _*_, _≤_, _<_}
+use native.Mathlib.Omega.{arith}
+use lib.IntN.{ℤ}
+use lib.ListN.{length}
+use Rattle.algebra.specs.Fold.{foldedLength}
+use Rattle.algebra.specs.declared.Basis.{Basis}
+use Rattle.algebra.specs.declared.Parity.{Parity}
+use Rattle.number.specs.Refusal.{Numbered, firstRefusal}
+use Rattle.number.specs.Tests.{isFull}
+use Rattle.number.proofs.Refusal.{when-refused, when-accepted}
+use Rattle.counts.specs.declared.choice.SplitStrategy.{SplitStrategy}
+use Rattle.lists.proofs.Shape.{first-kept, first-of-more}
+use Rattle.walk.specs.declared.plan.Head.{Head}
+use Rattle.plan.specs.PlanHead.{headOf, noHead}
+use Rattle.plan.specs.PlanCall.{plannedCoefficients, plannedParity, plannedTransform, inputTests, Accepted, headFor, planRefusal}
+use Rattle.plan.specs.PlanCall.{planAnswer, planCoefficients, planBoundaries, planNumbers, PlanCall}
+use Rattle.plan.specs.inside.Outlines.{outlineFor}
+use Rattle.plan.specs.inside.Filling.{plannedCount, bufferTests, bufferRefusal, PlanFits, PlanPut}
+use Rattle.plan.specs.declared.call.Planned.{Planned}
+use Rattle.plan.specs.declared.outline.Outline.{Outline}
+use Rattle.plan.proofs.PlanTests.{passed, planned-length, degree-range, buffers-fit}
+
+inputs-numbered : (folded : Bool) (parity : Parity) (c : List ℤ) → Numbered (inputTests folded parity c)
+inputs-numbered true parity c = (omega arith, (omega arith, (omega arith, (omega arith, (omega arith, (omega arith, tt))))))
+inputs-numbered false parity c = (omega arith, (omega arith, (omega arith, (omega arith, tt))))
+
+module _ (strategy : SplitStrategy) (parity : Parity) (basis : Basis) (folded : Bool) (c out : List ℤ) (bounds steps : List ℕ) where
+  abbrev refusal : ℕ
+  refusal = planRefusal strategy parity basis folded c out bounds steps
+
+  abbrev head : Head
+  head = headFor strategy parity basis folded c
+
+  refuses : {k : ℕ} {r : Planned} → refusal ≡ k → 0 < k → r ≡ record { refusal = k; head = noHead }
+      → PlanCall strategy parity basis folded c out bounds steps r out bounds steps
+  unfolding planAnswer planCoefficients planBoundaries planNumbers
+  refuses {k} {r} is positive r-is =
+      let held : 0 < refusal = omega arith in
+      record {
+        answer = r-is ∙ ap (λ (n : ℕ). record { refusal = n; head = noHead }) (sym is) ∙ when-refused refusal _ _ held;
+        coefficients = when-refused refusal _ out held;
+        boundaries = when-refused refusal _ bounds held;
+        numbers = when-refused refusal _ steps held;
+      }
+
+  -- a test of the input holds
+  pub refused-input : {k : ℕ} {r : Planned} → k ≡ firstRefusal (inputTests folded parity c) → 0 < k → r ≡ record { refusal = k; head = noHead }
+      → PlanCall strategy parity basis folded c out bounds steps r out bounds steps
+  unfolding planRefusal
+  refused-input k-is positive r-is = refuses (first-kept (inputTests folded parity c) _ (omega arith) ∙ sym k-is) positive r-is
+
+  module _ (accepted : Accepted folded parity c) where
+    -- then those of the buffers decide
+    late : refusal ≡ bufferRefusal head (length out) (length bounds) (length steps)
+    unfolding planRefusal bufferRefusal
+    late = first-of-more (inputTests folded parity c) (bufferTests head (length out) (length bounds) (length steps)) (inputs-numbered folded parity c) accepted
+
+    module _ {count : ℕ} {h : Head} (count-is : count ≡ plannedCount folded parity (length c))
+        (h-is : h ≡ headOf strategy (plannedParity folded parity) basis (plannedTransform folded parity basis) (count - 1)) where
+      head-same : h ≡ head
+      head-same = h-is ∙ rw (count-is ∙ sym (planned-length folded parity basis c))
+
+      module _ {k : ℕ} (k-is : k ≡ bufferRefusal h (length out) (length bounds) (length steps)) where
+        refusal-is : refusal ≡ k
+        refusal-is =
+            late
+            ∙ ap (λ (x : Head). bufferRefusal x (length out) (length bounds) (length steps)) (sym head-same)
+            ∙ sym k-is
+
+        -- a test of the buffers holds
+        pub refused-buffers : {r : Planned} → 0 < k → r ≡ record { refusal = k; head = noHead }
+            → PlanCall strategy parity basis folded c out bounds steps r out bounds steps
+        refused-buffers positive r-is = refuses refusal-is positive r-is
+
+        -- no test holds
+        module _ (none : k ≡ 0) where
+          pub plan-fits : {outline : Outline} → outline ≡ outlineFor strategy (plannedParity folded parity) basis (count - 1)
+              → PlanFits strategy parity basis folded count outline c out bounds steps
+          unfolding headOf
+          plan-fits {outline} outline-for =
+              let tests = passed folded parity c accepted in
+              let degrees = degree-range folded parity c accepted count-is in
+              let fit = buffers-fit h (length out) (length bounds) (length steps) (sym k-is ∙ none) in
+              let places : suc (count - 1) ≤ length out = subst (λ (x : Head). x .coefficients ≤ length out) h-is (fit .coefficient-room) in
+              let enough : count ≤ length out = omega arith in
+              record {
+                coefficients-fit = record {
+                  foldable = λ folds. record { not-full = fold-not-full folds (tests .not-full); room = fold-room folds enough };
+                  copy-room = λ copies. copies-room copies enough;
+                  sum-limit = tests .sum-limit;
+                };
+                input-limit = tests .degree .to;
+                count-is = count-is ∙ sym (planned-length folded parity basis c);
+                outline-is = outline-for;
+                degrees = degrees;
+                room = enough;
+                boundary-room = subst (λ (x : Head). x .lists ≤ length bounds) h-is (fit .boundary-room);
+                step-room = subst (λ (x : Head). 4 * x .steps ≤ length steps) h-is (fit .step-room);
+              }
+            where
+              fold-not-full : folded ≡ true → (folded && isFull parity) ≡ false → isFull parity ≡ false
+              fold-not-full folds test = sym (ap (λ (f : Bool). f && isFull parity) folds) ∙ test
+
+              fold-room : folded ≡ true → count ≤ length out → foldedLength parity (length c) ≤ length out
+              fold-room folds enough =
+                  let same : count ≡ foldedLength parity (length c) = count-is ∙ ap (λ (f : Bool). plannedCount f parity (length c)) folds in
+                  omega arith
+
+              copies-room : folded ≡ false → count ≤ length out → length c ≤ length out
+              copies-room copies enough =
+                  let same : count ≡ length c = count-is ∙ ap (λ (f : Bool). plannedCount f parity (length c)) copies in
+                  omega arith
+
+          pub planned-call : {out′ : List ℤ} {bounds′ steps′ : List ℕ} → PlanPut strategy parity basis folded c out bounds steps out′ bounds′ steps′
+              → PlanCall strategy parity basis folded c out bounds steps (record { refusal = 0; head = h }) out′ bounds′ steps′
+          unfolding planAnswer planCoefficients planBoundaries planNumbers
+          planned-call put =
+              let passes : refusal ≡ 0 = refusal-is ∙ none in
+              record {
+                answer = ap (λ (x : Head). record { refusal = 0; head = x }) head-same ∙ when-accepted _ _ passes;
+                coefficients = put .coefficients ∙ when-accepted _ out passes;
+                boundaries = put .boundaries ∙ when-accepted _ bounds passes;
+                numbers = put .numbers ∙ when-accepted _ steps passes;
+              }

@@ -1,0 +1,176 @@
+-- What an accepted call writes, over plain values: power steps and behind them those of the tree; and the planned coefficients, listed in place at the
+-- front of their buffer.
+use mathlib.Core.Path.{_≡_, ap, ap₂, sym, _∙_}
+use mathlib.Core.Bool.{Bool, true, false}
+use mathlib.Core.List.{List, _++_}
+use Prim.Native.Nat.{ℕ, _+_, _-_, _*_, _≤_}
+use native.Mathlib.Omega.{arith}
+use lib.IntN.{ℤ}
+use lib.ListN.{length, take, drop, length-map}
+use lib.Seq.{sets, take-at, drop-at}
+use Rattle.algebra.specs.Operations.{wholeOps}
+use Rattle.algebra.specs.Magnitude.{sumAbs}
+use Rattle.algebra.specs.declared.Basis.{Basis}
+use Rattle.algebra.specs.declared.Parity.{Parity}
+use Rattle.number.specs.Limits.{planLimit, sumLimit}
+use Rattle.number.specs.Tests.{degreeOf}
+use Rattle.number.specs.inside.Between.{Between}
+use Rattle.number.specs.inside.Room.{SumByLengthTo53}
+use Rattle.needed.specs.NeededList.{neededList, neededCount}
+use Rattle.needed.specs.inside.Planned.{Planned}
+use Rattle.counts.specs.Choice.{splitFor}
+use Rattle.counts.specs.declared.choice.SplitStrategy.{SplitStrategy}
+use Rattle.lists.specs.Tree.{Tree, treeOf, relists, planTree}
+use Rattle.lists.specs.Arrange.{leavesOf}
+use Rattle.lists.specs.inside.Listing.{Listable, InPlace}
+use Rattle.lists.proofs.Arranging.{some-leaves, leaves-most, sets-append}
+use Rattle.lists.proofs.SumByLength.{sum-by-length-start}
+use Rattle.lists.proofs.Bounds.{fold-sum-by-length}
+use Rattle.lists.proofs.ListCall.{whole-listable, front}
+use Rattle.walk.specs.WalksHeld.{flat}
+use Rattle.plan.specs.PlanSteps.{makeStep, powerSteps, treeSteps, listSteps, lastPlain, stepsAt}
+use Rattle.plan.specs.PlanCall.{plannedCoefficients, plannedParity, coefficientsFor, boundariesFor, numbersFor}
+use Rattle.plan.specs.inside.Writing.{PowersPut, TreeFits, TreePut, StepsFit}
+use Rattle.plan.specs.inside.Filling.{PlanFits}
+use Rattle.plan.specs.declared.outline.Outline.{Outline}
+use Rattle.plan.specs.declared.tree.Place.{Place}
+use Rattle.plan.proofs.StepNumbers.{flat-append, flat-length}
+use Rattle.plan.proofs.StepCounts.{steps-counted}
+use Rattle.plan.proofs.HeadCounts.{planned-at}
+
+-- ---- the steps
+
+-- there is a power step for each needed power
+powers-length : (parity : Parity) (basis : Basis) (degree split : ℕ)
+    → length (flat (powerSteps parity basis degree split)) ≡ 4 * neededCount parity basis degree split
+unfolding powerSteps neededCount
+powers-length parity basis degree split =
+    let size = flat-length (powerSteps parity basis degree split) in
+    let each = length-map (neededList parity basis degree split) makeStep in
+    omega arith
+
+module _ {leading plain : Bool} {parity : Parity} {basis : Basis} {degree split : ℕ} {b : List ℕ}
+    (fits : StepsFit leading plain parity basis degree split b) where
+  pub powers-fit : 4 * neededCount parity basis degree split ≤ length b
+  powers-fit =
+      let counted = steps-counted leading parity basis degree split in
+      let one = some-leaves (treeOf leading degree degree split) in
+      omega (arith, counted .steps, fits .places)
+
+  module _ {b₁ : List ℕ} {step : ℕ} (powers : PowersPut parity basis degree split b step b₁) (kept : length b₁ ≡ length b) where
+    pub tree-fits : TreeFits leading degree degree split 0 step b₁
+    tree-fits =
+        let counted = steps-counted leading parity basis degree split in
+        let most = leaves-most leading degree degree split in
+        let known = fits .planned in
+        record {
+          ranges = record {
+            positive = omega (arith, known .degrees .from);
+            whole-limit = known .degrees .to;
+            part-limit = known .degrees .to;
+            split-limit = known .splits .to;
+          };
+          list-limit = omega (arith, known .degrees .to);
+          places = omega (arith, counted .steps, fits .places, powers .next);
+        }
+
+    pub all-steps : {b₂ : List ℕ} {r : Place} → TreePut plain (treeOf leading degree degree split) 0 step b₁ r b₂
+        → b₂ ≡ sets b 0 (flat (stepsAt leading parity basis degree split))
+    unfolding stepsAt listSteps
+    all-steps put =
+        let tree = treeOf leading degree degree split in
+        let makes = powerSteps parity basis degree split in
+        let others = treeSteps (lastPlain degree tree) tree 0 in
+        let place : 4 * step ≡ 0 + length (flat makes) = omega (arith, powers-length parity basis degree split, powers .next) in
+        put .numbers
+        ∙ ap₂ (λ (l : List ℕ) (p : Bool). sets l (4 * step) (flat (treeSteps p tree 0))) (powers .numbers) (fits .plain-is)
+        ∙ sets-append b (flat makes) (flat others) 0 (4 * step) place
+        ∙ ap (sets b 0) (sym (flat-append makes others))
+
+-- ---- coefficients and boundaries
+
+planned-to-53 : (folded : Bool) (parity : Parity) (basis : Basis) (c : List ℤ) → sumAbs c ≤ sumLimit → degreeOf c ≤ planLimit
+    → SumByLengthTo53 (plannedCoefficients folded parity basis c)
+planned-to-53 true parity basis c small within = fold-sum-by-length parity basis c small within
+planned-to-53 false parity basis c small within = sum-by-length-start c small within
+
+module _ {strategy : SplitStrategy} {parity : Parity} {basis : Basis} {folded : Bool} {count : ℕ} {outline : Outline}
+    {c out : List ℤ} {bounds steps : List ℕ} (fits : PlanFits strategy parity basis folded count outline c out bounds steps) where
+  abbrev q : List ℤ
+  q = plannedCoefficients folded parity basis c
+
+  abbrev whole-tree : Tree
+  whole-tree = planTree strategy (plannedParity folded parity) basis (degreeOf q)
+
+  abbrev split : ℕ
+  split = outline .split
+
+  split-is : split ≡ splitFor strategy (plannedParity folded parity) basis (count - 1)
+  split-is = ap (λ (o : Outline). o .split) (fits .outline-is)
+
+  plain-is : outline .plain ≡ lastPlain (count - 1) (planTree strategy (plannedParity folded parity) basis (count - 1))
+  plain-is = ap (λ (o : Outline). o .plain) (fits .outline-is)
+
+  ranges : Planned (count - 1) split
+  ranges = planned-at strategy (plannedParity folded parity) basis (count - 1) (fits .degrees) split-is
+
+  tree-is : {leading : Bool} → leading ≡ relists strategy
+      → treeOf leading (count - 1) (count - 1) split ≡ planTree strategy (plannedParity folded parity) basis (count - 1)
+  tree-is leading-is = ap₂ (λ (s : ℕ) (l : Bool). treeOf l (count - 1) (count - 1) s) (split-is) leading-is
+
+  -- the steps
+  pub steps-fit : {leading : Bool} {planned : Parity} → leading ≡ relists strategy → planned ≡ plannedParity folded parity
+      → StepsFit leading (outline .plain) planned basis (count - 1) split steps
+  steps-fit leading-is planned-is = record {
+    planned = ranges;
+    plain-is = plain-is ∙ ap (lastPlain (count - 1)) (sym (tree-is leading-is));
+    places = rw (planned-is, leading-is, split-is) (fits .step-room);
+  }
+
+  pub numbers-are : {leading : Bool} {planned : Parity} {steps′ : List ℕ} → leading ≡ relists strategy → planned ≡ plannedParity folded parity
+      → steps′ ≡ sets steps 0 (flat (stepsAt leading planned basis (count - 1) split))
+      → steps′ ≡ sets steps 0 (numbersFor strategy parity basis folded c)
+  numbers-are leading-is planned-is is = is ∙ rw (split-is, leading-is, planned-is, fits .count-is)
+
+  -- the lists
+  module _ {copied : List ℤ} {leading : Bool} (copy : copied ≡ sets out 0 q) (leading-is : leading ≡ relists strategy) where
+    copy-is : copied ≡ q ++ drop count out
+    copy-is = copy ∙ front q out (omega (arith, fits .room, fits .count-is)) ∙ ap (λ (k : ℕ). q ++ drop k out) (sym (fits .count-is))
+
+    pub part-is : take count copied ≡ q
+    part-is = ap (take count) copy-is ∙ take-at q (drop count out) count (sym (fits .count-is))
+
+    rest-is : drop count copied ≡ drop count out
+    rest-is = ap (drop count) copy-is ∙ drop-at q (drop count out) count (sym (fits .count-is))
+
+    pub listable : Listable leading (count - 1) split 0 0 (take count copied) bounds
+    listable =
+        let range = ranges in
+        let room : leavesOf (treeOf leading (degreeOf q) (degreeOf q) split) ≤ length bounds =
+        rw (← fits .count-is, tree-is leading-is) (fits .boundary-room) in
+        let degrees : Between 1 (degreeOf q) planLimit =
+        record { from = omega (arith, range .degrees .from, fits .count-is); to = omega (arith, range .degrees .to, fits .count-is) } in
+        rw (part-is, fits .count-is) (whole-listable leading split q bounds degrees (range .splits .to) room)
+
+    pub sum-fits : SumByLengthTo53 (take count copied)
+    sum-fits = rw part-is (planned-to-53 folded parity basis c (fits .coefficients-fit .sum-limit) (fits .input-limit))
+
+    module _ {z : List ℤ} {bounds′ : List ℕ} {r : ℕ} (size : length z ≡ length (take count copied))
+        (placed : InPlace wholeOps basis (treeOf leading (count - 1) (degreeOf (take count copied)) split) 0 0 (take count copied) bounds r z bounds′)
+      where
+        tree-here : treeOf leading (count - 1) (degreeOf q) split ≡ whole-tree
+        tree-here =
+            ap (λ (n : ℕ). treeOf leading (count - 1) (n - 1) split) (sym (fits .count-is))
+            ∙ tree-is leading-is
+            ∙ ap (λ (n : ℕ). planTree strategy (plannedParity folded parity) basis (n - 1)) (fits .count-is)
+
+        pub coefficients-are : z ++ drop count copied ≡ sets out 0 (coefficientsFor strategy parity basis folded c)
+        coefficients-are =
+            let same : length z ≡ count = size ∙ ap length part-is ∙ sym (fits .count-is) in
+            let arranges : z ≡ coefficientsFor strategy parity basis folded c = rw (part-is, tree-here) at (placed .coefficients) in
+            ap (z ++_) (rest-is ∙ ap (λ (k : ℕ). drop k out) (sym same))
+            ∙ sym (front z out (omega (arith, same, fits .room)))
+            ∙ ap (sets out 0) arranges
+
+        pub boundaries-are : bounds′ ≡ sets bounds 0 (boundariesFor strategy parity basis folded c)
+        boundaries-are = rw (part-is, tree-here) at (placed .boundaries)

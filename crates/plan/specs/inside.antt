@@ -1,0 +1,3 @@
+pub mod Outlines
+pub mod Writing
+pub mod Filling

@@ -1,0 +1,63 @@
+-- What the functions of the plan call ask of one another.
+use mathlib.Core.Path.{_≡_}
+use mathlib.Core.Bool.{Bool, true, false}
+use mathlib.Core.List.{List, [], _∷_}
+use Prim.Native.Nat.{ℕ, _-_, _*_, _≤_}
+use lib.IntN.{ℤ}
+use lib.ListN.{length}
+use lib.Seq.{sets}
+use Rattle.algebra.specs.Fold.{foldedLength}
+use Rattle.algebra.specs.Magnitude.{sumAbs}
+use Rattle.algebra.specs.declared.Basis.{Basis}
+use Rattle.algebra.specs.declared.Parity.{Parity}
+use Rattle.number.specs.Limits.{planLimit, sumLimit}
+use Rattle.number.specs.Refusal.{Test, firstRefusal}
+use Rattle.number.specs.Tests.{degreeOf, noRoom, noBoundaries, noSteps}
+use Rattle.number.specs.inside.Between.{Between}
+use Rattle.number.specs.inside.Folding.{Foldable}
+use Rattle.counts.specs.declared.choice.SplitStrategy.{SplitStrategy}
+use Rattle.lists.specs.Tree.{planTree}
+use Rattle.lists.specs.Arrange.{leavesOf}
+use Rattle.walk.specs.declared.plan.Head.{Head}
+use Rattle.plan.specs.PlanSteps.{planSteps}
+use Rattle.plan.specs.PlanCall.{plannedCoefficients, plannedParity, coefficientsFor, boundariesFor, numbersFor}
+use Rattle.plan.specs.inside.Outlines.{outlineFor}
+use Rattle.plan.specs.declared.outline.Outline.{Outline}
+
+-- how many of n coefficients are planned
+abbrev pub plannedCount : (folded : Bool) → Parity → (n : ℕ) → ℕ
+plannedCount true parity n = foldedLength parity n
+plannedCount false parity n = n
+
+-- the tests of buffers of so many places: 21, 22, 23
+abbrev pub bufferTests : Head → (room boundaries numbers : ℕ) → List Test
+bufferTests head room boundaries numbers =
+    noRoom room (head .coefficients) ∷ noBoundaries boundaries (head .lists) ∷ noSteps numbers (head .steps) ∷ []
+
+unfoldable pub bufferRefusal : Head → (room boundaries numbers : ℕ) → ℕ
+bufferRefusal head room boundaries numbers = firstRefusal (bufferTests head room boundaries numbers)
+
+-- a place for each planned coefficient, of which none grows too large
+pub record CoefficientsFit (folded : Bool) (parity : Parity) (c out : List ℤ) : Type 0 where
+  pub foldable : folded ≡ true → Foldable parity c out
+  pub copy-room : folded ≡ false → length c ≤ length out
+  pub sum-limit : sumAbs c ≤ sumLimit
+
+-- every test is passed, and the number of planned coefficients and their outline are worked out
+pub record PlanFits (strategy : SplitStrategy) (parity : Parity) (basis : Basis) (folded : Bool) (count : ℕ) (outline : Outline)
+    (c out : List ℤ) (bounds steps : List ℕ) : Type 0 where
+  pub coefficients-fit : CoefficientsFit folded parity c out
+  pub input-limit : degreeOf c ≤ planLimit
+  pub count-is : count ≡ length (plannedCoefficients folded parity basis c)
+  pub outline-is : outline ≡ outlineFor strategy (plannedParity folded parity) basis (count - 1)
+  pub degrees : Between 1 (count - 1) planLimit
+  pub room : count ≤ length out
+  pub boundary-room : leavesOf (planTree strategy (plannedParity folded parity) basis (count - 1)) ≤ length bounds
+  pub step-room : 4 * length (planSteps strategy (plannedParity folded parity) basis (count - 1)) ≤ length steps
+
+-- the buffers hold the plan in their first places
+pub record PlanPut (strategy : SplitStrategy) (parity : Parity) (basis : Basis) (folded : Bool) (c out : List ℤ) (bounds steps : List ℕ)
+    (out′ : List ℤ) (bounds′ steps′ : List ℕ) : Type 0 where
+  pub coefficients : out′ ≡ sets out 0 (coefficientsFor strategy parity basis folded c)
+  pub boundaries : bounds′ ≡ sets bounds 0 (boundariesFor strategy parity basis folded c)
+  pub numbers : steps′ ≡ sets steps 0 (numbersFor strategy parity basis folded c)

@@ -1,0 +1,80 @@
+// What is planned, with folding and without it, and the tests of it.
+use number::Basis;
+use number::PLAN_LIMIT;
+use number::Parity;
+use number::PolynomialInputTransform;
+use number::degree_of;
+use number::fold_count;
+use number::has_parity;
+use number::is_full;
+use number::least_folded;
+use number::sum_fits;
+use number::transform_of;
+ghost use mathlib.Core.Path.{_≡_};
+ghost use mathlib.Core.Bool.{_&&_};
+ghost use Rattle.number.specs.Refusal.{firstRefusal};
+ghost use Rattle.plan.specs.PlanCall.{plannedParity, plannedTransform, inputTests};
+ghost use Rattle.plan.specs.inside.Filling.{plannedCount};
+
+// How many of n coefficients are planned.
+pub fn planned_count(fold: bool, parity: Parity, n: usize) -> usize
+    ensures { λ r. ⌜ r ≡ plannedCount fold parity n ⌝ }
+{
+    if fold { fold_count(parity, n) } else { n }
+}
+
+// Their parity.
+pub fn planned_parity(fold: bool, parity: Parity) -> Parity
+    ensures { λ r. ⌜ r ≡ plannedParity fold parity ⌝ }
+{
+    if fold { Parity::Full } else { parity }
+}
+
+// The transform that they stand behind.
+pub fn planned_transform(fold: bool, parity: Parity, basis: Basis) -> PolynomialInputTransform
+    ensures { λ r. ⌜ r ≡ plannedTransform fold parity basis ⌝ }
+{
+    if fold {
+        transform_of(parity, basis)
+    } else {
+        PolynomialInputTransform::Identity
+    }
+}
+
+// Whether both hold.
+fn both(a: bool, b: bool) -> bool
+    ensures { λ r. ⌜ r ≡ (a && b) ⌝ }
+{
+    if !a {
+        return false;
+    }
+    b
+}
+
+// The number of the first test of the input that holds, or 0.
+pub fn input_refusal(fold: bool, parity: Parity, c: &[i64]) -> u8
+    ensures { λ r. ⌜ r ≡ firstRefusal (inputTests fold parity (now (c .entry))) ⌝ }
+{
+    let degree = degree_of(c.len());
+    let full = both(fold, is_full(parity));
+    let low = both(fold, degree < least_folded(parity));
+    let fits = has_parity(parity, c);
+    let small = sum_fits(c);
+    let wrong = !fits;
+    if PLAN_LIMIT < degree {
+        return 2;
+    }
+    if degree == 0 {
+        return 1;
+    }
+    if full {
+        return 5;
+    }
+    if low {
+        return 6;
+    }
+    if wrong {
+        return 4;
+    }
+    if small { 0 } else { 3 }
+}

@@ -1,0 +1,108 @@
+// A plan as far as numbers alone decide: its split, and how many powers and lists it has.
+use counts::SplitStrategy;
+use counts::allowed_to;
+use counts::split_for_strategy;
+use lists::listed_again;
+use lists::relists;
+use lists::smaller_split;
+use needed::count_needed;
+use number::Basis;
+use number::Parity;
+use number::power_of_two;
+use number::top_power;
+ghost use mathlib.Core.Path.{_≡_};
+ghost use mathlib.Core.Bool.{_&&_};
+ghost use Prim.Native.Nat.{suc, _<_, _^_};
+ghost use lib.Dec.{eqb};
+ghost use Rattle.number.specs.Bits.{isPowerOfTwo};
+ghost use Rattle.number.specs.Limits.{planLimit};
+ghost use Rattle.number.specs.inside.Between.{Between};
+ghost use Rattle.lists.specs.Tree.{treeOf};
+ghost use Rattle.lists.specs.inside.Listing.{Ranges};
+ghost use Rattle.plan.specs.inside.Outlines.{totalsOf, outlineFor};
+
+// How many lists, the allowed powers from 1 up over all of them, and the length of the last.
+pub struct Totals {
+    pub lists: usize,
+    pub pt: usize,
+    pub last: usize,
+}
+
+// The numbers that a plan's head and steps go by.
+pub struct Outline {
+    pub split: usize,
+    pub plain: bool,
+    pub powers: usize,
+    pub lists: usize,
+    pub pt: usize,
+}
+
+// The totals of a part of a degree, at a split.
+pub fn total_lists(
+    leading: bool,
+    parity: Parity,
+    whole: usize,
+    degree: usize,
+    split: usize,
+) -> Totals
+    requires { ⌜ Ranges whole degree split ⌝ }
+    ensures { λ r. ⌜ r ≡ totalsOf parity (treeOf leading whole degree split) (suc degree) ⌝ }
+{
+    let base = power_of_two(split);
+    if degree < base {
+        return total_slice(leading, parity, whole, degree, split);
+    }
+    let p = top_power(degree);
+    let low = total_lists(false, parity, whole, p - 1, split);
+    let high = total_lists(leading, parity, whole, degree - p, split);
+    Totals {
+        lists: low.lists + high.lists,
+        pt: low.pt + high.pt,
+        last: high.last,
+    }
+}
+
+// Those of a slice: of one list, or of those at the smaller split.
+fn total_slice(leading: bool, parity: Parity, whole: usize, degree: usize, split: usize) -> Totals
+    requires { ⌜ Ranges whole degree split × (degree < 2 ^ split) ⌝ }
+    ensures { λ r. ⌜ r ≡ totalsOf parity (treeOf leading whole degree split) (suc degree) ⌝ }
+{
+    if listed_again(leading, whole, degree, split) {
+        return total_lists(leading, parity, whole, degree, smaller_split(degree));
+    }
+    let pt = allowed_to(parity, degree);
+    Totals {
+        lists: 1,
+        pt,
+        last: degree + 1,
+    }
+}
+
+// The rule of kind 4: the degree is a power of two, and the last list a constant alone.
+fn last_plain(degree: usize, last: usize) -> bool
+    requires { ⌜ 0 < degree ⌝ }
+    ensures { λ r. ⌜ r ≡ (isPowerOfTwo degree && eqb last 1) ⌝ }
+{
+    if degree != top_power(degree) {
+        return false;
+    }
+    last == 1
+}
+
+// The outline of a degree.
+pub fn outline_of(strategy: SplitStrategy, parity: Parity, basis: Basis, degree: usize) -> Outline
+    requires { ⌜ Between 1 degree planLimit ⌝ }
+    ensures { λ r. ⌜ r ≡ outlineFor strategy parity basis degree ⌝ }
+{
+    let split = split_for_strategy(strategy, parity, basis, degree);
+    let totals = total_lists(relists(strategy), parity, degree, degree, split);
+    let powers = count_needed(parity, basis, degree, split);
+    let plain = last_plain(degree, totals.last);
+    Outline {
+        split,
+        plain,
+        powers,
+        lists: totals.lists,
+        pt: totals.pt,
+    }
+}
