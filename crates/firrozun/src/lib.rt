@@ -31,3 +31,8 @@ pub use number::fold_parity_f64;
 pub use number::parity_number;
 pub use number::split_degree;
 pub use number::transform_number;
+pub use plan::Planned;
+pub use plan::plan;
+pub use walk::Head;
+pub use walk::Trial;
+pub use walk::trial_walk;
