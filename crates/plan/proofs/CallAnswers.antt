@@ -1,6 +1,6 @@
 -- The plan call over plain values: a refusal of the input or of the buffers leaves all as it was; past the tests the head is that of the planned degree,
 -- and the buffers can be filled.
-use mathlib.Core.Path.{_≡_, ap, ap₂, sym, subst, _∙_}
+use mathlib.Core.Path.{_≡_, ap, sym, subst, _∙_}
 use mathlib.Core.Bool.{Bool, true, false, _&&_}
 use mathlib.Core.List.{List}
 use Prim.Native.Nat.{ℕ, suc, _-_, _*_, _≤_, _<_}
@@ -17,7 +17,7 @@ use Rattle.counts.specs.declared.choice.SplitStrategy.{SplitStrategy}
 use Rattle.lists.proofs.Shape.{first-kept, first-of-more}
 use Rattle.walk.specs.declared.plan.Head.{Head}
 use Rattle.plan.specs.PlanHead.{headOf, noHead}
-use Rattle.plan.specs.PlanCall.{plannedCoefficients, plannedParity, plannedTransform, inputTests, Accepted, headFor, planRefusal}
+use Rattle.plan.specs.PlanCall.{plannedParity, plannedTransform, inputTests, Accepted, headFor, planRefusal}
 use Rattle.plan.specs.PlanCall.{planAnswer, planCoefficients, planBoundaries, planNumbers, PlanCall}
 use Rattle.plan.specs.inside.Outlines.{outlineFor}
 use Rattle.plan.specs.inside.Filling.{plannedCount, bufferTests, bufferRefusal, PlanFits, PlanPut}

@@ -1,9 +1,9 @@
-mod StepNumbers
+pub mod StepNumbers
 mod PowerSteps
 pub mod StepCounts
 mod TreeSteps
 pub mod ListTotals
-mod HeadCounts
-mod PlanTests
+pub mod HeadCounts
+pub mod PlanTests
 mod FilledBuffers
 mod CallAnswers

@@ -8,6 +8,7 @@ use lib.ListN.{length, take, getD, replicate, length-append, length-map, length-
 use lib.Seq.{sets, take-suc, take-all, length-take-le}
 use Rattle.algebra.specs.declared.Basis.{Basis}
 use Rattle.algebra.specs.declared.Parity.{Parity}
+use Rattle.number.specs.Limits.{planLimit}
 use Rattle.needed.specs.NeededList.{neededList, neededCount}
 use Rattle.needed.specs.inside.Marks.{Marked, markedFrom, countMarks, padded, neededMarks}
 use Rattle.needed.specs.inside.Planned.{Planned}
@@ -154,7 +155,7 @@ module _ (parity : Parity) (basis : Basis) (degree split size : ℕ) {marks : Li
       ∙ omega (arith, length-replicate (size - length known) false)
 
   -- the next mark has its places
-  pub next-fits : {n step : ℕ} {b₀ b : List ℕ} → Upto marks n step b₀ b → n < length marks → n ≤ 4095
+  pub next-fits : {n step : ℕ} {b₀ b : List ℕ} → Upto marks n step b₀ b → n < length marks → n ≤ planLimit
       → 4 * neededCount parity basis degree split ≤ length b → PowerFits (getD marks n false) n step b
   next-fits {n} upto inside within room =
       let step = count-step marks n inside in

@@ -10,4 +10,8 @@ pub mod write;
 
 pub use call::Planned;
 pub use call::plan;
+pub use counts::SplitStrategy;
+pub use number::Basis;
+pub use number::Parity;
+pub use number::PolynomialInputTransform;
 pub use walk::Head;

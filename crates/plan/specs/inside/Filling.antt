@@ -1,4 +1,4 @@
--- What the functions of the plan call ask of one another.
+-- What the functions of the plan call ask of one another and leave (docs/RULES.md, "Steps and the walk" and "Refusals").
 use mathlib.Core.Path.{_≡_}
 use mathlib.Core.Bool.{Bool, true, false}
 use mathlib.Core.List.{List, [], _∷_}

@@ -1,4 +1,5 @@
--- What the counters of a plan answer: the totals of a tree's lists, and the numbers that a head and its steps go by.
+-- What the counters of a plan answer (docs/RULES.md, "Steps and the walk"): the totals of a tree's lists, and the numbers that a head and its steps go
+-- by.
 use Prim.Native.Nat.{ℕ, suc}
 use mathlib.Core.Bool.{Bool}
 use Rattle.algebra.specs.declared.Basis.{Basis}

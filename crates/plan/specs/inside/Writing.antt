@@ -1,4 +1,4 @@
--- What the writers of steps ask for and leave.
+-- What the writers of steps ask for and leave (docs/RULES.md, "Steps and the walk"): four numbers a step.
 use mathlib.Core.Path.{_≡_}
 use mathlib.Core.Bool.{Bool, true, cond}
 use mathlib.Core.List.{List, [], _∷_}
