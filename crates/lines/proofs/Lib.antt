@@ -7,3 +7,4 @@ pub mod FieldsJoined
 pub mod LettersSay
 pub mod SpelledSame
 pub mod LinesSame
+pub mod BufferHolds

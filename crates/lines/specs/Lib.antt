@@ -9,4 +9,5 @@ pub mod FieldsJoined
 pub mod LettersSay
 pub mod SpelledSame
 pub mod LinesSame
+pub mod BufferHolds
 pub mod inside

@@ -19,7 +19,7 @@ unfoldable pub areDigits : List ℕ → Bool
 areDigits [] = true
 areDigits (b ∷ bs) = isDigit b && areDigits bs
 
--- 1 to 18 of them
+-- how many digits a number may have
 abbrev pub mayHave : (digits : ℕ) → Bool
 mayHave n = ltb 0 n && leb n digitLimit
 
