@@ -1,0 +1,13 @@
+pub mod Limits
+pub mod Bytes
+pub mod Fields
+pub mod Whole
+pub mod Letters
+pub mod Line
+pub mod ReadLine
+pub mod FieldsJoined
+pub mod LettersSay
+pub mod SpelledSame
+pub mod LinesSame
+pub mod BufferHolds
+pub mod inside
