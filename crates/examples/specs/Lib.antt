@@ -4,3 +4,4 @@ pub mod Evaluation
 pub mod Interpolation
 pub mod Walk
 pub mod Plan
+pub mod Lines
