@@ -1,0 +1,6 @@
+mod PutLaws
+mod DecimalLaws
+mod SignLaws
+mod TextLaws
+mod PartLaws
+mod LineLaws

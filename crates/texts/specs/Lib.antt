@@ -1,0 +1,11 @@
+pub mod Bytes
+pub mod Decimal
+pub mod Text
+pub mod PlanText
+pub mod Put
+pub mod PutPlan
+pub mod LineCount
+pub mod TextIsLines
+pub mod LineLengths
+pub mod HeldText
+pub mod inside
