@@ -4,3 +4,4 @@ mod SignLaws
 mod TextLaws
 mod PartLaws
 mod LineLaws
+mod Progressing

@@ -7,16 +7,18 @@ use native.Mathlib.Omega.{arith}
 use borrow.Author.Tests.{eq-eqb, ne-eqb}
 use lib.Dec.{lit<}
 use lib.IntN.{ℤ}
-use lib.ListN.{length, getD, take, length-append, length-take, List·getD-append, List·getD-eq-default}
+use lib.ListN.{length, getD, take, drop, length-append, length-take, List·getD-append, List·getD-eq-default}
 use lib.Seq.{getD-take}
 use Rattle.algebra.proofs.Lists.{getD-right}
-use Rattle.walk.specs.Boundaries.{startOf, partOf}
+use Rattle.algebra.specs.EnumNumbers.{transformNumber}
+use Rattle.walk.specs.Boundaries.{startOf, endOf, partOf}
 use Rattle.walk.specs.Lent.{stepAt, stepsFrom, lentSteps}
 use Rattle.walk.specs.declared.plan.Head.{Head}
 use Rattle.walk.specs.declared.plan.Step.{Step}
-use Rattle.texts.specs.Bytes.{letterB, letterG, letterP, letterQ}
+use Rattle.texts.specs.Bytes.{letterB, letterG, letterH, letterP, letterQ}
 use Rattle.texts.specs.Text.{numbersLine, listLine}
 use Rattle.texts.specs.PlanText.{headLine, stepLine, linesOf, partsFrom, listsIn, shownSteps}
+use Rattle.texts.specs.LineCount.{lineCount}
 
 -- ---- the lists and the steps, one for each number
 
@@ -65,6 +67,11 @@ start-later bounds (suc i) e = let one : suc i - 1 ≡ i = omega arith in rw one
 pub step-within : (n j : ℕ) → j < n / 4 → 4 * j + 3 < n
 step-within n j h = let whole : suc j * 4 ≤ n = le-div-iff-mul-le (lit< tt) .0 h in omega (arith, suc-mul j 4)
 
+-- a line that is neither the head's nor a list's
+pub behind-lists : (k lists : ℕ) → (k ≡ 0 → ⊥) → lists ≤ k - 1 → k ≡ suc (lists + (k - 1 - lists))
+behind-lists zero lists h g = absurd (h refl)
+behind-lists (suc k) lists h g = omega arith
+
 -- ---- line k
 
 pub shown-length : (head : Head) (steps : List ℕ) → length (shownSteps head steps) ≡ min (length steps / 4) (head .steps)
@@ -107,8 +114,9 @@ module _ (head : Head) (c : List ℤ) (bounds steps : List ℕ) where
         behind (length bounds + j) e
         ∙ getD-right (map listLine (listsIn c bounds)) (map stepLine (shownSteps head steps)) j (length bounds + j) [] (omega (arith, lists-length))
 
-    pub step-line : (j : ℕ) → k ≡ suc (length bounds + j) → j < min (length steps / 4) (head .steps) → stepLine (stepAt steps j) ≡ getD lines k []
-    step-line j e h =
+    pub step-line : (j n : ℕ) → k ≡ suc (length bounds + j) → n ≡ min (length steps / 4) (head .steps) → j < n
+        → stepLine (stepAt steps j) ≡ getD lines k []
+    step-line j n e count h =
         let d = stepAt steps 0 in
         let there : j < length (shownSteps head steps) = omega (arith, shown-length head steps) in
         sym (steps-behind j e
@@ -116,8 +124,8 @@ module _ (head : Head) (c : List ℤ) (bounds steps : List ℕ) where
         ∙ ap stepLine (getD-take (length steps / 4) (lentSteps head steps) j d (omega arith)
         ∙ steps-at steps d 0 (head .steps) j j (omega arith) (omega arith)))
 
-    pub no-line : (j : ℕ) → k ≡ suc (length bounds + j) → min (length steps / 4) (head .steps) ≤ j → getD lines k [] ≡ []
-    no-line j e h =
+    pub no-line : (j n : ℕ) → k ≡ suc (length bounds + j) → n ≡ min (length steps / 4) (head .steps) → n ≤ j → getD lines k [] ≡ []
+    no-line j n e count h =
         steps-behind j e
         ∙ List·getD-eq-default (map stepLine (shownSteps head steps)) []
         (omega (arith, map-length stepLine (shownSteps head steps), shown-length head steps))
@@ -139,3 +147,20 @@ module _ (kind x y z : ℕ) where
 
   pub plain-line : (kind ≡ 1 → ⊥) → (kind ≡ 2 → ⊥) → (kind ≡ 3 → ⊥) → numbersLine letterQ (x ∷ []) ≡ stepLine here
   plain-line e f g = rw (ne-eqb kind 1 e, ne-eqb kind 2 f, ne-eqb kind 3 g)
+
+-- ---- what is found of a list and of the count, as the code finds it
+
+pub part-line : (c : List ℤ) (bounds : List ℕ) (i s : ℕ) {part : List ℤ} → s ≡ startOf bounds i → part ≡ take (endOf bounds i - s) (drop s c)
+    → listLine part ≡ listLine (partOf c bounds i)
+part-line c bounds i s e f = ap listLine (f ∙ ap (λ (n : ℕ). take (endOf bounds i - n) (drop n c)) e)
+
+pub head-shown : (head : Head) (n : ℕ) → n ≡ transformNumber (head .transform)
+    → numbersLine letterH (head .degree ∷ head .base ∷ n ∷ head .ct ∷ head .pt ∷ head .depth ∷ []) ≡ headLine head
+head-shown head n e =
+    ap (λ (k : ℕ). numbersLine letterH (head .degree ∷ head .base ∷ k ∷ head .ct ∷ head .pt ∷ head .depth ∷ [])) e
+
+-- the boundaries that the head counts
+pub counted : (head : Head) (c : List ℤ) (bounds listed steps : List ℕ) {n : ℕ} → n ≡ lineCount head bounds steps
+    → listed ≡ take (head .lists) bounds → n ≡ length (linesOf head (listsIn c listed) (shownSteps head steps))
+counted head c bounds listed steps e f =
+    omega (arith, e, lines-length head c listed steps, ap (λ (l : List ℕ). length l) f, length-take (head .lists) bounds)

@@ -7,7 +7,7 @@ use native.Mathlib.Omega.{arith}
 use borrow.Author.Tests.{leb-true, leb-false}
 use lib.Dec.{leb}
 use lib.ListN.{length, take, drop, length-take, length-drop}
-use lib.Seq.{take-all, take-nil}
+use lib.Seq.{length-take-le, take-all, take-nil}
 
 module _ {A : Type 0} where
   -- as many elements, or all
@@ -45,3 +45,13 @@ module _ {A : Type 0} where
 
   pub part-short : (cs : List A) (from to : ℕ) → length (take (to - from) (drop from cs)) ≤ to
   part-short cs from to = omega (arith, length-take (to - from) (drop from cs))
+
+  -- the first n places, or all
+  pub first-is : (xs : List A) (n e : ℕ) → e ≡ min n (length xs) → take e xs ≡ take n xs
+  first-is xs n e ends = take-same e n xs (omega arith)
+
+  pub from-first : (xs : List A) (n : ℕ) → take (n - 0) (drop 0 xs) ≡ take n xs
+  from-first xs n = let same : n - 0 ≡ n = omega arith in ap (λ (k : ℕ). take k xs) same
+
+  pub first-within : (xs : List A) (n e : ℕ) → e ≡ min n (length xs) → length (take e xs) ≡ e
+  first-within xs n e ends = length-take-le e xs (omega arith)

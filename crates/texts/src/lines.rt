@@ -18,11 +18,12 @@ fn put_head(out: &mut [u8], at: usize, head: Head) -> usize
     requires { ⌜ at < 2 ^ 63 ⌝ }
     ensures { λ r. ⌜ Put (now (out .entry)) at (headLine head) (now (out .exit)) r ⌝ }
 {
-    let transform = transform_number(head.transform);
+    let transform = head.transform;
+    let number = transform_number(transform);
     let ns: [u64; 6] = [
         head.degree as u64,
         head.base as u64,
-        transform as u64,
+        number as u64,
         head.ct as u64,
         head.pt as u64,
         head.depth as u64,
@@ -104,7 +105,15 @@ fn put_list(out: &mut [u8], at: usize, c: &[i64], bounds: &[u16], i: usize) -> u
 }
 
 // Line k of a plan with a list for each boundary, and the place behind it: the same place behind the last line.
-pub fn put_line(out: &mut [u8], at: usize, head: Head, c: &[i64], bounds: &[u16], steps: &[u16], k: usize) -> usize
+pub fn put_line(
+    out: &mut [u8],
+    at: usize,
+    head: Head,
+    c: &[i64],
+    bounds: &[u16],
+    steps: &[u16],
+    k: usize,
+) -> usize
     requires { ⌜ at < 2 ^ 63 ⌝ }
     ensures { λ r. ⌜ Put (now (out .entry)) at
         (getD (linesOf head (listsIn (now (c .entry)) (now (bounds .entry))) (shownSteps head (now (steps .entry)))) k []) (now (out .exit)) r ⌝ }

@@ -33,7 +33,15 @@ fn first_bounds(bounds: &[u16], n: usize) -> &[u16]
 }
 
 // The lines from `from` on of a plan with a list for each boundary, as many as the buffer has room for. There are `count` lines.
-fn put_lines(out: &mut [u8], head: Head, c: &[i64], bounds: &[u16], steps: &[u16], from: usize, count: usize) -> Progress
+fn put_lines(
+    out: &mut [u8],
+    head: Head,
+    c: &[i64],
+    bounds: &[u16],
+    steps: &[u16],
+    from: usize,
+    count: usize,
+) -> Progress
     requires { ⌜ count ≡ length (linesOf head (listsIn (now c) (now bounds)) (shownSteps head (now steps))) ⌝ }
     ensures { λ r. ⌜ PutPlan (linesOf head (listsIn (now (c .entry)) (now (bounds .entry))) (shownSteps head (now (steps .entry)))) from
         (now (out .entry)) (now (out .exit)) r ⌝ }
@@ -52,7 +60,14 @@ fn put_lines(out: &mut [u8], head: Head, c: &[i64], bounds: &[u16], steps: &[u16
 }
 
 // The lines of a plan from line `from` on, in the buffer's first places, as many as it has room for.
-pub fn put_plan(head: Head, coefficients: &[i64], bounds: &[u16], steps: &[u16], from: usize, out: &mut [u8]) -> Progress
+pub fn put_plan(
+    head: Head,
+    coefficients: &[i64],
+    bounds: &[u16],
+    steps: &[u16],
+    from: usize,
+    out: &mut [u8],
+) -> Progress
     ensures { λ r. ⌜ PutPlan (planLines head (now (coefficients .entry)) (now (bounds .entry)) (now (steps .entry))) from (now (out .entry))
         (now (out .exit)) r ⌝ }
 {
