@@ -59,10 +59,10 @@ unfolding decimal
 decimal-few zero h = omega arith
 decimal-few (suc n) h = digits-few 20 (suc n) (suc n) h
 
-pub whole-few : (z : ℤ) → natAbs z < 10 ^ 20 → length (signedDecimal z) ≤ 21
+pub signed-few : (z : ℤ) → natAbs z < 10 ^ 20 → length (signedDecimal z) ≤ 21
 unfolding signedDecimal
-whole-few (pos n) h = omega (arith, decimal-few n h)
-whole-few (negsuc n) h = omega (arith, decimal-few (suc n) h)
+signed-few (pos n) h = omega (arith, decimal-few n h)
+signed-few (negsuc n) h = omega (arith, decimal-few (suc n) h)
 
 -- the text by cases, as the code goes
 pub zero-text : (n : ℕ) → n ≡ 0 → decimal n ≡ 48 ∷ []
@@ -114,9 +114,9 @@ size-most z y same f = rw same (by-sign z f)
     by-sign (negsuc a) f = omega (arith, f .sfits)
 
 -- the text of a number that the machine reads has at most 21 bytes
-pub whole-few-read : (z : ℤ) → mag z < 2 ^ 63 → length (signedDecimal (toZ w64 (ofZ w64 z))) ≤ 21
-whole-few-read z h =
+pub signed-few-read : (z : ℤ) → mag z < 2 ^ 63 → length (signedDecimal (toZ w64 (ofZ w64 z))) ≤ 21
+signed-few-read z h =
     let fits : SFits w64 z = record { sfits = h } in
     let most = size-most z (toZ w64 (ofZ w64 z)) (toZ-ofZ {w = w64} {z = z} fits) fits in
     let less : natAbs (toZ w64 (ofZ w64 z)) < 10 ^ 20 = omega arith in
-    whole-few (toZ w64 (ofZ w64 z)) less
+    signed-few (toZ w64 (ofZ w64 z)) less

@@ -5,3 +5,7 @@ mod TextLaws
 mod PartLaws
 mod LineLaws
 mod Progressing
+pub mod LineCount
+pub mod TextIsLines
+pub mod LineLengths
+pub mod HeldText

@@ -7,7 +7,7 @@ use borrow.Author.Needs.{needs}
 use lib.IntN.{ℤ, pos}
 use lib.Seq.{sets}
 use lib.ListN.{length, getD}
-use Rattle.texts.proofs.DecimalLaws.{whole-few-read}
+use Rattle.texts.proofs.DecimalLaws.{signed-few-read}
 use Rattle.texts.proofs.PutLaws.{put-same, put-length}
 use Rattle.number.proofs.Signed.{back}
 use Rattle.texts.proofs.TextLaws.{restOf, rest-step, rest-end, turn-written, turn-place}
@@ -40,7 +40,7 @@ shared-slice-copy-out-put-signed-field c = search needs
 
 put-signed-field-requires : tie.Need-put-signed-field-requires Inv-loop μ-loop
 put-signed-field-requires c κs =
-    let few = whole-few-read (getD (c .before .before .before .before .before .args .c .now) (c .before .before .before .loop .i) (pos 0)) (c .put-signed-field-arg2 .given) in
+    let few = signed-few-read (getD (c .before .before .before .before .before .args .c .now) (c .before .before .before .loop .i) (pos 0)) (c .put-signed-field-arg2 .given) in
     omega arith
 
 add-i : tie.Need-add-i Inv-loop μ-loop
@@ -54,7 +54,7 @@ loop-again c =
     let loop = c .before .before .before .before .before .before .loop in
     let cs = c .before .before .before .before .before .before .before .before .args .c .now in
     let put = put-same (c .before .before .put-signed-field .ensures) (ap (λ (z : ℤ). 9 ∷ signedDecimal z) (back (c .before .before .before .put-signed-field-arg2 .given) refl)) in
-    let few = whole-few-read (getD cs (loop .i) (pos 0)) (c .before .before .before .put-signed-field-arg2 .given) in
+    let few = signed-few-read (getD cs (loop .i) (pos 0)) (c .before .before .before .put-signed-field-arg2 .given) in
     let step : restOf signedDecimal cs (loop .i) ≡ (9 ∷ signedDecimal (getD cs (loop .i) (pos 0))) ++ restOf signedDecimal cs (loop .i + 1) = rest-step signedDecimal cs (loop .i) (pos 0) (omega arith) in
     record {
       within = omega arith;
