@@ -2,13 +2,13 @@
 -- By recursion on the lists and on the steps.
 use mathlib.Core.Path.{_≡_, refl, ap, ap₂, sym, _∙_}
 use mathlib.Core.List.{List, [], _∷_, _++_, append-assoc}
-use Prim.Native.Nat.{ℕ, zero, suc, _+_, _-_, _*_, _/_, _≤_}
+use Prim.Native.Nat.{ℕ, suc, _+_, _-_, _*_, _/_, _≤_}
 use native.Mathlib.Omega.{arith}
 use lib.IntN.{ℤ}
 use lib.ListN.{length, getD, take, drop, length-append}
 use lib.Seq.{take-all, take-at, drop-at, drop-drop, getD-drop}
 use Rattle.lists.specs.Lists.{joined, endsFrom}
-use Rattle.walk.specs.Boundaries.{startOf, endOf, partOf}
+use Rattle.walk.specs.Boundaries.{startOf, endOf}
 use Rattle.walk.specs.Lent.{stepAt, stepsFrom, lentSteps}
 use Rattle.walk.specs.WalksHeld.{flat}
 use Rattle.walk.specs.declared.plan.Step.{Step}

@@ -5,7 +5,7 @@ use mathlib.Core.List.{List, [], _∷_, _++_, append-assoc, append-nil}
 use Prim.Native.Nat.{ℕ, zero, suc, _+_, _-_, _<_, _≤_}
 use native.Mathlib.Omega.{arith}
 use lib.IntN.{ℤ}
-use lib.ListN.{length, getD, take, drop, set, length-append, length-take}
+use lib.ListN.{length, getD, take, drop, set, length-append}
 use lib.Seq.{sets, sets-eq, take-at, take-set-le, length-take-le, getD-drop}
 use Rattle.lists.specs.Lists.{joined}
 use Rattle.walk.specs.declared.plan.Head.{Head}
@@ -14,6 +14,7 @@ use Rattle.texts.specs.Put.{Put}
 use Rattle.texts.specs.PutPlan.{textBetween, PutPlan}
 use Rattle.texts.specs.declared.plan.Progress.{Progress}
 use Rattle.texts.proofs.PutLaws.{put-length}
+use Rattle.texts.proofs.PartLaws.{from-first}
 
 -- ---- what a text leaves in front of it
 
@@ -129,7 +130,7 @@ module _ (lines : List (List ℕ)) (from : ℕ) where
 
 -- the buffers cut down to what the head counts
 pub of-plan : (head : Head) (coefficients c : List ℤ) (bounds listed steps : List ℕ) {from : ℕ} {first out : List ℕ} {r : Progress}
-    → c ≡ take (head .coefficients) coefficients → listed ≡ take (head .lists) bounds
+    → c ≡ take (head .coefficients - 0) (drop 0 coefficients) → listed ≡ take (head .lists) bounds
     → PutPlan (linesOf head (listsIn c listed) (shownSteps head steps)) from first out r
     → PutPlan (planLines head coefficients bounds steps) from first out r
-of-plan head coefficients c bounds listed steps e f p = rw (e, f) at p
+of-plan head coefficients c bounds listed steps e f p = rw (e ∙ from-first coefficients (head .coefficients), f) at p

@@ -1,4 +1,4 @@
--- Laws of text in a buffer: one text behind another is the two joined.
+-- Text in a buffer: one text put behind another is the two joined, and the buffer keeps its length. By recursion on the text.
 use mathlib.Core.Path.{_≡_, refl, ap, sym, _∙_}
 use mathlib.Core.List.{List, [], _∷_, _++_}
 use Prim.Native.Nat.{ℕ, suc, _+_}

@@ -74,6 +74,6 @@ pub fn put_list_line(out: &mut [u8], at: usize, c: &[i64]) -> usize
     ensures { λ r. ⌜ Put (now (out .entry)) at (listLine (now (c .entry))) (now (out .exit)) r ⌝ }
 {
     let start = put(out, at, b'L');
-    let end = put_signed_fields(out, start, c);
-    put(out, end, b'\n')
+    let behind = put_signed_fields(out, start, c);
+    put(out, behind, b'\n')
 }

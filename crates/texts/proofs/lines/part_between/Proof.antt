@@ -28,7 +28,8 @@ returns c =
     let both = c .before in
     let end = both .before in
     let start = end .before in
-    part-is (start .args .c .now) (start .args .from) (start .args .to) (both .least2 .result) (end .least .result) (end .least .ensures) (both .least2 .ensures)
+    let a = start .args in
+    part-is (a .c .now) (a .from) (a .to) (both .least2 .result) (end .least .result) (end .least .ensures) (both .least2 .ensures)
 
 pub part-between-spec : {M : Type 1} → statement M
 part-between-spec = tie.close (tie.spec least-requires least-requires-2 mul-result sub-result part-result-start part-result-end returns)

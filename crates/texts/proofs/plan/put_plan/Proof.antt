@@ -1,8 +1,6 @@
 -- `texts::plan::put_plan` meets its contract. The coefficients and boundaries are cut down to what the head counts, so the lines that are put of
 -- them are the plan's, and `count` is their number.
 use borrow.Author.Needs.{needs}
-use mathlib.Core.Path.{_∙_}
-use Rattle.texts.proofs.PartLaws.{from-first}
 use Rattle.texts.proofs.LineLaws.{counted}
 use Rattle.texts.proofs.Progressing.{of-plan}
 use Rattle.texts.proofs.plan.put_plan.Statement.{statement}
@@ -36,7 +34,7 @@ returns c =
     let part = listed .before in
     let a = part .before .before .before .before .before .args in
     of-plan (a .head) (a .coefficients .now) (part .part-between .result .now) (a .bounds .now) (listed .first-bounds .result .now) (a .steps .now)
-    (part .part-between .ensures ∙ from-first (a .coefficients .now) (a .head .coefficients)) (listed .first-bounds .ensures) (put .put-lines .ensures)
+    (part .part-between .ensures) (listed .first-bounds .ensures) (put .put-lines .ensures)
 
 pub put-plan-spec : {M : Type 1} → statement M
 put-plan-spec =
