@@ -4,7 +4,9 @@ mod SignLaws
 mod TextLaws
 mod PartLaws
 mod LineLaws
-mod Progressing
+mod LinesInTurn
+pub mod DecimalDigits
+pub mod Pieces
 pub mod LineCount
 pub mod TextIsLines
 pub mod LineLengths

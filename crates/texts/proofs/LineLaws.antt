@@ -1,11 +1,9 @@
 -- The lines of a plan by their number: the head's is line 0, the lists' follow it, and the steps' follow those. By recursion on the counts.
 use mathlib.Core.Path.{_≡_, refl, ap, sym, _∙_}
 use mathlib.Core.List.{List, [], _∷_, _++_, map}
-use Prim.Native.Nat.{ℕ, zero, suc, _+_, _-_, _*_, _/_, _<_, _≤_, min}
-use native.Mathlib.Nat.{suc-mul, le-div-iff-mul-le}
+use Prim.Native.Nat.{ℕ, zero, suc, _+_, _-_, _/_, _<_, _≤_, min}
 use native.Mathlib.Omega.{arith}
 use borrow.Author.Tests.{eq-eqb, ne-eqb}
-use lib.Dec.{lit<}
 use lib.IntN.{ℤ}
 use lib.ListN.{length, getD, take, drop, length-append, length-take, List·getD-append, List·getD-eq-default}
 use lib.Seq.{getD-take}
@@ -62,10 +60,6 @@ start-first bounds i e = rw e
 pub start-later : (bounds : List ℕ) (i : ℕ) → (i ≡ 0 → ⊥) → getD bounds (i - 1) 0 ≡ startOf bounds i
 start-later bounds zero e = absurd (e refl)
 start-later bounds (suc i) e = let one : suc i - 1 ≡ i = omega arith in rw one
-
--- the places that step j has in a buffer of n
-pub step-within : (n j : ℕ) → j < n / 4 → 4 * j + 3 < n
-step-within n j h = let whole : suc j * 4 ≤ n = le-div-iff-mul-le (lit< tt) .0 h in omega (arith, suc-mul j 4)
 
 -- a line that is neither the head's nor a list's
 pub behind-lists : (k lists : ℕ) → (k ≡ 0 → ⊥) → lists ≤ k - 1 → k ≡ suc (lists + (k - 1 - lists))

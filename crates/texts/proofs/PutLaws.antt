@@ -7,7 +7,7 @@ use native.Mathlib.Omega.{arith}
 use lib.ListN.{length, length-append, set}
 use lib.Seq.{sets, length-sets}
 use Rattle.texts.specs.Put.{Put}
-use Rattle.texts.specs.inside.Ends.{Ends}
+use Rattle.texts.specs.inside.EndsIn64Bits.{EndsIn64Bits}
 
 pub sets-append : (l : List ℕ) (i : ℕ) (xs ys : List ℕ) → sets l i (xs ++ ys) ≡ sets (sets l i xs) (i + length xs) ys
 sets-append l i [] ys = rw add-zero
@@ -36,11 +36,11 @@ put-same {out} {out′} {xs} {ys} {at} {r} p e =
     record { buffer = p .buffer ∙ ap (λ (t : List ℕ). sets out at t) e; next = p .next ∙ ap (λ (t : List ℕ). at + length t) e }
 
 -- where a text ends: said otherwise, and in two parts
-pub ends-same : (at : ℕ) {xs ys : List ℕ} → xs ≡ ys → Ends at xs → Ends at ys
+pub ends-same : (at : ℕ) {xs ys : List ℕ} → xs ≡ ys → EndsIn64Bits at xs → EndsIn64Bits at ys
 ends-same at e h = rw e at h
 
-pub ends-first : (at : ℕ) (xs ys : List ℕ) → Ends at (xs ++ ys) → Ends at xs
+pub ends-first : (at : ℕ) (xs ys : List ℕ) → EndsIn64Bits at (xs ++ ys) → EndsIn64Bits at xs
 ends-first at xs ys h = omega (arith, length-append xs ys)
 
-pub ends-second : {out out′ : List ℕ} (at : ℕ) (xs ys : List ℕ) {r : ℕ} → Ends at (xs ++ ys) → Put out at xs out′ r → Ends r ys
+pub ends-second : {out out′ : List ℕ} (at : ℕ) (xs ys : List ℕ) {r : ℕ} → EndsIn64Bits at (xs ++ ys) → Put out at xs out′ r → EndsIn64Bits r ys
 ends-second at xs ys h p = omega (arith, length-append xs ys, p .next)

@@ -10,7 +10,7 @@ use lib.Seq.{sets, drop-cons}
 use Rattle.texts.specs.Bytes.{tab, lineFeed}
 use Rattle.texts.specs.Text.{fieldsText, lineText}
 use Rattle.texts.specs.Put.{Put}
-use Rattle.texts.specs.inside.Ends.{Ends}
+use Rattle.texts.specs.inside.EndsIn64Bits.{EndsIn64Bits}
 use Rattle.texts.proofs.PutLaws.{sets-append, put-length, ends-same, ends-first}
 
 module _ {A : Type 0} (text : A → List ℕ) where
@@ -39,25 +39,25 @@ module _ {A : Type 0} (text : A → List ℕ) where
 -- ---- the loop that puts fields
 
 -- those before element i are put, and what those from i on put behind them makes up the whole
-pub record Fielded {A : Type 0} (text : A → List ℕ) (xs : List A) (from : ℕ) (first out : List ℕ) (at i : ℕ) : Type 0 where
+pub record FieldsSoFar {A : Type 0} (text : A → List ℕ) (xs : List A) (from : ℕ) (first out : List ℕ) (at i : ℕ) : Type 0 where
   pub within : i ≤ length xs
   pub long : length out ≡ length first
   pub written : sets out at (restOf text xs i) ≡ sets first from (fieldsText (map text xs))
   pub place : at + length (restOf text xs i) ≡ from + length (fieldsText (map text xs))
 
 module _ {A : Type 0} (text : A → List ℕ) (xs : List A) (from : ℕ) where
-  pub fields-start : (out : List ℕ) → Fielded text xs from out out from 0
+  pub fields-start : (out : List ℕ) → FieldsSoFar text xs from out out from 0
   fields-start out = record { within = omega arith; long = refl; written = refl; place = refl }
 
-  module _ {first out : List ℕ} {at i : ℕ} (done : Fielded text xs from first out at i) where
+  module _ {first out : List ℕ} {at i : ℕ} (done : FieldsSoFar text xs from first out at i) where
     -- the next field ends where the whole does, or before
-    pub field-ends : (d : A) → i < length xs → Ends from (fieldsText (map text xs)) → Ends at (tab ∷ text (getD xs i d))
+    pub field-ends : (d : A) → i < length xs → EndsIn64Bits from (fieldsText (map text xs)) → EndsIn64Bits at (tab ∷ text (getD xs i d))
     field-ends d h ends =
-        let here : Ends at (restOf text xs i) = omega (arith, done .place) in
+        let here : EndsIn64Bits at (restOf text xs i) = omega (arith, done .place) in
         ends-first at (tab ∷ text (getD xs i d)) (restOf text xs (i + 1)) (ends-same at (rest-step text xs i d h) here)
 
     pub fields-more : (d : A) {left : List ℕ} {r : ℕ} → i < length xs → Put out at (tab ∷ text (getD xs i d)) left r
-        → Fielded text xs from first left r (i + 1)
+        → FieldsSoFar text xs from first left r (i + 1)
     fields-more d {left} {r} h put =
         let field = tab ∷ text (getD xs i d) in
         let step = rest-step text xs i d h in

@@ -9,7 +9,7 @@ ghost use lib.ListN.{set};
 ghost use Rattle.texts.specs.Bytes.{digitZero};
 ghost use Rattle.texts.specs.Decimal.{digitsOf, decimal, signedDecimal};
 ghost use Rattle.texts.specs.Put.{Put};
-ghost use Rattle.texts.specs.inside.Ends.{Ends};
+ghost use Rattle.texts.specs.inside.EndsIn64Bits.{EndsIn64Bits};
 
 // One byte, if the buffer has the place.
 fn store(out: &mut [u8], at: usize, byte: u8)
@@ -22,7 +22,7 @@ fn store(out: &mut [u8], at: usize, byte: u8)
 
 // One byte, and the place behind it.
 pub fn put(out: &mut [u8], at: usize, byte: u8) -> usize
-    requires { ⌜ Ends at (byte ∷ []) ⌝ }
+    requires { ⌜ EndsIn64Bits at (byte ∷ []) ⌝ }
     ensures { λ r. ⌜ Put (now (out .entry)) at (byte ∷ []) (now (out .exit)) r ⌝ }
 {
     store(out, at, byte);
@@ -39,7 +39,7 @@ fn digit(d: u64) -> u8
 
 // The digits of a number; none for 0.
 fn put_digits(out: &mut [u8], at: usize, n: u64) -> usize
-    requires { ⌜ Ends at (digitsOf n) ⌝ }
+    requires { ⌜ EndsIn64Bits at (digitsOf n) ⌝ }
     ensures { λ r. ⌜ Put (now (out .entry)) at (digitsOf n) (now (out .exit)) r ⌝ }
 {
     if n == 0 {
@@ -51,7 +51,7 @@ fn put_digits(out: &mut [u8], at: usize, n: u64) -> usize
 
 // A number.
 pub fn put_number(out: &mut [u8], at: usize, n: u64) -> usize
-    requires { ⌜ Ends at (decimal n) ⌝ }
+    requires { ⌜ EndsIn64Bits at (decimal n) ⌝ }
     ensures { λ r. ⌜ Put (now (out .entry)) at (decimal n) (now (out .exit)) r ⌝ }
 {
     if n == 0 {
@@ -70,7 +70,7 @@ fn magnitude_below(z: i64) -> u64
 
 // A whole number.
 pub fn put_signed(out: &mut [u8], at: usize, z: i64) -> usize
-    requires { ⌜ Ends at (signedDecimal z) ⌝ }
+    requires { ⌜ EndsIn64Bits at (signedDecimal z) ⌝ }
     ensures { λ r. ⌜ Put (now (out .entry)) at (signedDecimal z) (now (out .exit)) r ⌝ }
 {
     if z < 0 {

@@ -9,11 +9,11 @@ ghost use Rattle.texts.specs.Bytes.{tab};
 ghost use Rattle.texts.specs.Decimal.{decimal, signedDecimal};
 ghost use Rattle.texts.specs.Text.{fieldsText, numbersLine, listLine};
 ghost use Rattle.texts.specs.Put.{Put};
-ghost use Rattle.texts.specs.inside.Ends.{Ends};
+ghost use Rattle.texts.specs.inside.EndsIn64Bits.{EndsIn64Bits};
 
 // A tab and a number.
 fn put_number_field(out: &mut [u8], at: usize, n: u64) -> usize
-    requires { ⌜ Ends at (tab ∷ decimal n) ⌝ }
+    requires { ⌜ EndsIn64Bits at (tab ∷ decimal n) ⌝ }
     ensures { λ r. ⌜ Put (now (out .entry)) at (tab ∷ decimal n) (now (out .exit)) r ⌝ }
 {
     let next = put(out, at, b'\t');
@@ -22,7 +22,7 @@ fn put_number_field(out: &mut [u8], at: usize, n: u64) -> usize
 
 // A tab and a whole number.
 fn put_signed_field(out: &mut [u8], at: usize, z: i64) -> usize
-    requires { ⌜ Ends at (tab ∷ signedDecimal z) ⌝ }
+    requires { ⌜ EndsIn64Bits at (tab ∷ signedDecimal z) ⌝ }
     ensures { λ r. ⌜ Put (now (out .entry)) at (tab ∷ signedDecimal z) (now (out .exit)) r ⌝ }
 {
     let next = put(out, at, b'\t');
@@ -31,7 +31,7 @@ fn put_signed_field(out: &mut [u8], at: usize, z: i64) -> usize
 
 // Numbers, with a tab in front of each.
 fn put_number_fields(out: &mut [u8], from: usize, ns: &[u64]) -> usize
-    requires { ⌜ Ends from (fieldsText (map decimal (now ns))) ⌝ }
+    requires { ⌜ EndsIn64Bits from (fieldsText (map decimal (now ns))) ⌝ }
     ensures { λ r. ⌜ Put (now (out .entry)) from (fieldsText (map decimal (now (ns .entry)))) (now (out .exit)) r ⌝ }
 {
     let mut at = from;

@@ -4,12 +4,12 @@ use Prim.Native.Nat.{_-_}
 use borrow.Author.Needs.{needs}
 use lib.ListN.{length}
 use Rattle.texts.specs.Decimal.{decimal}
-use Rattle.texts.proofs.TextLaws.{Fielded, fields-start, field-ends, fields-more, fields-end}
+use Rattle.texts.proofs.TextLaws.{FieldsSoFar, fields-start, field-ends, fields-more, fields-end}
 use Rattle.texts.proofs.fields.put_number_fields.Statement.{statement}
 use Rattle.texts.proofs.fields.put_number_fields.Tie as tie
 
 abbrev Inv-loop : tie.InvT-loop
-Inv-loop out₀ from ns at₀ i₀ out at i = Fielded decimal ns from out₀ out at i
+Inv-loop out₀ from ns at₀ i₀ out at i = FieldsSoFar decimal ns from out₀ out at i
 
 abbrev μ-loop : tie.MeasureT-loop
 μ-loop out₀ from ns at₀ i₀ out at i = length ns - i

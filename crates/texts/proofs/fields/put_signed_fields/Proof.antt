@@ -12,12 +12,12 @@ use Rattle.texts.specs.Bytes.{tab}
 use Rattle.texts.specs.Decimal.{signedDecimal}
 use Rattle.texts.proofs.DecimalLaws.{read, read-few}
 use Rattle.texts.proofs.PutLaws.{put-same}
-use Rattle.texts.proofs.TextLaws.{Fielded, fields-start, fields-more, fields-end}
+use Rattle.texts.proofs.TextLaws.{FieldsSoFar, fields-start, fields-more, fields-end}
 use Rattle.texts.proofs.fields.put_signed_fields.Statement.{statement}
 use Rattle.texts.proofs.fields.put_signed_fields.Tie as tie
 
 abbrev Inv-loop : tie.InvT-loop
-Inv-loop out₀ from c at₀ i₀ out at i = Fielded signedDecimal c from out₀ out at i × (at ≤ from + i * 22)
+Inv-loop out₀ from c at₀ i₀ out at i = FieldsSoFar signedDecimal c from out₀ out at i × (at ≤ from + i * 22)
 
 abbrev μ-loop : tie.MeasureT-loop
 μ-loop out₀ from c at₀ i₀ out at i = length c - i

@@ -3,13 +3,13 @@
 use Prim.Native.Nat.{_-_}
 use native.Mathlib.Omega.{arith}
 use borrow.Author.Needs.{needs}
-use Rattle.texts.proofs.Progressing.{Progressed, progress-start, progress-more, progress-full, progress-end}
+use Rattle.texts.proofs.LinesInTurn.{LinesSoFar, progress-start, progress-more, progress-full, progress-end}
 use Rattle.texts.specs.PlanText.{linesOf, listsIn, shownSteps}
 use Rattle.texts.proofs.plan.put_lines.Statement.{statement}
 use Rattle.texts.proofs.plan.put_lines.Tie as tie
 
 abbrev Inv-loop : tie.InvT-loop
-Inv-loop out₀ head c bounds steps from count at₀ k₀ out at k = Progressed (linesOf head (listsIn c bounds) (shownSteps head steps)) from out₀ out at k
+Inv-loop out₀ head c bounds steps from count at₀ k₀ out at k = LinesSoFar (linesOf head (listsIn c bounds) (shownSteps head steps)) from out₀ out at k
 
 abbrev μ-loop : tie.MeasureT-loop
 μ-loop out₀ head c bounds steps from count at₀ k₀ out at k = count - k

@@ -2,7 +2,7 @@
 -- them are the plan's, and `count` is their number.
 use borrow.Author.Needs.{needs}
 use Rattle.texts.proofs.LineLaws.{counted}
-use Rattle.texts.proofs.Progressing.{of-plan}
+use Rattle.texts.proofs.LinesInTurn.{of-plan}
 use Rattle.texts.proofs.plan.put_plan.Statement.{statement}
 use Rattle.texts.proofs.plan.put_plan.Tie as tie
 

@@ -55,14 +55,14 @@ between-more lines from k h =
     ∙ joined-more (k - from) (drop from lines)
     ∙ ap (λ (n : ℕ). joined (take n (drop from lines))) more
 
-no-lines : (lines : List (List ℕ)) (from : ℕ) → textBetween lines from from ≡ []
+pub no-lines : (lines : List (List ℕ)) (from : ℕ) → textBetween lines from from ≡ []
 unfolding joined
 no-lines lines from = let none : from - from ≡ 0 = omega arith in rw none
 
 -- ---- the loop
 
 -- the lines from `from` up to k are in the buffer, which was `first`
-pub record Progressed (lines : List (List ℕ)) (from : ℕ) (first out : List ℕ) (at k : ℕ) : Type 0 where
+pub record LinesSoFar (lines : List (List ℕ)) (from : ℕ) (first out : List ℕ) (at k : ℕ) : Type 0 where
   pub onward : from ≤ k
   pub last : from ≤ length lines → k ≤ length lines
   pub long : length out ≡ length first
@@ -71,7 +71,7 @@ pub record Progressed (lines : List (List ℕ)) (from : ℕ) (first out : List �
   pub room : at ≤ length first
 
 module _ (lines : List (List ℕ)) (from : ℕ) where
-  pub progress-start : (out : List ℕ) → Progressed lines from out out 0 from
+  pub progress-start : (out : List ℕ) → LinesSoFar lines from out out 0 from
   progress-start out =
       let none = no-lines lines from in
       record {
@@ -83,8 +83,8 @@ module _ (lines : List (List ℕ)) (from : ℕ) where
         room = omega arith;
       }
 
-  module _ {first out left : List ℕ} {at k r : ℕ} (done : Progressed lines from first out at k) (put : Put out at (getD lines k []) left r) where
-    pub progress-more : k < length lines → r ≤ length left → Progressed lines from first left r (k + 1)
+  module _ {first out left : List ℕ} {at k r : ℕ} (done : LinesSoFar lines from first out at k) (put : Put out at (getD lines k []) left r) where
+    pub progress-more : k < length lines → r ≤ length left → LinesSoFar lines from first left r (k + 1)
     progress-more h fits =
         let same = put-length put in
         let more = between-more lines from k (done .onward) in
@@ -116,7 +116,7 @@ module _ (lines : List (List ℕ)) (from : ℕ) where
         }
 
   -- there is no next line
-  pub progress-end : {first out : List ℕ} {at k : ℕ} → Progressed lines from first out at k → length lines ≤ k
+  pub progress-end : {first out : List ℕ} {at k : ℕ} → LinesSoFar lines from first out at k → length lines ≤ k
       → PutPlan lines from first out (record { line = k; bytes = at })
   progress-end done past =
       record {
