@@ -1,4 +1,4 @@
--- Numbers as text: decimal digits without a leading zero, and a minus in front of a number below zero.
+-- Numbers as text (docs/RULES.md, "Lines of planlines"): decimal digits without a leading zero, and a minus in front of a number below zero.
 use mathlib.Core.List.{List, [], _∷_, _++_}
 use Prim.Native.Nat.{ℕ, zero, suc, _+_, _/_, _%_}
 use lib.IntN.{ℤ, pos, negsuc}

@@ -1,4 +1,4 @@
--- What a function that puts text into a buffer leaves there, and answers.
+-- What a call that puts a text into a buffer leaves there, and answers: `put_refusal` puts the line of a refusal from place 0 on.
 use mathlib.Core.Path.{_≡_}
 use mathlib.Core.List.{List}
 use Prim.Native.Nat.{ℕ, _+_}

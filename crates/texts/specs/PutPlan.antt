@@ -1,4 +1,5 @@
--- What `put_plan` leaves in the buffer and answers: as many of a plan's lines, from one of them on, as the buffer has room for.
+-- What `put_plan` leaves in the buffer and answers: as many of a plan's lines (docs/RULES.md, "Lines of planlines"), from one of them on, as the buffer
+-- has room for. Of the places behind them nothing is said.
 use mathlib.Core.Path.{_≡_}
 use mathlib.Core.List.{List, []}
 use Prim.Native.Nat.{ℕ, _+_, _-_, _<_, _≤_}
@@ -12,7 +13,7 @@ textBetween lines from to = joined (take (to - from) (drop from lines))
 
 -- the buffer was `out` and is `left`
 pub record PutPlan (lines : List (List ℕ)) (from : ℕ) (out left : List ℕ) (r : Progress) : Type 0 where
-  -- line r is the first that is not in the buffer
+  -- r .line is the first line that is not in the buffer
   pub onward : from ≤ r .line
   pub last : from ≤ length lines → r .line ≤ length lines
   -- the lines before it fill the buffer's first bytes, none of them cut off

@@ -1,4 +1,5 @@
--- `texts::decimal::magnitude_below` meets its contract: a number below zero, one more, taken from zero, and one more again.
+-- `texts::decimal::magnitude_below` meets its contract. The number plus 1 has an opposite that fits even for the least i64, and 1 more than that
+-- opposite is the magnitude.
 use native.Mathlib.Omega.{arith}
 use Rattle.texts.proofs.SignLaws.{next-fits, taken-fits, size-less, under-small, size-is}
 use Rattle.texts.proofs.decimal.magnitude_below.Statement.{statement}
