@@ -1,0 +1,13 @@
+pub mod Bytes
+pub mod Decimal
+pub mod DecimalDigits
+pub mod Text
+pub mod PlanText
+pub mod Put
+pub mod PutPlan
+pub mod Pieces
+pub mod LineCount
+pub mod TextIsLines
+pub mod LineLengths
+pub mod HeldText
+pub mod inside
