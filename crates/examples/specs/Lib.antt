@@ -5,3 +5,4 @@ pub mod Interpolation
 pub mod Walk
 pub mod Plan
 pub mod Lines
+pub mod Texts

@@ -6,7 +6,7 @@ use native.Mathlib.Nat.{div-lt-self, div-add-mod', mod-lt}
 use native.Mathlib.Omega.{arith}
 use lib.Dec.{lit<}
 use lib.ListN.{length, getD, length-append, List·getD-append}
-use Rattle.texts.specs.Bytes.{digitZero}
+use Rattle.lines.specs.Bytes.{digit0}
 use Rattle.texts.specs.Decimal.{digitsWithin, decimal}
 use Rattle.texts.specs.DecimalDigits.{valueFrom, IsDigit, DecimalDigits}
 
@@ -15,7 +15,7 @@ use Rattle.texts.specs.DecimalDigits.{valueFrom, IsDigit, DecimalDigits}
 value-append : (v : ℕ) (xs ys : List ℕ) → valueFrom v (xs ++ ys) ≡ valueFrom (valueFrom v xs) ys
 unfolding valueFrom
 value-append v [] ys = refl
-value-append v (x ∷ xs) ys = value-append (10 * v + (x - digitZero)) xs ys
+value-append v (x ∷ xs) ys = value-append (10 * v + (x - digit0)) xs ys
 
 value-within : (k n : ℕ) → n ≤ k → valueFrom 0 (digitsWithin k n) ≡ n
 unfolding digitsWithin valueFrom
@@ -25,7 +25,7 @@ value-within (suc k) zero h = refl
 value-within (suc k) (suc n) h =
     let less : suc n / 10 < suc n = div-lt-self (omega arith) (lit< tt) in
     let tenth = value-within k (suc n / 10) (omega arith) in
-    value-append 0 (digitsWithin k (suc n / 10)) ((digitZero + suc n % 10) ∷ []) ∙ omega (arith, tenth, div-add-mod' (suc n) 10)
+    value-append 0 (digitsWithin k (suc n / 10)) ((digit0 + suc n % 10) ∷ []) ∙ omega (arith, tenth, div-add-mod' (suc n) 10)
 
 value-is : (n : ℕ) → valueFrom 0 (decimal n) ≡ n
 unfolding decimal valueFrom
@@ -57,14 +57,14 @@ digits-within (suc k) (suc n) =
 
 digits-are : (n : ℕ) → Digits (decimal n)
 unfolding decimal
-digits-are zero = more {b = digitZero} (record { least = omega arith; most = omega arith }) none
+digits-are zero = more {b = digit0} (record { least = omega arith; most = omega arith }) none
 digits-are (suc n) = digits-within (suc n) (suc n)
 
 -- ---- the first digit
 
 record FirstNotZero (digits : List ℕ) : Type 0 where
   some : 0 < length digits
-  differs : getD digits 0 0 ≡ digitZero → ⊥
+  differs : getD digits 0 0 ≡ digit0 → ⊥
 
 no-digits : (k : ℕ) → digitsWithin k 0 ≡ []
 unfolding digitsWithin
@@ -79,18 +79,18 @@ first-within (suc k) (suc n) h g =
     let less : suc n / 10 < suc n = div-lt-self (omega arith) (lit< tt) in
     by-tenth (suc n / 10) (suc n % 10) (div-add-mod' (suc n) 10) (first-within k (suc n / 10) (omega arith))
   where
-    by-tenth : (q d : ℕ) → q * 10 + d ≡ suc n → (0 < q → FirstNotZero (digitsWithin k q)) → FirstNotZero (digitsWithin k q ++ ((digitZero + d) ∷ []))
-    by-tenth zero d e first = rw (no-digits k) (record { some = omega arith; differs = λ (z : digitZero + d ≡ digitZero). omega arith })
+    by-tenth : (q d : ℕ) → q * 10 + d ≡ suc n → (0 < q → FirstNotZero (digitsWithin k q)) → FirstNotZero (digitsWithin k q ++ ((digit0 + d) ∷ []))
+    by-tenth zero d e first = rw (no-digits k) (record { some = omega arith; differs = λ (z : digit0 + d ≡ digit0). omega arith })
     by-tenth (suc q) d e first =
-        let last = (digitZero + d) ∷ [] in
+        let last = (digit0 + d) ∷ [] in
         let f : FirstNotZero (digitsWithin k (suc q)) = first (omega arith) in
         let same = List·getD-append (digitsWithin k (suc q)) last 0 0 (f .some) in
         record {
           some = omega (arith, length-append (digitsWithin k (suc q)) last, f .some);
-          differs = λ (z : getD (digitsWithin k (suc q) ++ last) 0 0 ≡ digitZero). f .differs (omega (arith, same));
+          differs = λ (z : getD (digitsWithin k (suc q) ++ last) 0 0 ≡ digit0). f .differs (omega (arith, same));
         }
 
-first-is : (n : ℕ) → getD (decimal n) 0 0 ≡ digitZero → n ≡ 0
+first-is : (n : ℕ) → getD (decimal n) 0 0 ≡ digit0 → n ≡ 0
 unfolding decimal
 first-is zero e = refl
 first-is (suc n) e = absurd (first-within (suc n) (suc n) (omega arith) (omega arith) .differs e)

@@ -14,7 +14,7 @@ use lib.ListN.{length, length-append}
 use mir.Syntax.{w64}
 use mir.Val.{SFits, toZ, ofZ}
 use mir.Facts.{toZ-ofZ}
-use Rattle.texts.specs.Bytes.{minusSign, digitZero}
+use Rattle.lines.specs.Bytes.{minus, digit0}
 use Rattle.texts.specs.Put.{Put}
 use Rattle.texts.proofs.PutLaws.{put-then, put-same}
 use Rattle.texts.specs.Decimal.{digitsWithin, digitsOf, decimal, signedDecimal}
@@ -30,19 +30,19 @@ enough (suc k) zero (suc n) h g = absurd (omega arith)
 enough (suc k) (suc j) zero h g = refl
 enough (suc k) (suc j) (suc n) h g =
     let less : suc n / 10 < suc n = div-lt-self (omega arith) (lit< tt) in
-    ap (λ (ds : List ℕ). ds ++ ((digitZero + suc n % 10) ∷ [])) (enough k j (suc n / 10) (omega arith) (omega arith))
+    ap (λ (ds : List ℕ). ds ++ ((digit0 + suc n % 10) ∷ [])) (enough k j (suc n / 10) (omega arith) (omega arith))
 
 -- 0 has no digits, and any other number one more than a tenth of it
 pub no-digits : (n : ℕ) → n ≡ 0 → digitsOf n ≡ []
 unfolding digitsWithin
 no-digits n e = rw e
 
-pub digits-last : (n : ℕ) → (n ≡ 0 → ⊥) → digitsOf n ≡ digitsOf (n / 10) ++ ((digitZero + n % 10) ∷ [])
+pub digits-last : (n : ℕ) → (n ≡ 0 → ⊥) → digitsOf n ≡ digitsOf (n / 10) ++ ((digit0 + n % 10) ∷ [])
 unfolding digitsWithin
 digits-last zero h = absurd (h refl)
 digits-last (suc n) h =
     let less : suc n / 10 < suc n = div-lt-self (omega arith) (lit< tt) in
-    ap (λ (ds : List ℕ). ds ++ ((digitZero + suc n % 10) ∷ [])) (enough n (suc n / 10) (suc n / 10) (omega arith) (omega arith))
+    ap (λ (ds : List ℕ). ds ++ ((digit0 + suc n % 10) ∷ [])) (enough n (suc n / 10) (suc n / 10) (omega arith) (omega arith))
 
 -- a number below 10^m has at most m digits
 pub digits-few : (m k n : ℕ) → n < 10 ^ m → length (digitsWithin k n) ≤ m
@@ -53,7 +53,7 @@ digits-few zero (suc k) (suc n) h = absurd (omega arith)
 digits-few (suc m) (suc k) (suc n) h =
     let big : suc n < 10 ^ m * 10 = rw pow-suc at h in
     let tenth : suc n / 10 < 10 ^ m = div-lt-iff-lt-mul (lit< tt) .1 big in
-    omega (arith, digits-few m k (suc n / 10) tenth, length-append (digitsWithin k (suc n / 10)) ((digitZero + suc n % 10) ∷ []))
+    omega (arith, digits-few m k (suc n / 10) tenth, length-append (digitsWithin k (suc n / 10)) ((digit0 + suc n % 10) ∷ []))
 
 -- a number of 64 bits has at most 20 digits as text, and with a sign at most 21 bytes
 pub decimal-few : (n : ℕ) → n < 10 ^ 20 → length (decimal n) ≤ 20
@@ -67,7 +67,7 @@ signed-few (pos n) h = omega (arith, decimal-few n h)
 signed-few (negsuc n) h = omega (arith, decimal-few (suc n) h)
 
 -- the text by cases, as the code goes
-pub zero-text : (n : ℕ) → n ≡ 0 → decimal n ≡ digitZero ∷ []
+pub zero-text : (n : ℕ) → n ≡ 0 → decimal n ≡ digit0 ∷ []
 unfolding decimal
 zero-text n e = rw e
 
@@ -78,14 +78,14 @@ digits-text (suc n) h = refl
 
 -- how many digits there are
 pub digits-length : (n : ℕ) → (n ≡ 0 → ⊥) → length (digitsOf n) ≡ length (digitsOf (n / 10)) + 1
-digits-length n h = ap (λ (ds : List ℕ). length ds) (digits-last n h) ∙ length-append (digitsOf (n / 10)) ((digitZero + n % 10) ∷ [])
+digits-length n h = ap (λ (ds : List ℕ). length ds) (digits-last n h) ∙ length-append (digitsOf (n / 10)) ((digit0 + n % 10) ∷ [])
 
 pub tenth-less : (n : ℕ) → (n ≡ 0 → ⊥) → n / 10 < n
 tenth-less zero h = absurd (h refl)
 tenth-less (suc n) h = div-lt-self (omega arith) (lit< tt)
 
 -- the last digit behind the others
-pub digits-then : {out out′ out″ : List ℕ} {at r s : ℕ} (n d : ℕ) → (n ≡ 0 → ⊥) → Put out at (digitsOf (n / 10)) out′ r → d ≡ digitZero + n % 10
+pub digits-then : {out out′ out″ : List ℕ} {at r s : ℕ} (n d : ℕ) → (n ≡ 0 → ⊥) → Put out at (digitsOf (n / 10)) out′ r → d ≡ digit0 + n % 10
     → Put out′ r (d ∷ []) out″ s → Put out at (digitsOf n) out″ s
 digits-then n d h p e q =
     put-same (put-then p q) (ap (λ (b : ℕ). digitsOf (n / 10) ++ (b ∷ [])) e ∙ sym (digits-last n h))
@@ -97,13 +97,13 @@ read z = toZ w64 (ofZ w64 z)
 
 module _ (z : ℤ) (fits : SFits w64 z) where
   -- a minus and the magnitude, or the number itself
-  pub below-text : (n : ℕ) → ltZ (read z) (pos 0) ≡ true → n ≡ natAbs (read z) → (minusSign ∷ []) ++ decimal n ≡ signedDecimal z
+  pub below-text : (n : ℕ) → ltZ (read z) (pos 0) ≡ true → n ≡ natAbs (read z) → (minus ∷ []) ++ decimal n ≡ signedDecimal z
   unfolding signedDecimal
   below-text n h e = by-sign z (rw (toZ-ofZ fits) at h) (e ∙ ap natAbs (toZ-ofZ fits))
     where
-      by-sign : (y : ℤ) → ltZ y (pos 0) ≡ true → n ≡ natAbs y → (minusSign ∷ []) ++ decimal n ≡ signedDecimal y
+      by-sign : (y : ℤ) → ltZ y (pos 0) ≡ true → n ≡ natAbs y → (minus ∷ []) ++ decimal n ≡ signedDecimal y
       by-sign (pos a) h e = absurd (omega (arith, ltb-true a 0 h))
-      by-sign (negsuc a) h e = ap (λ (k : ℕ). minusSign ∷ decimal k) e
+      by-sign (negsuc a) h e = ap (λ (k : ℕ). minus ∷ decimal k) e
 
   pub above-text : (n : ℕ) → ltZ (read z) (pos 0) ≡ false → n ≡ natAbs (read z) → decimal n ≡ signedDecimal z
   unfolding signedDecimal

@@ -13,7 +13,7 @@ use Rattle.walk.specs.Boundaries.{startOf, endOf, partOf}
 use Rattle.walk.specs.Lent.{stepAt, stepsFrom, lentSteps}
 use Rattle.walk.specs.declared.plan.Head.{Head}
 use Rattle.walk.specs.declared.plan.Step.{Step}
-use Rattle.texts.specs.Bytes.{letterB, letterG, letterH, letterP, letterQ}
+use Rattle.lines.specs.Bytes.{letterB, letterG, letterH, letterP, letterQ}
 use Rattle.texts.specs.Text.{numbersLine, listLine}
 use Rattle.texts.specs.PlanText.{headLine, stepLine, linesOf, partsFrom, listsIn, shownSteps}
 use Rattle.texts.specs.LineCount.{lineCount}

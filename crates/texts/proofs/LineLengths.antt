@@ -12,7 +12,7 @@ use Rattle.algebra.specs.declared.PolynomialInputTransform.the-variants.{Identi
 use Rattle.number.specs.Exact.{Within}
 use Rattle.number.proofs.Within.{within-at}
 use Rattle.walk.specs.declared.plan.Step.{Step}
-use Rattle.texts.specs.Bytes.{lineFeed, letterB, letterG, letterH, letterL, letterP, letterQ, letterR}
+use Rattle.lines.specs.Bytes.{lineFeed, letterB, letterG, letterH, letterL, letterP, letterQ, letterR}
 use Rattle.texts.specs.Decimal.{decimal, signedDecimal}
 use Rattle.texts.specs.Text.{fieldsText, lineText, numbersLine, listLine}
 use Rattle.texts.specs.PlanText.{stepLine}

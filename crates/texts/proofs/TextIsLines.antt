@@ -10,7 +10,7 @@ use lib.ListN.{length, getD}
 use Rattle.algebra.specs.EnumNumbers.{transformNumber}
 use Rattle.walk.specs.declared.plan.Head.{Head}
 use Rattle.walk.specs.declared.plan.Step.{Step}
-use Rattle.texts.specs.Bytes.{tab, lineFeed, minusSign, digitZero, letterB, letterG, letterH, letterL, letterP, letterQ, letterR}
+use Rattle.lines.specs.Bytes.{tab, lineFeed, minus, digit0, letterB, letterG, letterH, letterL, letterP, letterQ, letterR}
 use Rattle.texts.specs.Decimal.{digitsWithin, decimal, signedDecimal}
 use Rattle.texts.specs.Text.{fieldsText, lineText, numbersLine, listLine}
 use Rattle.texts.specs.PlanText.{headLine, stepLine, linesOf, shownLists, shownSteps}
@@ -31,17 +31,17 @@ unfolding digitsWithin
 digits-no-feed zero n = none
 digits-no-feed (suc k) zero = none
 digits-no-feed (suc k) (suc n) =
-    both (digits-no-feed k (suc n / 10)) (more (λ (e : digitZero + suc n % 10 ≡ lineFeed). omega arith) none)
+    both (digits-no-feed k (suc n / 10)) (more (λ (e : digit0 + suc n % 10 ≡ lineFeed). omega arith) none)
 
 decimal-no-feed : (n : ℕ) → NoFeed (decimal n)
 unfolding decimal
-decimal-no-feed zero = more (λ (e : digitZero ≡ lineFeed). omega arith) none
+decimal-no-feed zero = more (λ (e : digit0 ≡ lineFeed). omega arith) none
 decimal-no-feed (suc n) = digits-no-feed (suc n) (suc n)
 
 signed-no-feed : (z : ℤ) → NoFeed (signedDecimal z)
 unfolding signedDecimal
 signed-no-feed (pos n) = decimal-no-feed n
-signed-no-feed (negsuc n) = more (λ (e : minusSign ≡ lineFeed). omega arith) (decimal-no-feed (suc n))
+signed-no-feed (negsuc n) = more (λ (e : minus ≡ lineFeed). omega arith) (decimal-no-feed (suc n))
 
 fields-no-feed : {A : Type 0} (text : A → List ℕ) → ((x : A) → NoFeed (text x)) → (xs : List A) → NoFeed (fieldsText (map text xs))
 unfolding fieldsText

@@ -7,7 +7,7 @@ use native.Mathlib.Numerals.{add-one}
 use native.Mathlib.Omega.{arith}
 use lib.ListN.{length, getD, drop, length-append, drop-of-length-le}
 use lib.Seq.{sets, drop-cons}
-use Rattle.texts.specs.Bytes.{tab, lineFeed}
+use Rattle.lines.specs.Bytes.{tab, lineFeed}
 use Rattle.texts.specs.Text.{fieldsText, lineText}
 use Rattle.texts.specs.Put.{Put}
 use Rattle.texts.specs.inside.EndsIn64Bits.{EndsIn64Bits}

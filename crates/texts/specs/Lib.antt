@@ -1,4 +1,3 @@
-pub mod Bytes
 pub mod Decimal
 pub mod DecimalDigits
 pub mod Text

@@ -11,7 +11,7 @@ use Rattle.walk.specs.Boundaries.{partOf}
 use Rattle.walk.specs.Lent.{lentSteps}
 use Rattle.walk.specs.declared.plan.Head.{Head}
 use Rattle.walk.specs.declared.plan.Step.{Step}
-use Rattle.texts.specs.Bytes.{letterB, letterG, letterH, letterP, letterQ}
+use Rattle.lines.specs.Bytes.{letterB, letterG, letterH, letterP, letterQ}
 use Rattle.texts.specs.Text.{numbersLine, listLine}
 
 -- H: degree, base, the transform's number, ct-ct, pt-ct, depth

@@ -2,7 +2,7 @@
 use mathlib.Core.List.{List, [], _∷_, _++_, map}
 use Prim.Native.Nat.{ℕ}
 use lib.IntN.{ℤ}
-use Rattle.texts.specs.Bytes.{tab, lineFeed, letterL, letterR}
+use Rattle.lines.specs.Bytes.{tab, lineFeed, letterL, letterR}
 use Rattle.texts.specs.Decimal.{decimal, signedDecimal}
 
 -- fields one after another, a tab in front of each

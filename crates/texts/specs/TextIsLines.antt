@@ -5,7 +5,7 @@ use Prim.Native.Nat.{ℕ, suc, _<_}
 use lib.IntN.{ℤ}
 use lib.ListN.{length, getD}
 use Rattle.walk.specs.declared.plan.Head.{Head}
-use Rattle.texts.specs.Bytes.{lineFeed}
+use Rattle.lines.specs.Bytes.{lineFeed}
 use Rattle.texts.specs.Text.{refusalLine}
 use Rattle.texts.specs.PlanText.{planLines}
 

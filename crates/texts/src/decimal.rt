@@ -6,7 +6,7 @@ ghost use mathlib.Core.Bool.{true};
 ghost use lib.IntN.{natAbs, pos};
 ghost use lib.Signed.{ltZ};
 ghost use lib.ListN.{set};
-ghost use Rattle.texts.specs.Bytes.{digitZero};
+ghost use Rattle.lines.specs.Bytes.{digit0};
 ghost use Rattle.texts.specs.Decimal.{digitsOf, decimal, signedDecimal};
 ghost use Rattle.texts.specs.Put.{Put};
 ghost use Rattle.texts.specs.inside.EndsIn64Bits.{EndsIn64Bits};
@@ -32,7 +32,7 @@ pub fn put(out: &mut [u8], at: usize, byte: u8) -> usize
 // A digit as text.
 fn digit(d: u64) -> u8
     requires { ⌜ d < 10 ⌝ }
-    ensures { λ r. ⌜ r ≡ digitZero + d ⌝ }
+    ensures { λ r. ⌜ r ≡ digit0 + d ⌝ }
 {
     b'0' + d as u8
 }

@@ -5,7 +5,7 @@ use crate::decimal::put_signed;
 ghost use mathlib.Core.List.{_∷_, map};
 ghost use Prim.Native.Nat.{_+_, _*_, _≤_, _<_, _^_};
 ghost use lib.ListN.{length};
-ghost use Rattle.texts.specs.Bytes.{tab};
+ghost use Rattle.lines.specs.Bytes.{tab};
 ghost use Rattle.texts.specs.Decimal.{decimal, signedDecimal};
 ghost use Rattle.texts.specs.Text.{fieldsText, numbersLine, listLine};
 ghost use Rattle.texts.specs.Put.{Put};

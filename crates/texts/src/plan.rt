@@ -1,7 +1,7 @@
 // The text of a plan, as much of it at a time as a buffer has room for.
-use crate::lines::least;
-use crate::lines::part_between;
-use crate::lines::put_line;
+use crate::line::least;
+use crate::line::part_between;
+use crate::line::put_line;
 use walk::Head;
 ghost use mathlib.Core.Path.{_≡_};
 ghost use lib.ListN.{length, take};

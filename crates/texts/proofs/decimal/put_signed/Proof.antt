@@ -6,7 +6,7 @@ use native.Mathlib.Omega.{arith}
 use borrow.Author.Needs.{needs}
 use lib.IntN.{natAbs}
 use Rattle.number.proofs.Signed.{nonnegative}
-use Rattle.texts.specs.Bytes.{minusSign}
+use Rattle.lines.specs.Bytes.{minus}
 use Rattle.texts.specs.Decimal.{decimal}
 use Rattle.texts.proofs.DecimalLaws.{read, magnitude-most, below-text, above-text}
 use Rattle.texts.proofs.PutLaws.{put-same, put-then, ends-same, ends-first, ends-second}
@@ -19,7 +19,7 @@ put-requires c κs =
     let start = test .before .before in
     let a = start .args in
     let n = natAbs (read (a .z)) in
-    ends-first (a .at) (minusSign ∷ []) (decimal n)
+    ends-first (a .at) (minus ∷ []) (decimal n)
     (ends-same (a .at) (sym (below-text (a .z) (start .fits .z) n (test .if1 .taken) refl)) (start .pre))
 
 magnitude-below-requires : tie.Need-magnitude-below-requires
@@ -32,7 +32,7 @@ put-number-requires c κs =
     let start = test .before .before in
     let a = start .args in
     let n = c .magnitude-below .result in
-    ends-second (a .at) (minusSign ∷ []) (decimal n)
+    ends-second (a .at) (minus ∷ []) (decimal n)
     (ends-same (a .at) (sym (below-text (a .z) (start .fits .z) n (test .if1 .taken) (c .magnitude-below .ensures))) (start .pre))
     (sign .put .ensures)
 

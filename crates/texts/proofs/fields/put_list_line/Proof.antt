@@ -3,7 +3,7 @@
 use mathlib.Core.List.{map}
 use native.Mathlib.Omega.{arith}
 use borrow.Author.Needs.{needs}
-use Rattle.texts.specs.Bytes.{letterL}
+use Rattle.lines.specs.Bytes.{letterL}
 use Rattle.texts.specs.Decimal.{signedDecimal}
 use Rattle.texts.proofs.PutLaws.{put-then, put-same}
 use Rattle.texts.proofs.TextLaws.{line-parts}

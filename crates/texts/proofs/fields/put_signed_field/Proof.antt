@@ -3,7 +3,7 @@ use mathlib.Core.Path.{sym, ap}
 use mathlib.Core.List.{[], _∷_}
 use borrow.Author.Needs.{needs}
 use mir.Facts.{toZ-ofZ}
-use Rattle.texts.specs.Bytes.{tab}
+use Rattle.lines.specs.Bytes.{tab}
 use Rattle.texts.specs.Decimal.{signedDecimal}
 use Rattle.texts.proofs.PutLaws.{put-same, ends-same, put-then, ends-first, ends-second}
 use Rattle.texts.proofs.fields.put_signed_field.Statement.{statement}

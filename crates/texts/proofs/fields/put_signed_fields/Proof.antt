@@ -8,7 +8,7 @@ use borrow.Author.Needs.{needs}
 use lib.IntN.{ℤ, pos}
 use lib.ListN.{length, getD}
 use Rattle.number.proofs.Signed.{back}
-use Rattle.texts.specs.Bytes.{tab}
+use Rattle.lines.specs.Bytes.{tab}
 use Rattle.texts.specs.Decimal.{signedDecimal}
 use Rattle.texts.proofs.DecimalLaws.{read, read-few}
 use Rattle.texts.proofs.PutLaws.{put-same}

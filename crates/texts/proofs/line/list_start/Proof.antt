@@ -1,10 +1,10 @@
--- `texts::lines::list_start` meets its contract. The first list starts at place 0, and each other one where the list before it ends.
+-- `texts::line::list_start` meets its contract. The first list starts at place 0, and each other one where the list before it ends.
 use Prim.Native.Nat.{_-_}
 use native.Mathlib.Omega.{arith}
 use borrow.Author.Needs.{needs}
 use Rattle.texts.proofs.LineLaws.{start-first, start-later}
-use Rattle.texts.proofs.lines.list_start.Statement.{statement}
-use Rattle.texts.proofs.lines.list_start.Tie as tie
+use Rattle.texts.proofs.line.list_start.Statement.{statement}
+use Rattle.texts.proofs.line.list_start.Tie as tie
 
 returns : tie.Need-returns
 returns c = start-first (c .before .args .bounds .now) (c .before .args .i) (c .if1 .taken)

@@ -1,9 +1,9 @@
--- `texts::lines::put_head` meets its contract. The six numbers are those of the head, the transform by its number.
+-- `texts::line::put_head` meets its contract. The six numbers are those of the head, the transform by its number.
 use borrow.Author.Needs.{needs}
 use Rattle.texts.proofs.LineLaws.{head-shown}
 use Rattle.texts.proofs.PutLaws.{put-same}
-use Rattle.texts.proofs.lines.put_head.Statement.{statement}
-use Rattle.texts.proofs.lines.put_head.Tie as tie
+use Rattle.texts.proofs.line.put_head.Statement.{statement}
+use Rattle.texts.proofs.line.put_head.Tie as tie
 
 transform-number-requires : tie.Need-transform-number-requires
 transform-number-requires c κs = search needs

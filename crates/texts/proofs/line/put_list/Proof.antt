@@ -1,4 +1,4 @@
--- `texts::lines::put_list` meets its contract. The part between where the list starts and its boundary is the list, and a boundary of 16 bits
+-- `texts::line::put_list` meets its contract. The part between where the list starts and its boundary is the list, and a boundary of 16 bits
 -- keeps it short enough for a line.
 use mathlib.Core.List.{List}
 use mathlib.Core.Path.{ap}
@@ -9,8 +9,8 @@ use lib.IntN.{ℤ}
 use Rattle.texts.proofs.LineLaws.{part-line}
 use Rattle.texts.proofs.PutLaws.{put-same}
 use Rattle.texts.proofs.PartLaws.{part-short}
-use Rattle.texts.proofs.lines.put_list.Statement.{statement}
-use Rattle.texts.proofs.lines.put_list.Tie as tie
+use Rattle.texts.proofs.line.put_list.Statement.{statement}
+use Rattle.texts.proofs.line.put_list.Tie as tie
 
 list-start-requires : tie.Need-list-start-requires
 list-start-requires c κs = search needs

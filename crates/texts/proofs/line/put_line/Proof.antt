@@ -1,4 +1,4 @@
--- `texts::lines::put_line` meets its contract. Line 0 is the head's, the lines up to the number of boundaries are the lists', and the steps' follow
+-- `texts::line::put_line` meets its contract. Line 0 is the head's, the lines up to the number of boundaries are the lists', and the steps' follow
 -- them. Behind the last there is no line, and nothing is put.
 use mathlib.Core.Path.{sym}
 use Prim.Native.Nat.{_-_}
@@ -7,8 +7,8 @@ use borrow.Author.Needs.{needs}
 use lib.ListN.{length}
 use Rattle.texts.proofs.LineLaws.{behind-lists, head-line, list-line, step-line, no-line}
 use Rattle.texts.proofs.PutLaws.{put-same, put-none}
-use Rattle.texts.proofs.lines.put_line.Statement.{statement}
-use Rattle.texts.proofs.lines.put_line.Tie as tie
+use Rattle.texts.proofs.line.put_line.Statement.{statement}
+use Rattle.texts.proofs.line.put_line.Tie as tie
 
 put-head-requires : tie.Need-put-head-requires
 put-head-requires c κs = search needs

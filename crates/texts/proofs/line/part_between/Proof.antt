@@ -1,9 +1,9 @@
--- `texts::lines::part_between` meets its contract. Both places are cut down to the length, so the part is there, and it is the part asked for as
+-- `texts::line::part_between` meets its contract. Both places are cut down to the length, so the part is there, and it is the part asked for as
 -- far as the list has it.
 use borrow.Author.Needs.{needs}
 use Rattle.texts.proofs.PartLaws.{part-is}
-use Rattle.texts.proofs.lines.part_between.Statement.{statement}
-use Rattle.texts.proofs.lines.part_between.Tie as tie
+use Rattle.texts.proofs.line.part_between.Statement.{statement}
+use Rattle.texts.proofs.line.part_between.Tie as tie
 
 least-requires : tie.Need-least-requires
 least-requires c κs = search needs

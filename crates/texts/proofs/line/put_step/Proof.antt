@@ -1,9 +1,9 @@
--- `texts::lines::put_step` meets its contract. The tests of the kind go as the definition's do, and each arm puts the line of its kind.
+-- `texts::line::put_step` meets its contract. The tests of the kind go as the definition's do, and each arm puts the line of its kind.
 use borrow.Author.Needs.{needs}
 use Rattle.texts.proofs.LineLaws.{make-line, load-line, combine-line, plain-line}
 use Rattle.texts.proofs.PutLaws.{put-same}
-use Rattle.texts.proofs.lines.put_step.Statement.{statement}
-use Rattle.texts.proofs.lines.put_step.Tie as tie
+use Rattle.texts.proofs.line.put_step.Statement.{statement}
+use Rattle.texts.proofs.line.put_step.Tie as tie
 
 slice-aggregate-put-numbers-line : tie.Need-slice-aggregate-put-numbers-line
 slice-aggregate-put-numbers-line c = search needs
