@@ -1,6 +1,6 @@
 -- The list calls' tests: what holds where none of them does, what an early one leaves of the others, and the shape after a refusal and without one.
 use mathlib.Core.Path.{_≡_, refl, _∙_}
-use mathlib.Core.Bool.{Bool, true, false}
+use mathlib.Core.Bool.{Bool, true}
 use mathlib.Core.List.{List, [], _∷_, _++_}
 use Prim.Native.Nat.{ℕ, zero, suc, _-_, _^_, _≤_, _<_}
 use native.Mathlib.Omega.{arith}
@@ -9,23 +9,9 @@ use Rattle.number.specs.Limits.{planLimit}
 use Rattle.number.specs.Refusal.{Test, firstRefusal, unlessRefused, Numbered, NoneHolds}
 use Rattle.number.specs.Tests.{noBoundaries}
 use Rattle.number.specs.inside.Between.{Between}
-use Rattle.number.proofs.Refusal.{none-holds}
+use Rattle.number.proofs.Refusal.{none-holds, first-kept, first-of-more}
 use Rattle.lists.specs.ListCall.{noLists}
 use Rattle.lists.specs.inside.Shape.{earlyTests, earlyRefusal, refusalBy, shapeOf}
-
--- ---- tests behind others
-
--- a refusal is the same whatever tests follow
-pub first-kept : (tests more : List Test) → 0 < firstRefusal tests → firstRefusal (tests ++ more) ≡ firstRefusal tests
-first-kept [] more some = absurd (omega arith)
-first-kept ((true, k) ∷ tests) more some = refl
-first-kept ((false, k) ∷ tests) more some = first-kept tests more some
-
--- where none holds, those that follow decide
-pub first-of-more : (tests more : List Test) → Numbered tests → firstRefusal tests ≡ 0 → firstRefusal (tests ++ more) ≡ firstRefusal more
-first-of-more [] more numbered none = refl
-first-of-more ((true, k) ∷ tests) more numbered none = absurd (omega (arith, numbered .0))
-first-of-more ((false, k) ∷ tests) more numbered none = first-of-more tests more (numbered .1) none
 
 -- ---- the tests of the list calls
 

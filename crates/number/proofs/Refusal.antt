@@ -1,7 +1,7 @@
--- What a refusal says, for every list of tests, and what a refused and an accepted call leave. By recursion on the tests.
+-- What a refusal says, for every list of tests and with others behind it, and what a refused and an accepted call leave. By recursion on the tests.
 use mathlib.Core.Path.{_≡_, refl}
 use mathlib.Core.Bool.{true, false}
-use mathlib.Core.List.{List, [], _∷_}
+use mathlib.Core.List.{List, [], _∷_, _++_}
 use Prim.Native.Nat.{ℕ, zero, suc, _<_}
 use native.Mathlib.Omega.{arith}
 use Rattle.number.specs.Refusal.{Test, firstRefusal, unlessRefused, Numbered, NoneHolds, FirstHolds, here, later, RefusalsSay}
@@ -20,6 +20,18 @@ first-holds ((false, k) ∷ tests) numbered some = later (first-holds tests (num
 
 pub refusals-say : RefusalsSay
 refusals-say tests numbered = record { accepted = none-holds tests numbered; refused = first-holds tests numbered }
+
+-- a refusal is the same whatever tests follow
+pub first-kept : (tests more : List Test) → 0 < firstRefusal tests → firstRefusal (tests ++ more) ≡ firstRefusal tests
+first-kept [] more some = absurd (omega arith)
+first-kept ((true, k) ∷ tests) more some = refl
+first-kept ((false, k) ∷ tests) more some = first-kept tests more some
+
+-- where none holds, those that follow decide
+pub first-of-more : (tests more : List Test) → Numbered tests → firstRefusal tests ≡ 0 → firstRefusal (tests ++ more) ≡ firstRefusal more
+first-of-more [] more numbered none = refl
+first-of-more ((true, k) ∷ tests) more numbered none = absurd (omega (arith, numbered .0))
+first-of-more ((false, k) ∷ tests) more numbered none = first-of-more tests more (numbered .1) none
 
 -- what a refused call answers or leaves, and what an accepted one does
 pub when-refused : {X : Type 0} (k : ℕ) (accepted refused : X) → 0 < k → refused ≡ unlessRefused k accepted refused

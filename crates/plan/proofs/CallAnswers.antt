@@ -12,9 +12,8 @@ use Rattle.algebra.specs.declared.Basis.{Basis}
 use Rattle.algebra.specs.declared.Parity.{Parity}
 use Rattle.number.specs.Refusal.{Numbered, firstRefusal}
 use Rattle.number.specs.Tests.{isFull}
-use Rattle.number.proofs.Refusal.{when-refused, when-accepted}
+use Rattle.number.proofs.Refusal.{first-kept, first-of-more, when-refused, when-accepted}
 use Rattle.counts.specs.declared.choice.SplitStrategy.{SplitStrategy}
-use Rattle.lists.proofs.Shape.{first-kept, first-of-more}
 use Rattle.walk.specs.declared.plan.Head.{Head}
 use Rattle.plan.specs.PlanHead.{headOf, noHead}
 use Rattle.plan.specs.PlanCall.{plannedParity, plannedTransform, inputTests, Accepted, headFor, planRefusal}
