@@ -8,7 +8,7 @@ use Rattle.demands.proofs.Counted.{plans-report, transform-costs, min-m
 use Rattle.demands.proofs.Total.{plans-total, plans-made, plan-order, folds-total, lists-total, trials-total, interpolations-total, numbers-total}
 use Rattle.demands.proofs.Equal.{published, floats-equal, plans-equal}
 use Rattle.demands.proofs.HeadTold.{heads-told}
-use Rattle.demands.proofs.FitLaws.{plans-fit}
+use Rattle.demands.proofs.Fits.{plans-fit}
 
 pub total : Total
 total = record {

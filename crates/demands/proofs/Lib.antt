@@ -3,7 +3,6 @@ mod PowerRun
 mod TreeRun
 mod PlanRun
 mod Refusals
-mod StepsRead
 mod StepKinds
 mod Pairs
 pub mod Accepts
@@ -12,7 +11,7 @@ pub mod MadeBefore
 pub mod PlainStep
 pub mod Counted
 pub mod HeadTold
-pub mod FitLaws
+pub mod Fits
 pub mod Total
 pub mod Equal
 pub mod Starred

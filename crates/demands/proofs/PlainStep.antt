@@ -26,7 +26,7 @@ use Rattle.plan.specs.PlanSteps.{makeStep, loadStep, combineStep, powerSteps, l
 use Rattle.plan.specs.PlanHead.{headOf}
 use Rattle.plan.specs.PlanCall.{plannedParity, plannedDegree}
 use Rattle.plan.specs.Reported.{ofKind}
-use Rattle.demands.specs.Counted.{PlainStep, PlansPlain}
+use Rattle.demands.specs.PlainStep.{PlainStep, PlansPlain}
 use Rattle.demands.proofs.StepKinds.{kinds-append, kinds}
 use Rattle.demands.proofs.Right.{lent-steps, plans-right}
 

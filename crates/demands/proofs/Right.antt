@@ -34,6 +34,7 @@ use Rattle.walk.specs.Rules.{exactRules}
 use Rattle.walk.specs.Lent.{stepsFrom, lentSteps, exactWalk}
 use Rattle.walk.specs.WalksHeld.{Filled, empty, more, Holds}
 use Rattle.walk.specs.declared.plan.Head.{Head}
+use Rattle.walk.proofs.FlatSteps.{flat-steps, flat-length}
 use Rattle.walk.proofs.TrialFollows.{trial-follows}
 use Rattle.walk.proofs.Unrunnable.{refused-for-reasons}
 use Rattle.walk.proofs.WalksHeld.{walks-held}
@@ -43,7 +44,6 @@ use Rattle.plan.specs.PlanCall.{coefficientsFor, boundariesFor, numbersFor, pla
 use Rattle.demands.specs.Right.{listsFor, stepsFor, StepsRight, WalksRight, Stored, StoredRight, PlansRight}
 use Rattle.demands.proofs.Accepts.{Plannable, covered-accepted, plannable}
 use Rattle.demands.proofs.Refusals.{plan-made}
-use Rattle.demands.proofs.StepsRead.{steps-read, flat-length}
 use Rattle.demands.proofs.PlanRun.{steps-walk}
 
 -- ---- the steps
@@ -163,7 +163,7 @@ pub lent-steps : (strategy : SplitStrategy) (parity : Parity) (basis : Basis) (f
 unfolding headOf
 lent-steps strategy parity basis folded c coefficients bounds steps stored =
     let all = stepsFor strategy parity basis folded c in
-    ap (λ (l : List ℕ). stepsFrom l 0 (length all)) (stored .steps-are) ∙ steps-read all (stored .more-steps)
+    ap (λ (l : List ℕ). stepsFrom l 0 (length all)) (stored .steps-are) ∙ flat-steps all (stored .more-steps)
 
 pub stored-right : StoredRight
 stored-right strategy parity basis folded c coefficients bounds steps x accepted stored =

@@ -9,7 +9,8 @@ use Rattle.counts.specs.declared.choice.SplitStrategy.{SplitStrategy}
 use Rattle.demands.specs.Accepts.{CoveredAccepted}
 use Rattle.demands.specs.Right.{StepsRight, StoredRight, PlansRight}
 use Rattle.demands.specs.MadeBefore.{PlansMadeBefore, RunsMadeBefore}
-use Rattle.demands.specs.Counted.{PlansReport, PlansPlain, TransformCosts, MinMultLeast}
+use Rattle.demands.specs.Counted.{PlansReport, TransformCosts, MinMultLeast}
+use Rattle.demands.specs.PlainStep.{PlansPlain}
 use Rattle.demands.specs.Total.{PlansTotal, PlansMade, PlanOrder, FoldsTotal, ListsTotal, TrialsTotal, InterpolationsTotal, NumbersTotal}
 use Rattle.demands.specs.Equal.{Published, FloatsEqual, PlansEqual}
 use Rattle.demands.specs.HeadTold.{HeadsTold}

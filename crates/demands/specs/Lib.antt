@@ -5,6 +5,7 @@ pub mod Accepts
 pub mod Right
 pub mod MadeBefore
 pub mod Counted
+pub mod PlainStep
 pub mod HeadTold
 pub mod Fits
 pub mod Starred

@@ -28,13 +28,13 @@ use Rattle.lists.proofs.SumByLength.{sum-by-length-start}
 use Rattle.lists.proofs.Bounds.{fold-sum-by-length}
 use Rattle.lists.proofs.ListCall.{whole-listable, front}
 use Rattle.walk.specs.WalksHeld.{flat}
+use Rattle.walk.proofs.FlatSteps.{flat-append, flat-length}
 use Rattle.plan.specs.PlanSteps.{makeStep, powerSteps, treeSteps, listSteps, lastPlain, stepsAt}
 use Rattle.plan.specs.PlanCall.{plannedCoefficients, plannedParity, coefficientsFor, boundariesFor, numbersFor}
 use Rattle.plan.specs.inside.Writing.{PowersPut, TreeFits, TreePut, StepsFit}
 use Rattle.plan.specs.inside.Filling.{PlanFits}
 use Rattle.plan.specs.declared.outline.Outline.{Outline}
 use Rattle.plan.specs.declared.tree.Place.{Place}
-use Rattle.plan.proofs.StepNumbers.{flat-append, flat-length}
 use Rattle.plan.proofs.StepCounts.{steps-counted}
 use Rattle.plan.proofs.HeadCounts.{planned-at}
 

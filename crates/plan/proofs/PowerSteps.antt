@@ -18,9 +18,9 @@ use Rattle.needed.proofs.NeededMarks.{needed-length, greatest-within, marked-ne
 use Rattle.needed.proofs.Promises.{needed-powers}
 use Rattle.lists.proofs.Arranging.{sets-append}
 use Rattle.walk.specs.WalksHeld.{flat}
+use Rattle.walk.proofs.FlatSteps.{flat-append, flat-length}
 use Rattle.plan.specs.PlanSteps.{makeStep, powerSteps}
 use Rattle.plan.specs.inside.Writing.{PowerFits, PowerPut, PowersPut, markNumbers}
-use Rattle.plan.proofs.StepNumbers.{flat-append, flat-length}
 
 -- ---- the marked places of joined marks
 

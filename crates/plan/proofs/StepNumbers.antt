@@ -1,27 +1,16 @@
 -- Steps as numbers in a buffer: four a step, one step behind the other; and the step of a power, where it is marked.
 use mathlib.Core.Path.{_≡_, refl, ap, sym, _∙_}
 use mathlib.Core.Bool.{Bool, true, false, not, true≢false}
-use mathlib.Core.List.{List, [], _∷_, _++_}
+use mathlib.Core.List.{List, [], _∷_}
 use Prim.Native.Nat.{ℕ, suc, _+_, _*_}
 use native.Mathlib.Omega.{arith}
-use lib.ListN.{length, set}
+use lib.ListN.{set}
 use lib.Seq.{sets}
 use Rattle.number.specs.Split.{splitOf}
 use Rattle.number.specs.declared.split.Parts.{Parts}
 use Rattle.number.proofs.SplitParts.{parted, split-accepted}
 use Rattle.walk.specs.WalksHeld.{flat}
-use Rattle.walk.specs.declared.plan.Step.{Step}
 use Rattle.plan.specs.inside.Writing.{StepFits, PowerFits, PowerPut}
-
-pub flat-append : (xs ys : List Step) → flat (xs ++ ys) ≡ flat xs ++ flat ys
-unfolding flat
-flat-append [] ys = refl
-flat-append (x ∷ xs) ys = ap (λ (l : List ℕ). x .kind ∷ x .x ∷ x .y ∷ x .z ∷ l) (flat-append xs ys)
-
-pub flat-length : (steps : List Step) → length (flat steps) ≡ 4 * length steps
-unfolding flat
-flat-length [] = refl
-flat-length (step ∷ steps) = let rest = flat-length steps in omega arith
 
 -- four stores
 pub put-four : (b : List ℕ) (at : ℕ) {k x y z : ℕ} (k′ x′ y′ z′ : ℕ) → k ≡ k′ → x ≡ x′ → y ≡ y′ → z ≡ z′

@@ -16,10 +16,10 @@ use Rattle.lists.specs.Arrange.{leavesOf}
 use Rattle.lists.proofs.TreeRule.{leading-again, tree-leaf, tree-again, tree-cut}
 use Rattle.lists.proofs.Arranging.{some-leaves, sets-append}
 use Rattle.walk.specs.WalksHeld.{flat}
+use Rattle.walk.proofs.FlatSteps.{flat-append, flat-length}
 use Rattle.plan.specs.PlanSteps.{combineStep, combineKind, treeSteps}
 use Rattle.plan.specs.inside.Writing.{StepFits, TreeFits, TreePut}
 use Rattle.plan.specs.declared.tree.Place.{Place}
-use Rattle.plan.proofs.StepNumbers.{flat-append, flat-length}
 use Rattle.plan.proofs.StepCounts.{steps-length}
 
 put-leaf : {plain : Bool} {list step : ℕ} {b b′ : List ℕ} → b′ ≡ sets b (4 * step) (2 ∷ list ∷ 0 ∷ 0 ∷ [])

@@ -12,5 +12,6 @@ pub mod CarryLaw
 pub mod RunsAlike
 pub mod Unrunnable
 pub mod UsesMade
+pub mod FlatSteps
 pub mod WalksHeld
 pub mod TrialFollows

@@ -3,7 +3,7 @@ use mathlib.Core.Path.{_≡_, refl, sym, _∙_, ap, ap₂, fun-ext}
 use mathlib.Core.List.{List, [], _∷_, _++_, append-assoc}
 use mathlib.Core.Bool.{true}
 use mathlib.Core.Option.{some}
-use Prim.Native.Nat.{ℕ, zero, suc, _+_, _-_, _*_, _/_, _≤_, _<_}
+use Prim.Native.Nat.{ℕ, zero, suc, _+_, _-_, _/_, _≤_, _<_}
 use native.Mathlib.Decide.{decLt}
 use native.Mathlib.Omega.{arith}
 use borrow.Author.Tests.{lt-ltb, le-ltb, le-leb}
@@ -11,42 +11,16 @@ use lib.IntN.{ℤ}
 use lib.ListN.{length, take, drop, getD, length-append}
 use lib.Seq.{take-at, drop-at}
 use Rattle.walk.specs.Boundaries.{rises, partOf, listAt}
-use Rattle.walk.specs.Lent.{stepAt, stepsFrom, lentSteps, lentWalk}
+use Rattle.walk.specs.Lent.{stepsFrom, lentSteps, lentWalk}
 use Rattle.lists.specs.Lists.{joined, endsFrom}
-use Rattle.walk.specs.WalksHeld.{flat, Filled, more, numbered, WalksHeld}
+use Rattle.walk.specs.WalksHeld.{flat, Filled, more, numbered, Holds, WalksHeld}
+use Rattle.walk.specs.declared.plan.Head.{Head}
 use Rattle.walk.specs.declared.plan.Step.{Step}
 use Rattle.walk.proofs.BoundaryLaws.{before}
-
--- steps: each is four numbers further on
-step-later : (k x y z : ℕ) (buffer : List ℕ) (i : ℕ) → stepAt (k ∷ x ∷ y ∷ z ∷ buffer) (suc i) ≡ stepAt buffer i
-step-later k x y z buffer i =
-    let place : (j n : ℕ) → n ≡ suc (suc (suc (suc j))) → getD (k ∷ x ∷ y ∷ z ∷ buffer) n 0 ≡ getD buffer j 0 = λ j n e. rw e in
-    rw (
-      place (4 * i) (4 * suc i) (omega arith),
-      place (4 * i + 1) (4 * suc i + 1) (omega arith),
-      place (4 * i + 2) (4 * suc i + 2)
-          (omega arith),
-      place (4 * i + 3) (4 * suc i + 3) (omega arith),
-    )
-
-steps-later : (k x y z : ℕ) (buffer : List ℕ) (i n : ℕ) → stepsFrom (k ∷ x ∷ y ∷ z ∷ buffer) (suc i) n ≡ stepsFrom buffer i n
-unfolding stepsFrom
-steps-later k x y z buffer i zero = refl
-steps-later k x y z buffer i (suc n) = ap₂ _∷_ (step-later k x y z buffer i) (steps-later k x y z buffer (suc i) n)
-
-flat-steps : (steps : List Step) (rest : List ℕ) → stepsFrom (flat steps ++ rest) 0 (length steps) ≡ steps
-unfolding flat stepsFrom
-flat-steps [] rest = refl
-flat-steps (step ∷ steps) rest =
-    ap (step ∷_) (steps-later (step .kind) (step .x) (step .y) (step .z) (flat steps ++ rest) 0 (length steps) ∙ flat-steps steps rest)
-
-flat-length : (steps : List Step) → length (flat steps) ≡ 4 * length steps
-unfolding flat
-flat-length [] = refl
-flat-length (step ∷ steps) = let tail = flat-length steps in omega arith
+use Rattle.walk.proofs.FlatSteps.{flat-steps, flat-length}
 
 module _ {A : Type 0} where
-  ends-length : (at : ℕ) (lists : List (List A)) → length (endsFrom at lists) ≡ length lists
+  pub ends-length : (at : ℕ) (lists : List (List A)) → length (endsFrom at lists) ≡ length lists
   unfolding endsFrom
   ends-length at [] = refl
   ends-length at (list ∷ lists) = ap suc (ends-length (at + length list) lists)
@@ -92,34 +66,47 @@ module _ (lists : List (List ℤ)) where
       at i (yes h) = rw (ends-length 0 lists, lt-ltb i (length lists) h) (ap some (part-stands i h))
       at i (no h) = rw (ends-length 0 lists, le-ltb i (length lists) (omega arith))
 
+-- what the head counts of the buffers is the plan
+module _ {head : Head} {coefficients : List ℤ} {bounds steps : List ℕ} {lists : List (List ℤ)} {planned : List Step}
+    (held : Holds head coefficients bounds steps lists planned) where
+  pub coefficients-held : take (head .coefficients) coefficients ≡ joined lists
+  coefficients-held =
+      ap (take (head .coefficients)) (held .coefficients-are)
+      ∙ take-at (joined lists) (held .more-coefficients) (head .coefficients) (sym (held .coefficient-count))
+
+  pub bounds-held : take (head .lists) bounds ≡ endsFrom 0 lists
+  bounds-held =
+      ap (take (head .lists)) (held .bounds-are)
+      ∙ take-at (endsFrom 0 lists) (held .more-bounds) (head .lists) (ends-length 0 lists ∙ sym (held .list-count))
+
+  pub steps-held : lentSteps head steps ≡ planned
+  steps-held = ap₂ (λ l n. stepsFrom l 0 n) (held .steps-are) (held .step-count) ∙ flat-steps planned (held .more-steps)
+
+  pub steps-fit : head .steps ≤ length steps / 4
+  steps-fit =
+      let size : length steps ≡ length (flat planned) + length (held .more-steps) = ap length (held .steps-are)
+      ∙ length-append (flat planned) (held .more-steps) in
+      omega (arith, held .step-count, flat-length planned)
+
 -- the walk of buffers that hold a plan
 pub walks-held : (A : Type 0) → WalksHeld A
 unfolding lentWalk
 walks-held A 𝓡 head coefficients bounds steps lists planned point held =
-    let c : take (head .coefficients) coefficients ≡ joined lists = ap (take (head .coefficients)) (held .coefficients-are)
-    ∙ take-at (joined lists) (held .more-coefficients) (head .coefficients) (sym (held .coefficient-count)) in
-    let b : take (head .lists) bounds ≡ endsFrom 0 lists = ap (take (head .lists)) (held .bounds-are)
-    ∙ take-at (endsFrom 0 lists) (held .more-bounds) (head .lists) (ends-length 0 lists ∙ sym (held .list-count)) in
-    let s : lentSteps head steps ≡ planned = ap₂ (λ l n. stepsFrom l 0 n) (held .steps-are) (held .step-count)
-    ∙ flat-steps planned (held .more-steps) in
     let c-length : length coefficients ≡ length (joined lists) + length (held .more-coefficients) = ap length (held .coefficients-are)
     ∙ length-append (joined lists) (held .more-coefficients) in
     let b-length : length bounds ≡ length (endsFrom 0 lists) + length (held .more-bounds) = ap length (held .bounds-are)
     ∙ length-append (endsFrom 0 lists) (held .more-bounds) in
-    let s-length : length steps ≡ length (flat planned) + length (held .more-steps) = ap length (held .steps-are)
-    ∙ length-append (flat planned) (held .more-steps) in
     let c-fit : head .coefficients ≤ length coefficients = omega (arith, held .coefficient-count) in
     let b-fit : head .lists ≤ length bounds = omega (arith, held .list-count, ends-length 0 lists) in
-    let s-fit : head .steps ≤ length steps / 4 = omega (arith, held .step-count, flat-length planned) in
     let rise : rises 0 (head .coefficients) (endsFrom 0 lists) ≡ true = ends-rise 0 (head .coefficients) lists (held .filled)
     (omega (arith, held .coefficient-count)) in
     rw (
       le-leb (head .coefficients) (length coefficients) c-fit,
       le-leb (head .lists) (length bounds) b-fit,
-      le-leb (head .steps) (length steps / 4) s-fit,
-      b,
+      le-leb (head .steps) (length steps / 4) (steps-fit held),
+      bounds-held held,
       rise,
-      c,
-      s,
+      coefficients-held held,
+      steps-held held,
       lists-stand lists,
     )

@@ -20,11 +20,11 @@ use Rattle.lists.specs.Arrange.{leavesOf, endsOf}
 use Rattle.lists.specs.TreeFacts.{Sound}
 use Rattle.lists.proofs.Arranging.{leaves-most}
 use Rattle.walk.specs.WalksHeld.{flat}
+use Rattle.walk.proofs.FlatSteps.{flat-append}
 use Rattle.plan.specs.PlanSteps.{makeStep, combineStep, combineKind, treeSteps, lastPlain, powerSteps, listSteps, stepsAt}
 use Rattle.plan.specs.PlanCall.{plannedParity, planned, plannedDegree, tree}
 use Rattle.demands.specs.Fits.{Small, none, more, PlansFit}
 use Rattle.demands.proofs.Accepts.{plannable}
-use Rattle.demands.proofs.StepsRead.{flat-append}
 use Rattle.demands.proofs.Right.{sound}
 
 -- the number at a place

@@ -1,13 +1,14 @@
--- The steps that are read from a buffer with a plan in its first places are the plan's steps: four numbers each, one step after another.
-use mathlib.Core.Path.{_≡_, refl, ap, ap₂, _∙_}
+-- Steps as numbers, four a step, one step after another: what is read back are the steps, however the buffer goes on. By recursion on the steps.
+use mathlib.Core.Path.{_≡_, refl, _∙_, ap, ap₂}
 use mathlib.Core.List.{List, [], _∷_, _++_}
 use Prim.Native.Nat.{ℕ, zero, suc, _+_, _*_}
 use native.Mathlib.Omega.{arith}
 use lib.ListN.{length, getD}
 use Rattle.walk.specs.Lent.{stepAt, stepsFrom}
 use Rattle.walk.specs.WalksHeld.{flat}
 use Rattle.walk.specs.declared.plan.Step.{Step}
 
+-- each step is four numbers further on
 step-later : (k x y z : ℕ) (buffer : List ℕ) (i : ℕ) → stepAt (k ∷ x ∷ y ∷ z ∷ buffer) (suc i) ≡ stepAt buffer i
 step-later k x y z buffer i =
     let place : (j n : ℕ) → n ≡ suc (suc (suc (suc j))) → getD (k ∷ x ∷ y ∷ z ∷ buffer) n 0 ≡ getD buffer j 0 = λ j n e. rw e in
@@ -23,11 +24,12 @@ unfolding stepsFrom
 steps-later k x y z buffer i zero = refl
 steps-later k x y z buffer i (suc n) = ap₂ _∷_ (step-later k x y z buffer i) (steps-later k x y z buffer (suc i) n)
 
-pub steps-read : (steps : List Step) (rest : List ℕ) → stepsFrom (flat steps ++ rest) 0 (length steps) ≡ steps
+-- what is read back are the steps
+pub flat-steps : (steps : List Step) (rest : List ℕ) → stepsFrom (flat steps ++ rest) 0 (length steps) ≡ steps
 unfolding flat stepsFrom
-steps-read [] rest = refl
-steps-read (step ∷ steps) rest =
-    ap (step ∷_) (steps-later (step .kind) (step .x) (step .y) (step .z) (flat steps ++ rest) 0 (length steps) ∙ steps-read steps rest)
+flat-steps [] rest = refl
+flat-steps (step ∷ steps) rest =
+    ap (step ∷_) (steps-later (step .kind) (step .x) (step .y) (step .z) (flat steps ++ rest) 0 (length steps) ∙ flat-steps steps rest)
 
 pub flat-length : (steps : List Step) → length (flat steps) ≡ 4 * length steps
 unfolding flat
