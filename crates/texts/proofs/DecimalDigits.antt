@@ -1,24 +1,27 @@
 -- The digits of a number: those of a tenth of it have that tenth as their value, and the last adds what is left. By recursion on the steps.
 use mathlib.Core.Path.{_≡_, refl, _∙_}
+use mathlib.Core.Bool.{Bool, true, false, _&&_}
 use mathlib.Core.List.{List, [], _∷_, _++_}
 use Prim.Native.Nat.{ℕ, zero, suc, _+_, _-_, _*_, _/_, _%_, _<_, _≤_}
 use native.Mathlib.Nat.{div-lt-self, div-add-mod', mod-lt}
 use native.Mathlib.Omega.{arith}
+use borrow.Author.Tests.{le-leb}
 use lib.Dec.{lit<}
 use lib.ListN.{length, getD, length-append, List·getD-append}
-use Rattle.lines.specs.Bytes.{digit0}
+use Rattle.lines.specs.Bytes.{digit0, digit9}
+use Rattle.lines.specs.Whole.{isDigit, areDigits, numberFrom, numberOf}
 use Rattle.texts.specs.Decimal.{digitsWithin, decimal}
-use Rattle.texts.specs.DecimalDigits.{valueFrom, IsDigit, DecimalDigits}
+use Rattle.texts.specs.DecimalDigits.{DecimalDigits}
 
 -- ---- the value
 
-value-append : (v : ℕ) (xs ys : List ℕ) → valueFrom v (xs ++ ys) ≡ valueFrom (valueFrom v xs) ys
-unfolding valueFrom
+value-append : (v : ℕ) (xs ys : List ℕ) → numberFrom v (xs ++ ys) ≡ numberFrom (numberFrom v xs) ys
+unfolding numberFrom
 value-append v [] ys = refl
-value-append v (x ∷ xs) ys = value-append (10 * v + (x - digit0)) xs ys
+value-append v (x ∷ xs) ys = value-append (v * 10 + (x - digit0)) xs ys
 
-value-within : (k n : ℕ) → n ≤ k → valueFrom 0 (digitsWithin k n) ≡ n
-unfolding digitsWithin valueFrom
+value-within : (k n : ℕ) → n ≤ k → numberOf (digitsWithin k n) ≡ n
+unfolding digitsWithin numberFrom
 value-within zero zero h = refl
 value-within zero (suc n) h = absurd (omega arith)
 value-within (suc k) zero h = refl
@@ -27,37 +30,38 @@ value-within (suc k) (suc n) h =
     let tenth = value-within k (suc n / 10) (omega arith) in
     value-append 0 (digitsWithin k (suc n / 10)) ((digit0 + suc n % 10) ∷ []) ∙ omega (arith, tenth, div-add-mod' (suc n) 10)
 
-value-is : (n : ℕ) → valueFrom 0 (decimal n) ≡ n
-unfolding decimal valueFrom
+value-is : (n : ℕ) → numberOf (decimal n) ≡ n
+unfolding decimal numberFrom
 value-is zero = refl
 value-is (suc n) = value-within (suc n) (suc n) (omega arith)
 
 -- ---- bytes that are digits
 
-data Digits : List ℕ → Type 0 where
-  none : Digits []
-  more : {b : ℕ} {bs : List ℕ} → IsDigit b → Digits bs → Digits (b ∷ bs)
+both : (xs ys : List ℕ) → areDigits xs ≡ true → areDigits ys ≡ true → areDigits (xs ++ ys) ≡ true
+unfolding areDigits
+both [] ys p q = q
+both (x ∷ xs) ys p q = by-first (isDigit x) p (both xs ys)
+  where
+    by-first : (t : Bool) → (t && areDigits xs) ≡ true → (areDigits xs ≡ true → areDigits ys ≡ true → areDigits (xs ++ ys) ≡ true)
+        → (t && areDigits (xs ++ ys)) ≡ true
+    by-first true p rest = rest p q
+    by-first false p rest = p
 
-both : {xs ys : List ℕ} → Digits xs → Digits ys → Digits (xs ++ ys)
-both none q = q
-both (more h p) q = more h (both p q)
-
-digit-at : {bs : List ℕ} → Digits bs → (i : ℕ) → i < length bs → IsDigit (getD bs i 0)
-digit-at none i h = absurd (omega arith)
-digit-at (more d p) zero h = d
-digit-at (more d p) (suc i) h = digit-at p i (omega arith)
-
-digits-within : (k n : ℕ) → Digits (digitsWithin k n)
-unfolding digitsWithin
-digits-within zero n = none
-digits-within (suc k) zero = none
+digits-within : (k n : ℕ) → areDigits (digitsWithin k n) ≡ true
+unfolding digitsWithin areDigits
+digits-within zero n = refl
+digits-within (suc k) zero = refl
 digits-within (suc k) (suc n) =
     let below = mod-lt (suc n) (lit< {m = 0} {n = 10} tt) in
-    both (digits-within k (suc n / 10)) (more (record { least = omega arith; most = omega (arith, below) }) none)
+    let least : digit0 ≤ digit0 + suc n % 10 = omega arith in
+    let most : digit0 + suc n % 10 ≤ digit9 = omega (arith, below) in
+    let last : areDigits ((digit0 + suc n % 10) ∷ []) ≡ true =
+    rw (le-leb digit0 (digit0 + suc n % 10) least, le-leb (digit0 + suc n % 10) digit9 most) in
+    both (digitsWithin k (suc n / 10)) ((digit0 + suc n % 10) ∷ []) (digits-within k (suc n / 10)) last
 
-digits-are : (n : ℕ) → Digits (decimal n)
-unfolding decimal
-digits-are zero = more {b = digit0} (record { least = omega arith; most = omega arith }) none
+digits-are : (n : ℕ) → areDigits (decimal n) ≡ true
+unfolding decimal areDigits
+digits-are zero = refl
 digits-are (suc n) = digits-within (suc n) (suc n)
 
 -- ---- the first digit
@@ -96,4 +100,4 @@ first-is zero e = refl
 first-is (suc n) e = absurd (first-within (suc n) (suc n) (omega arith) (omega arith) .differs e)
 
 pub decimal-digits : DecimalDigits
-decimal-digits = record { digits = λ n. digit-at (digits-are n); value = value-is; no-leading-zero = first-is }
+decimal-digits = record { digits = digits-are; value = value-is; no-leading-zero = first-is }

@@ -6,6 +6,7 @@ mod PartLaws
 mod LineLaws
 mod LinesInTurn
 pub mod DecimalDigits
+pub mod ReadBack
 pub mod Pieces
 pub mod LineCount
 pub mod TextIsLines

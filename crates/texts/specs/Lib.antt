@@ -1,5 +1,6 @@
 pub mod Decimal
 pub mod DecimalDigits
+pub mod ReadBack
 pub mod Text
 pub mod PlanText
 pub mod Put
