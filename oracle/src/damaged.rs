@@ -120,6 +120,7 @@ pub fn plans(r: &mut Rec) {
         r.by_hand(&line(&sound(), 2, 100, 0, 29));
     }
     chebyshev(r);
+    zeros(r);
     waits(r);
     beyond(r);
     refusals(r);
@@ -205,6 +206,17 @@ fn chebyshev(r: &mut Rec) {
     // In the monomial basis the distance is not used.
     plan.basis = 'M';
     r.by_hand(&line(&plan, 2, 100, 0, 11));
+}
+
+/// An allowed power of a zero coefficient counts as used.
+fn zeros(r: &mut Rec) {
+    // 1 + 2x + 3x² + 5x⁴: 97 at 2. Without power 3 the list 1 2 3 0 isn't loaded.
+    let mut plan = sound();
+    plan.c[3] = 0;
+    r.by_hand(&line(&plan, 2, 100, 0, 97));
+    plan.numbers.drain(4..8);
+    plan.steps -= 1;
+    r.by_hand(&line(&plan, 2, 100, 24, 0));
 }
 
 /// More than 16 values wait.

@@ -14,9 +14,9 @@ use Rattle.counts.specs.declared.choice.SplitStrategy.{SplitStrategy}
 use Rattle.lists.specs.Tree.{relists}
 use Rattle.plan.specs.PlanHead.{headOf}
 use Rattle.plan.specs.PlanCall.{plannedParity, Accepted, planned, plannedDegree, headFor}
+use Rattle.plan.proofs.StepCounts.{steps-counted}
 use Rattle.demands.specs.HeadTold.{HeadTold, HeadsTold}
 use Rattle.demands.proofs.Accepts.{plannable}
-use Rattle.demands.proofs.StepKinds.{kinds}
 use Rattle.demands.proofs.Right.{ordered, plans-right}
 
 head-told : (strategy : SplitStrategy) (parity : Parity) (basis : Basis) (folded : Bool) (c : List ℤ) → Accepted folded parity c
@@ -26,7 +26,7 @@ head-told strategy parity basis folded c accepted =
     let degree = plannedDegree strategy parity basis folded c in
     let several = plannable folded parity basis c accepted .several in
     let places : suc degree ≡ length (planned strategy parity basis folded c) = omega arith in
-    let told = kinds (relists strategy) (plannedParity folded parity) basis degree (splitFor strategy (plannedParity folded parity) basis degree) in
+    let told = steps-counted (relists strategy) (plannedParity folded parity) basis degree (splitFor strategy (plannedParity folded parity) basis degree) in
     record {
       basis-is = refl;
       strategy-is = refl;
@@ -38,7 +38,7 @@ head-told strategy parity basis folded c accepted =
       coefficients-are = places;
       lists-are = ordered strategy parity basis folded c accepted .count;
       steps-are = refl;
-      steps-count = omega (arith, told .count);
+      steps-count = omega (arith, told .steps);
     }
 
 pub heads-told : HeadsTold

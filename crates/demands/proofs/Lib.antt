@@ -3,7 +3,6 @@ mod PowerRun
 mod TreeRun
 mod PlanRun
 mod Refusals
-mod StepKinds
 mod Pairs
 pub mod Accepts
 pub mod Right

@@ -25,7 +25,7 @@ use Rattle.lists.proofs.Arranging.{some-leaves}
 use Rattle.walk.specs.declared.plan.Step.{Step}
 use Rattle.plan.specs.PlanSteps.{lastLength, lastPlain, stepsAt}
 use Rattle.plan.specs.Reported.{ofKind, allowedIn, reported}
-use Rattle.demands.proofs.StepKinds.{kinds}
+use Rattle.plan.proofs.StepCounts.{steps-counted}
 
 -- ---- lists and slices
 
@@ -112,16 +112,16 @@ module _ (parity : Parity) (basis : Basis) (degree split : ℕ) where
       }
       ≡ cond t (onePlain whole) whole
   by-test true is =
-      let told = kinds false parity basis degree split in
+      let told = steps-counted false parity basis degree split in
       let two : 2 ≤ length slices = plain-two degree (length slices) (lastOf slices) is in
-      let four : ofKind 4 steps ≡ 1 = told .plain ∙ rw (plain-is, is) in
+      let four : ofKind 4 steps ≡ 1 = told .plain-ones ∙ rw (plain-is, is) in
       let ct : ofKind 1 steps + ofKind 3 steps + 0 ≡ onePlain whole .ct = omega (arith, told .encrypted, leaves) in
       let pt : allowedIn parity (lengthsOf tree (suc degree)) + ofKind 4 steps ≡ onePlain whole .pt = omega (arith, allowed) in
       ap₂ (λ a b. record { ct = a; pt = b }) ct pt
   by-test false is =
-      let told = kinds false parity basis degree split in
+      let told = steps-counted false parity basis degree split in
       let nonempty : 0 < length slices = omega (arith, leaves, some-leaves tree) in
-      let four : ofKind 4 steps ≡ 0 = told .plain ∙ rw (plain-is, is) in
+      let four : ofKind 4 steps ≡ 0 = told .plain-ones ∙ rw (plain-is, is) in
       let ct : ofKind 1 steps + ofKind 3 steps + 0 ≡ whole .ct = omega (arith, told .encrypted, leaves) in
       let pt : allowedIn parity (lengthsOf tree (suc degree)) + ofKind 4 steps ≡ whole .pt = omega (arith, allowed) in
       ap₂ (λ a b. record { ct = a; pt = b }) ct pt

@@ -26,8 +26,8 @@ use Rattle.plan.specs.PlanSteps.{makeStep, loadStep, combineStep, powerSteps, l
 use Rattle.plan.specs.PlanHead.{headOf}
 use Rattle.plan.specs.PlanCall.{plannedParity, plannedDegree}
 use Rattle.plan.specs.Reported.{ofKind}
+use Rattle.plan.proofs.StepCounts.{kinds-append, steps-counted}
 use Rattle.demands.specs.PlainStep.{PlainStep, PlansPlain}
-use Rattle.demands.proofs.StepKinds.{kinds-append, kinds}
 use Rattle.demands.proofs.Right.{lent-steps, plans-right}
 
 -- ---- the tree
@@ -96,18 +96,18 @@ module _ (leading : Bool) (parity : Parity) (basis : Basis) (degree split : ℕ)
     none-before : ofKind 4 before ≡ 0
     unfolding ofKind
     none-before =
-        let all = kinds leading parity basis degree split .plain in
+        let all = steps-counted leading parity basis degree split .plain-ones in
         let most = at-most-one (lastPlain degree tree && leb 2 (leavesOf tree)) in
         let parts = ap (ofKind 4) steps-end ∙ kinds-append 4 before (combineStep 4 degree ∷ []) in
         omega arith
 
   no-plain : isPowerOfTwo degree ≡ false → ofKind 4 (stepsAt leading parity basis degree split) ≡ 0
   unfolding lastPlain
-  no-plain other = kinds leading parity basis degree split .plain ∙ rw other
+  no-plain other = steps-counted leading parity basis degree split .plain-ones ∙ rw other
 
   leaf-plain : tree ≡ leaf → ofKind 4 (stepsAt leading parity basis degree split) ≡ 0
   unfolding leavesOf
-  leaf-plain one-list = kinds leading parity basis degree split .plain ∙ rw one-list (neither (lastPlain degree leaf))
+  leaf-plain one-list = steps-counted leading parity basis degree split .plain-ones ∙ rw one-list (neither (lastPlain degree leaf))
     where
       neither : (t : Bool) → cond {A = ℕ} (t && false) 1 0 ≡ 0
       neither true = refl

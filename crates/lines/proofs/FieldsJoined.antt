@@ -9,7 +9,7 @@ use lib.ListN.{drop}
 use Rattle.lines.specs.Bytes.{tab}
 use Rattle.lines.specs.Fields.{first, front, fields}
 use Rattle.lines.specs.FieldsJoined.{joined, noTab, noTabs, FieldsJoined}
-use Rattle.lines.proofs.WholeLaws.{and-left, and-right}
+use Rattle.number.proofs.BothHold.{and-left, and-right}
 
 -- ---- no field has a tab
 

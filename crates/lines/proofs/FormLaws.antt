@@ -15,7 +15,7 @@ use Rattle.lines.specs.Line.{onlyByte, areSettings, areWhole}
 use Rattle.lines.specs.inside.FieldsFrom.{fieldsFrom}
 use Rattle.lines.specs.inside.Reading.{FieldEnd, Taken}
 use Rattle.lines.proofs.FieldLaws.{from-step, from-past}
-use Rattle.lines.proofs.WholeLaws.{and-left, and-right}
+use Rattle.number.proofs.BothHold.{and-left, and-right}
 
 -- the letters, test after test
 module _ (b p s f : ℕ) where

@@ -12,7 +12,8 @@ use Rattle.lines.specs.Bytes.{minus}
 use Rattle.lines.specs.Limits.{digitLimit}
 use Rattle.lines.specs.Whole.{isDigit, areDigits, mayHave, isNumber, numberFrom, numberOf, isMinus, withSign, isWhole, valueOf}
 use Rattle.lines.specs.SpelledSame.{zeros, SpelledSame, Spellings}
-use Rattle.lines.proofs.WholeLaws.{and-left, all-digits, digit-bounds}
+use Rattle.number.proofs.BothHold.{and-left}
+use Rattle.lines.proofs.WholeLaws.{all-digits, digit-bounds}
 
 -- ---- zeros in front of digits
 

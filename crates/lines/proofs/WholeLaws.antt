@@ -1,6 +1,6 @@
 -- Laws of the number that digits say: place by place, its bound, and its sign.
 use mathlib.Core.Path.{_≡_, refl, sym, _∙_}
-use mathlib.Core.Bool.{Bool, true, false, cond, _&&_, false≢true}
+use mathlib.Core.Bool.{Bool, true, false, cond, _&&_}
 use mathlib.Core.List.{List, [], _∷_}
 use Prim.Native.Nat.{ℕ, suc, _+_, _-_, _*_, _<_, _≤_, _^_}
 use native.Mathlib.Nat.{pow-suc, pow-le-pow-right, add-zero}
@@ -14,15 +14,7 @@ use lib.Seq.{drop-cons}
 use Rattle.lines.specs.Bytes.{digit0, digit9}
 use Rattle.lines.specs.Limits.{digitLimit}
 use Rattle.lines.specs.Whole.{isDigit, areDigits, mayHave, isNumber, numberFrom, numberOf, isMinus, withSign, isWhole, valueOf}
-
--- both of two tests hold
-pub and-left : (a b : Bool) → (a && b) ≡ true → a ≡ true
-and-left true b both = refl
-and-left false b both = absurd (false≢true both)
-
-pub and-right : (a b : Bool) → (a && b) ≡ true → b ≡ true
-and-right true b both = both
-and-right false b both = absurd (false≢true both)
+use Rattle.number.proofs.BothHold.{and-left, and-right}
 
 -- ---- digits and their number from a place on
 

@@ -10,6 +10,7 @@ use lib.Dec.{ltb}
 use lib.Pow.{pow-pos}
 use Rattle.number.specs.Bits.{bitLen, topPower}
 use Rattle.number.proofs.Bits.{sides-fall}
+use Rattle.number.proofs.BothHold.{and-left, and-right}
 use Rattle.counts.specs.MinDepth.{minDepth}
 use Rattle.lists.specs.Tree.{Tree, leaf, cut, listedAgain, treeIn, treeOf}
 use Rattle.lists.specs.TreeRule.{TreesByRule}
@@ -38,14 +39,6 @@ again-facts whole degree split =
     by-tests true true false e positive above smaller exceeded all = absurd (false≢true all)
     by-tests true false c e positive above smaller exceeded all = absurd (false≢true all)
     by-tests false b c e positive above smaller exceeded all = absurd (false≢true all)
-
-and-left : (a b : Bool) → (a && b) ≡ true → a ≡ true
-and-left true b both = refl
-and-left false b both = absurd (false≢true both)
-
-and-right : (a b : Bool) → (a && b) ≡ true → b ≡ true
-and-right true b both = both
-and-right false b both = absurd (false≢true both)
 
 -- of the leading slice
 pub leading-again : (leading : Bool) (whole degree split : ℕ) → (leading && listedAgain whole degree split) ≡ true → Again whole degree split

@@ -19,3 +19,4 @@ pub mod FoldSame
 mod EvaluateLoops
 pub mod EvaluateLaw
 pub mod ParityTold
+pub mod BothHold

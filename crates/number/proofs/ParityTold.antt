@@ -14,6 +14,7 @@ use Rattle.algebra.specs.declared.Parity.{Parity}
 use Rattle.number.specs.Numbers.{wholeNumbers}
 use Rattle.number.specs.Parity.{hasParityFrom}
 use Rattle.number.specs.ParityTold.{ParityTold}
+use Rattle.number.proofs.BothHold.{and-left, and-right}
 
 -- a whole number counts as zero exactly if it is zero
 zero-is : (z : ℤ) → wholeNumbers .isZero z ≡ true → z ≡ pos 0
@@ -28,14 +29,6 @@ Zeros parity j c = (i : ℕ) → allows parity (j + i) ≡ false → getD c i (p
 either : (a z : Bool) → (a || z) ≡ true → a ≡ false → z ≡ true
 either true z h none = absurd (false≢true (sym none))
 either false z h none = h
-
-and-left : (a b : Bool) → (a && b) ≡ true → a ≡ true
-and-left true b both = refl
-and-left false b both = absurd (false≢true both)
-
-and-right : (a b : Bool) → (a && b) ≡ true → b ≡ true
-and-right true b both = both
-and-right false b both = absurd (false≢true both)
 
 test-zeros : (parity : Parity) (j : ℕ) (c : List ℤ) → hasParityFrom wholeNumbers parity j c ≡ true → Zeros parity j c
 unfolding hasParityFrom

@@ -20,7 +20,7 @@ use Rattle.walk.specs.declared.plan.Step.{Step}
 use Rattle.plan.specs.PlanSteps.{makeStep, combineStep, combineKind, powerSteps, treeSteps, listSteps, lastPlain, stepsAt}
 use Rattle.plan.specs.Reported.{ofKind}
 
-kinds-append : (kind : ℕ) (xs ys : List Step) → ofKind kind (xs ++ ys) ≡ ofKind kind xs + ofKind kind ys
+pub kinds-append : (kind : ℕ) (xs ys : List Step) → ofKind kind (xs ++ ys) ≡ ofKind kind xs + ofKind kind ys
 unfolding ofKind
 kinds-append kind [] ys = omega arith
 kinds-append kind (x ∷ xs) ys = let rest = kinds-append kind xs ys in omega arith

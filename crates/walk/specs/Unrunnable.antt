@@ -1,5 +1,5 @@
--- Document 01's reasons why a walk can't run a lent plan, refusal 24: each a test of the head and its buffers, of a step at the state that the
--- steps before it left, or of the state at the end.
+-- The reasons why a walk can't run a lent plan, refusal 24 (docs/RULES.md, "The trial walk"): each a test of the head and its buffers, of a step at
+-- the state that the steps before it left, or of the state at the end.
 use mathlib.Core.Path.{_≡_}
 use mathlib.Core.Bool.{Bool, true, false, not, _||_}
 use mathlib.Core.List.{List, [], _∷_}
