@@ -1,0 +1,6 @@
+mod InputLaws
+mod HeldLaws
+mod PieceLaws
+pub mod InputLines
+pub mod Turns
+pub mod AnswersSame

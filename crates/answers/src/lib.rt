@@ -1,0 +1,3 @@
+// x
+pub mod hold;
+pub mod limits;
