@@ -19,7 +19,7 @@ use Rattle.texts.specs.PlanText.{headLine, stepLine, linesOf, partsFrom,
 
 -- ---- the lists and the steps, one for each number
 
-pub parts-length : (c : List ℤ) (bounds : List ℕ) (i n : ℕ) → length (partsFrom c bounds i n) ≡ n
+parts-length : (c : List ℤ) (bounds : List ℕ) (i n : ℕ) → length (partsFrom c bounds i n) ≡ n
 unfolding partsFrom
 parts-length c bounds i zero = refl
 parts-length c bounds i (suc n) = ap suc (parts-length c bounds (suc i) n)
@@ -67,7 +67,7 @@ behind-lists (suc k) lists h g = omega arith
 
 -- ---- line k
 
-pub shown-length : (head : Head) (steps : List ℕ) → length (shownSteps head steps) ≡ min (length steps / 4) (head .steps)
+shown-length : (head : Head) (steps : List ℕ) → length (shownSteps head steps) ≡ min (length steps / 4) (head .steps)
 shown-length head steps =
     length-take (length steps / 4) (lentSteps head steps) ∙ ap (min (length steps / 4)) (steps-length steps 0 (head .steps))
 
