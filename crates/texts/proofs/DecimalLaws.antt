@@ -55,16 +55,16 @@ digits-few (suc m) (suc k) (suc n) h =
     let tenth : suc n / 10 < 10 ^ m = div-lt-iff-lt-mul (lit< tt) .1 big in
     omega (arith, digits-few m k (suc n / 10) tenth, length-append (digitsWithin k (suc n / 10)) ((digit0 + suc n % 10) ∷ []))
 
--- a number of 64 bits has at most 20 digits as text, and with a sign at most 21 bytes
-pub decimal-few : (n : ℕ) → n < 10 ^ 20 → length (decimal n) ≤ 20
+-- so has its text, which is one digit for 0; a sign is one byte more
+pub decimal-few : (d n : ℕ) → n < 10 ^ suc d → length (decimal n) ≤ suc d
 unfolding decimal
-decimal-few zero h = omega arith
-decimal-few (suc n) h = digits-few 20 (suc n) (suc n) h
+decimal-few d zero h = omega arith
+decimal-few d (suc n) h = digits-few (suc d) (suc n) (suc n) h
 
-pub signed-few : (z : ℤ) → natAbs z < 10 ^ 20 → length (signedDecimal z) ≤ 21
+pub signed-few : (d : ℕ) (z : ℤ) → natAbs z < 10 ^ suc d → length (signedDecimal z) ≤ suc (suc d)
 unfolding signedDecimal
-signed-few (pos n) h = omega (arith, decimal-few n h)
-signed-few (negsuc n) h = omega (arith, decimal-few (suc n) h)
+signed-few d (pos n) h = omega (arith, decimal-few d n h)
+signed-few d (negsuc n) h = omega (arith, decimal-few d (suc n) h)
 
 -- the text by cases, as the code goes
 pub zero-text : (n : ℕ) → n ≡ 0 → decimal n ≡ digit0 ∷ []
@@ -123,4 +123,4 @@ module _ (z : ℤ) (fits : SFits w64 z) where
 
   -- so its text has at most 21 bytes
   pub read-few : length (signedDecimal (read z)) ≤ 21
-  read-few = let less : natAbs (read z) < 10 ^ 20 = omega (arith, magnitude-most) in signed-few (read z) less
+  read-few = let less : natAbs (read z) < 10 ^ 20 = omega (arith, magnitude-most) in signed-few 19 (read z) less

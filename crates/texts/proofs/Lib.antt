@@ -1,14 +1,12 @@
-mod PutLaws
-mod DecimalLaws
+pub mod PutLaws
+pub mod DecimalLaws
 mod SignLaws
 mod TextLaws
 mod PartLaws
 mod LineLaws
-mod LinesInTurn
+mod LinesPut
 pub mod DecimalDigits
 pub mod ReadBack
-pub mod Pieces
-pub mod LineCount
 pub mod TextIsLines
 pub mod LineLengths
 pub mod HeldText

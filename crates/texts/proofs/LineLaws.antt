@@ -16,11 +16,10 @@ use Rattle.walk.specs.declared.plan.Step.{Step}
 use Rattle.lines.specs.Bytes.{letterB, letterG, letterH, letterP, letterQ}
 use Rattle.texts.specs.Text.{numbersLine, listLine}
 use Rattle.texts.specs.PlanText.{headLine, stepLine, linesOf, partsFrom, listsIn, shownSteps}
-use Rattle.texts.specs.LineCount.{lineCount}
 
 -- ---- the lists and the steps, one for each number
 
-pub parts-length : (c : List ℤ) (bounds : List ℕ) (i n : ℕ) → length (partsFrom c bounds i n) ≡ n
+parts-length : (c : List ℤ) (bounds : List ℕ) (i n : ℕ) → length (partsFrom c bounds i n) ≡ n
 unfolding partsFrom
 parts-length c bounds i zero = refl
 parts-length c bounds i (suc n) = ap suc (parts-length c bounds (suc i) n)
@@ -68,7 +67,7 @@ behind-lists (suc k) lists h g = omega arith
 
 -- ---- line k
 
-pub shown-length : (head : Head) (steps : List ℕ) → length (shownSteps head steps) ≡ min (length steps / 4) (head .steps)
+shown-length : (head : Head) (steps : List ℕ) → length (shownSteps head steps) ≡ min (length steps / 4) (head .steps)
 shown-length head steps =
     length-take (length steps / 4) (lentSteps head steps) ∙ ap (min (length steps / 4)) (steps-length steps 0 (head .steps))
 
@@ -142,7 +141,7 @@ module _ (kind x y z : ℕ) where
   pub plain-line : (kind ≡ 1 → ⊥) → (kind ≡ 2 → ⊥) → (kind ≡ 3 → ⊥) → numbersLine letterQ (x ∷ []) ≡ stepLine here
   plain-line e f g = rw (ne-eqb kind 1 e, ne-eqb kind 2 f, ne-eqb kind 3 g)
 
--- ---- what is found of a list and of the count, as the code finds it
+-- ---- what is found of a list and of the head, as the code finds it
 
 pub part-line : (c : List ℤ) (bounds : List ℕ) (i s : ℕ) {part : List ℤ} → s ≡ startOf bounds i → part ≡ take (endOf bounds i - s) (drop s c)
     → listLine part ≡ listLine (partOf c bounds i)
@@ -152,9 +151,3 @@ pub head-shown : (head : Head) (n : ℕ) → n ≡ transformNumber (head .transf
     → numbersLine letterH (head .degree ∷ head .base ∷ n ∷ head .ct ∷ head .pt ∷ head .depth ∷ []) ≡ headLine head
 head-shown head n e =
     ap (λ (k : ℕ). numbersLine letterH (head .degree ∷ head .base ∷ k ∷ head .ct ∷ head .pt ∷ head .depth ∷ [])) e
-
--- the boundaries that the head counts
-pub counted : (head : Head) (c : List ℤ) (bounds listed steps : List ℕ) {n : ℕ} → n ≡ lineCount head bounds steps
-    → listed ≡ take (head .lists) bounds → n ≡ length (linesOf head (listsIn c listed) (shownSteps head steps))
-counted head c bounds listed steps e f =
-    omega (arith, e, lines-length head c listed steps, ap (λ (l : List ℕ). length l) f, length-take (head .lists) bounds)

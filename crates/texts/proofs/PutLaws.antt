@@ -1,11 +1,12 @@
--- Text in a buffer: one text put behind another is the two joined, and the buffer keeps its length. By recursion on the text.
+-- Text in a buffer: one text put behind another is the two joined, the buffer keeps its length, and a text that it has room for stands behind what
+-- was there before. By recursion on the text.
 use mathlib.Core.Path.{_≡_, refl, ap, sym, _∙_}
 use mathlib.Core.List.{List, [], _∷_, _++_}
-use Prim.Native.Nat.{ℕ, suc, _+_}
+use Prim.Native.Nat.{ℕ, suc, _+_, _≤_}
 use native.Mathlib.Nat.{add-zero}
 use native.Mathlib.Omega.{arith}
-use lib.ListN.{length, length-append, set}
-use lib.Seq.{sets, length-sets}
+use lib.ListN.{length, take, drop, length-append, set}
+use lib.Seq.{sets, sets-eq, length-sets, take-at, length-take-le}
 use Rattle.texts.specs.Put.{Put}
 use Rattle.texts.specs.inside.EndsIn64Bits.{EndsIn64Bits}
 
@@ -34,6 +35,14 @@ put-length {out} {out′} {text} {at} p = ap (λ (l : List ℕ). length l) (p .b
 pub put-same : {out out′ xs ys : List ℕ} {at r : ℕ} → Put out at xs out′ r → xs ≡ ys → Put out at ys out′ r
 put-same {out} {out′} {xs} {ys} {at} {r} p e =
     record { buffer = p .buffer ∙ ap (λ (t : List ℕ). sets out at t) e; next = p .next ∙ ap (λ (t : List ℕ). at + length t) e }
+
+-- where the buffer has room for the text, it stands behind what was there before it
+pub put-behind : {out out′ text : List ℕ} {at r : ℕ} → Put out at text out′ r → r ≤ length out → take r out′ ≡ take at out ++ text
+put-behind {out} {out′} {text} {at} {r} p h =
+    let before : length (take at out) ≡ at = length-take-le at out (omega (arith, p .next)) in
+    (λ j. take (p .next j) (p .buffer j))
+    ∙ ap (take (at + length text)) (sets-eq text out at (omega (arith, p .next)))
+    ∙ take-at (take at out ++ text) (drop (at + length text) out) (at + length text) (omega (arith, length-append (take at out) text))
 
 -- where a text ends: said otherwise, and in two parts
 pub ends-same : (at : ℕ) {xs ys : List ℕ} → xs ≡ ys → EndsIn64Bits at xs → EndsIn64Bits at ys

@@ -4,9 +4,6 @@ pub mod ReadBack
 pub mod Text
 pub mod PlanText
 pub mod Put
-pub mod PutPlan
-pub mod Pieces
-pub mod LineCount
 pub mod TextIsLines
 pub mod LineLengths
 pub mod HeldText

@@ -22,10 +22,12 @@ pub record StepFits (step : Step) : Type 0 where
   pub y : step .y < 2 ^ 64
   pub z : step .z < 2 ^ 64
 
--- a list of i64 takes at most 22 bytes a coefficient and 2 more, so one of at most 64 takes at most 1,410; any other line at most 128
+-- a list of i64 takes at most 22 bytes a coefficient and 2 more, so one of at most 64 takes at most 1,410; any other line at most 128, and a step
+-- whose numbers are at most 4,096, as every plan's are, at most 17
 pub record LineLengths : Type 0 where
   pub lists : (c : List ℤ) → Within (2 ^ 63) c → length (listLine c) ≤ length c * 22 + 2
   pub short-lists : (c : List ℤ) → Within (2 ^ 63) c → length c ≤ 64 → length (listLine c) ≤ 1410
   pub heads : (head : Head) → HeadFits head → length (headLine head) ≤ 128
   pub steps : (step : Step) → StepFits step → length (stepLine step) ≤ 128
+  pub small-steps : (step : Step) → step .x ≤ 4096 → step .y ≤ 4096 → step .z ≤ 4096 → length (stepLine step) ≤ 17
   pub refusals : (refusal : ℕ) → refusal < 2 ^ 64 → length (refusalLine refusal) ≤ 128

@@ -1,4 +1,4 @@
--- What a call that puts a text into a buffer leaves there, and answers: `put_refusal` puts the line of a refusal from place 0 on.
+-- What a call that puts a text into a buffer leaves there, and answers: `put_plan` puts the text of a plan, `put_refusal` the line of a refusal.
 use mathlib.Core.Path.{_≡_}
 use mathlib.Core.List.{List}
 use Prim.Native.Nat.{ℕ, _+_}

@@ -5,6 +5,4 @@ pub mod line;
 pub mod plan;
 
 pub use line::put_refusal;
-pub use plan::Progress;
-pub use plan::line_count;
 pub use plan::put_plan;

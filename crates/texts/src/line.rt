@@ -31,12 +31,13 @@ fn put_head(out: &mut [u8], at: usize, head: Head) -> usize
     put_numbers_line(out, at, b'H', &ns)
 }
 
-// The line of a refusal, from the buffer's first place on.
-pub fn put_refusal(refusal: u8, out: &mut [u8]) -> usize
-    ensures { λ r. ⌜ Put (now (out .entry)) 0 (refusalLine refusal) (now (out .exit)) r ⌝ }
+// The line of a refusal from a place of the buffer on, and the place behind it.
+pub fn put_refusal(refusal: u8, at: usize, out: &mut [u8]) -> usize
+    requires { ⌜ at < 2 ^ 63 ⌝ }
+    ensures { λ r. ⌜ Put (now (out .entry)) at (refusalLine refusal) (now (out .exit)) r ⌝ }
 {
     let ns: [u64; 1] = [refusal as u64];
-    put_numbers_line(out, 0, b'R', &ns)
+    put_numbers_line(out, at, b'R', &ns)
 }
 
 // The line of a step.

@@ -19,7 +19,7 @@ put-number-fields-requires c κs =
     let first = c .before .before .before in
     let known = first .before .before in
     let ns = known .before .before .args .ns .now in
-    let few = fields-few decimal 20 0 ns (λ i h. decimal-few (getD ns i 0) (omega (arith, known .shared-slice-known .given i))) in
+    let few = fields-few decimal 20 0 ns (λ i h. decimal-few 19 (getD ns i 0) (omega (arith, known .shared-slice-known .given i))) in
     omega (arith, first .put .ensures .next)
 
 put-requires-2 : tie.Need-put-requires-2
@@ -28,7 +28,7 @@ put-requires-2 c κs =
     let first = fields .before .before .before .before in
     let known = first .before .before in
     let ns = known .before .before .args .ns .now in
-    let few = fields-few decimal 20 0 ns (λ i h. decimal-few (getD ns i 0) (omega (arith, known .shared-slice-known .given i))) in
+    let few = fields-few decimal 20 0 ns (λ i h. decimal-few 19 (getD ns i 0) (omega (arith, known .shared-slice-known .given i))) in
     omega (arith, first .put .ensures .next, fields .put-number-fields .ensures .next)
 
 same-length : tie.Need-same-length
