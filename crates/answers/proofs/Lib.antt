@@ -1,6 +1,10 @@
 mod InputLaws
 mod HeldLaws
 mod PieceLaws
+mod AnswerCases
+mod Rooms
+mod AnswerLaws
 pub mod InputLines
 pub mod Turns
 pub mod AnswersSame
+pub mod TextFits

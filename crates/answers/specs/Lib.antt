@@ -5,4 +5,5 @@ pub mod TextFits
 pub mod Input
 pub mod InputLines
 pub mod Turns
+pub mod TakeTurn
 pub mod inside

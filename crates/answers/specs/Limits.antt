@@ -17,6 +17,6 @@ listRoom = 4096
 abbrev pub stepRoom : ℕ
 stepRoom = 49152
 
--- the most bytes of an answer
+-- the most bytes of an answer: 128 for the head, 24 a coefficient and 17 a step at most
 abbrev pub textLimit : ℕ
-textLimit = 307328
+textLimit = 307311

@@ -13,4 +13,4 @@ pub const LIST_ROOM: usize = 4096;
 pub const STEP_ROOM: usize = 49152;
 
 // The most bytes of an answer.
-pub const TEXT_LIMIT: usize = 307328;
+pub const TEXT_LIMIT: usize = 307311;

@@ -2,7 +2,7 @@ mod RunThen
 mod PowerRun
 mod TreeRun
 mod PlanRun
-mod Refusals
+pub mod Refusals
 mod Pairs
 pub mod Accepts
 pub mod Right

@@ -127,7 +127,7 @@ module _ (strategy : SplitStrategy) (parity : Parity) (basis : Basis) (folded : 
   numbers-length = flat-length (stepsFor strategy parity basis folded c)
 
   module _ (coefficients : List ℤ) (bounds steps : List ℕ) (stored : Stored strategy parity basis folded c coefficients bounds steps) where
-    holds : Holds head coefficients bounds steps (listsFor strategy parity basis folded c) (stepsFor strategy parity basis folded c)
+    pub holds : Holds head coefficients bounds steps (listsFor strategy parity basis folded c) (stepsFor strategy parity basis folded c)
     unfolding headOf
     holds = record {
       coefficient-count = sym coefficients-length ∙ ap length (ordered .places);

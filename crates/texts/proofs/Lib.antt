@@ -2,7 +2,7 @@ pub mod PutLaws
 pub mod DecimalLaws
 mod SignLaws
 mod TextLaws
-mod PartLaws
+pub mod PartLaws
 mod LineLaws
 mod LinesPut
 pub mod DecimalDigits
