@@ -5,7 +5,7 @@ use std::path::Path;
 
 use crate::calls::Parity;
 use crate::curves::{line, padded, shape};
-use crate::inputs::{MAX_DEGREE, MAX_SUM, Rng, edges};
+use crate::inputs::{BANDS, MAX_DEGREE, MAX_SUM, Rng};
 use crate::texts::{MAX_LINE, answer};
 
 const SEED: u64 = 0x1_0000_000d;
@@ -241,13 +241,11 @@ fn settings() -> Vec<String> {
 
 fn plans(g: &mut Rng, lines: &mut Vec<Vec<u8>>) {
     let all = settings();
-    for degree in (1..=ALL).chain(edges(ENDS, 1).into_iter().filter(|&d| d > ALL)) {
+    let (small, large): (Vec<usize>, Vec<usize>) = ends(ALL + 1).iter().partition(|&&d| d <= ENDS);
+    for degree in (1..=ALL).chain(small) {
         all.iter().for_each(|s| lines.push(plan(g, s, degree, 19)));
     }
-    let large = edges(MAX_DEGREE, 1)
-        .into_iter()
-        .filter(|&d| d > ENDS && is_end(d));
-    for (k, degree) in large.enumerate() {
+    for (k, degree) in large.into_iter().enumerate() {
         for turn in 0..TURNS {
             let settings = &all[(TURNS * k + turn) % all.len()];
             lines.push(plan(g, settings, degree, 3));
@@ -259,10 +257,15 @@ fn plans(g: &mut Rng, lines: &mut Vec<Vec<u8>>) {
     }
 }
 
-/// A power of two, a band's end, or a neighbour of one.
-fn is_end(degree: usize) -> bool {
-    let outer = |d: usize| edges(MAX_DEGREE, 0).binary_search(&d).is_ok();
-    (degree - 1..=degree + 1).any(|d| d.is_power_of_two() || outer(d) != outer(d + 1))
+/// Powers of two and the ends of the bands, each with its neighbours, from `least` up.
+fn ends(least: usize) -> Vec<usize> {
+    let powers = (0..=12).map(|k| 1 << k);
+    let bands = BANDS.into_iter().flat_map(|(a, b)| [a, b]);
+    let mut all: Vec<usize> = powers.chain(bands).flat_map(|d| d - 1..=d + 1).collect();
+    all.retain(|d| (least..=MAX_DEGREE).contains(d));
+    all.sort();
+    all.dedup();
+    all
 }
 
 fn parity(settings: &str) -> Parity {

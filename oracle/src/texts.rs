@@ -179,7 +179,7 @@ fn allowed_powers(parity: Parity, degree: usize) -> usize {
 }
 
 /// The ct-ct multiplications of a transform by its number: none, of a square 1, of one that is times the input 2.
-pub fn transform_cost(transform: usize) -> usize {
+fn transform_cost(transform: usize) -> usize {
     [0, 1, 2, 1, 2][transform]
 }
 

@@ -8,7 +8,7 @@ use crate::calls::{Basis, Parity, SplitStrategy, value_mod};
 use crate::inputs::Rng;
 use crate::layouts::polynomial_evaluation::bsgs_op_counts;
 use crate::lines::each_line;
-use crate::texts::{Answerer, answer, transform_cost};
+use crate::texts::{Answerer, answer};
 
 /// A prime: the powers of a point are spread over the remainders.
 const PRIME: u64 = (1 << 61) - 1;
@@ -111,8 +111,18 @@ fn plan(g: &mut Rng, line: &[u8], text: &str) -> String {
             "{line} at {x}"
         );
     }
-    plan.shape(&c, fields[3] == "Y");
-    plan.counts(fields[2] == "M");
+    let half = [c.len(), c.len().div_ceil(2), c.len() / 2];
+    let (transform, cost, numbers) = match (fields[0], fields[1], fields[3]) {
+        (_, _, "N") => (0, 0, half[0]),
+        ("M", "E", _) => (1, 1, half[1]),
+        ("M", _, _) => (2, 2, half[2]),
+        (_, "E", _) => (3, 1, half[1]),
+        _ => (4, 2, half[2]),
+    };
+    assert_eq!(plan.head[2], transform, "transform");
+    plan.shape(numbers);
+    plan.counts(fields[2] == "M", cost);
+    plan.depth(fields[2] == "M", cost);
     fields[..4].join("\t")
 }
 
@@ -222,17 +232,11 @@ impl Plan {
         terms.fold(0, plus)
     }
 
-    /// Degree, base, transform, the order of the steps.
-    fn shape(&self, c: &[f64], folded: bool) {
-        let numbers: usize = self.lists.iter().map(|l| l.len()).sum();
-        let half = if self.head[2] % 2 == 1 {
-            c.len().div_ceil(2)
-        } else {
-            c.len() / 2
-        };
-        assert_eq!(numbers, if folded { half } else { c.len() }, "coefficients");
+    /// Degree, base, the lengths of the lists and the order of the steps.
+    fn shape(&self, numbers: usize) {
+        let lengths: usize = self.lists.iter().map(|l| l.len()).sum();
+        assert_eq!(lengths, numbers, "coefficients");
         assert_eq!(self.head[0] + 1, numbers, "degree");
-        assert_eq!(folded, self.head[2] != 0, "transform");
         assert!(self.head[1].is_power_of_two(), "base");
         assert!(
             self.lists.iter().all(|l| l.len() <= self.head[1]),
@@ -252,14 +256,13 @@ impl Plan {
     }
 
     /// The reported pair by the steps; and by the Rust's estimate, which leaves relisting out.
-    fn counts(&self, min_mult: bool) {
+    fn counts(&self, min_mult: bool, cost: usize) {
         let ctct = self.numbers_of("PG").len();
         let powers = self
             .lists
             .iter()
             .map(|l| (1..l.len()).filter(|&j| self.allowed(j)).count());
         let ptct = powers.sum::<usize>() + self.numbers_of("Q").len();
-        let cost = transform_cost(self.head[2]);
         assert_eq!(self.head[3..5], [ctct + cost, ptct], "reported pair");
         let strategy = if min_mult {
             SplitStrategy::MinMult
@@ -275,6 +278,13 @@ impl Plan {
             (ct + more, pt - less),
             "the estimate and relisting"
         );
+    }
+
+    fn depth(&self, min_mult: bool, cost: usize) {
+        let bits = self.head[0].ilog2() + 1;
+        let late = self.head[0] > (1 << bits) - (1 << ((bits - 1) / 2));
+        let depth = bits as usize + (min_mult && late) as usize;
+        assert_eq!(self.head[5], depth + cost, "depth");
     }
 }
 
