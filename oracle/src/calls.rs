@@ -386,8 +386,8 @@ impl<W: Write> Recorder<W> {
     }
 }
 
-/// The sum of c_j times power j at the point, modulo `modulus`: exact, since every product of two remainders is below 2^62.
-fn value_mod(basis: Basis, c: &[f64], point: i64, modulus: u64) -> u64 {
+/// The sum of c_j times power j at the point, modulo `modulus`: exact, since a modulus is below 2^62.
+pub fn value_mod(basis: Basis, c: &[f64], point: i64, modulus: u64) -> u64 {
     let m = modulus as i128;
     let x = (point as i128).rem_euclid(m);
     let factor = match basis {

@@ -5,7 +5,7 @@ use std::path::Path;
 
 use crate::calls::{BASES, Basis, Form, PARITIES, Parity, STRATEGIES, SplitStrategy};
 use crate::inputs::*;
-use crate::{Rec, damaged, recording};
+use crate::{Rec, damaged, printed, recording};
 
 const SEED: u64 = 1;
 const MAX_POINT: i64 = 999_999_999_999_999_999;
@@ -37,6 +37,7 @@ pub fn record(dir: &Path) {
         plan_values(r);
         damaged::plans(r);
     });
+    printed::record(dir);
 }
 
 /// Every part starts from a seed of its own, so a change of one leaves the others alone.

@@ -1,14 +1,20 @@
-//! Records what the published planner answers, one call a line; README.md has the format.
+//! Records what the published planner answers, one call a line, and answers lines as `planlines` does; README.md has
+//! the formats.
 
 mod calls;
+mod curves;
 mod damaged;
 mod gate;
 mod inputs;
 mod large;
 mod layouts;
+mod lines;
+mod printed;
+mod texts;
+mod walked;
 
 use std::fs::{File, create_dir_all};
-use std::io::BufWriter;
+use std::io::{BufWriter, stdin, stdout};
 use std::path::{Path, PathBuf};
 
 use calls::Recorder;
@@ -28,16 +34,25 @@ fn main() {
     let words: Vec<String> = std::env::args().skip(1).collect();
     let words: Vec<&str> = words.iter().map(String::as_str).collect();
     let number = |w: &str| w.parse::<u64>().unwrap_or_else(|_| usage());
-    let dir = words.get(1).map(PathBuf::from).unwrap_or_else(|| usage());
-    create_dir_all(&dir).expect("a folder to write recordings to");
     match words[..] {
-        ["gate", _] => gate::record(&dir),
-        ["large", _, count, seed] => large::record(&dir, number(count), number(seed)),
+        ["gate", dir] => gate::record(&folder(dir)),
+        ["large", dir, count, seed] => large::record(&folder(dir), number(count), number(seed)),
+        ["lines"] => lines::answer_all(stdin().lock(), stdout().lock()).expect("lines"),
+        ["curves", count, seed] => {
+            curves::write(number(count), number(seed), stdout().lock()).expect("lines")
+        }
+        ["walks"] => walked::check(stdin().lock()).expect("lines"),
         _ => usage(),
     }
 }
 
+fn folder(dir: &str) -> PathBuf {
+    create_dir_all(dir).expect("a folder to write recordings to");
+    PathBuf::from(dir)
+}
+
 fn usage() -> ! {
     eprintln!("usage: oracle gate DIR | oracle large DIR COUNT SEED");
+    eprintln!("       oracle lines < LINES | oracle curves COUNT SEED | oracle walks < LINES");
     std::process::exit(2)
 }
