@@ -4,6 +4,7 @@ mod PieceLaws
 mod AnswerCases
 mod Rooms
 mod AnswerLaws
+mod TurnLaws
 pub mod InputLines
 pub mod Turns
 pub mod AnswersSame

@@ -20,3 +20,7 @@ stepRoom = 49152
 -- the most bytes of an answer: 128 for the head, 24 a coefficient and 17 a step at most
 abbrev pub textLimit : ℕ
 textLimit = 307311
+
+-- places for text: room for three such answers at least
+abbrev pub textRoom : ℕ
+textRoom = 1048576

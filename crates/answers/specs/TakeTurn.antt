@@ -6,7 +6,7 @@ use Prim.Native.Nat.{ℕ, _+_, _-_, _<_, _≤_}
 use lib.IntN.{ℤ}
 use lib.ListN.{length, take, drop}
 use Rattle.texts.specs.Put.{Put}
-use Rattle.answers.specs.Limits.{lineRoom, coefficientRoom, listRoom, stepRoom, textLimit}
+use Rattle.answers.specs.Limits.{lineRoom, coefficientRoom, listRoom, stepRoom, textLimit, textRoom}
 use Rattle.answers.specs.Turns.{turnText, turnHeld}
 use Rattle.answers.specs.declared.turn.Turn.{Turn}
 
@@ -18,7 +18,7 @@ pub record TurnRoom (line : List ℕ) (held : ℕ) (coefficients planned : List 
   pub planned-room : listRoom ≤ length planned
   pub boundary-room : listRoom ≤ length bounds
   pub step-room : stepRoom ≤ length steps
-  pub text-room : textLimit ≤ length out
+  pub text-room : length out ≡ textRoom
 
 -- the part of the block that it takes
 abbrev pub partTaken : (block : List ℕ) (from : ℕ) → Turn → List ℕ

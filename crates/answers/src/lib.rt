@@ -10,6 +10,7 @@ pub use limits::LINE_ROOM;
 pub use limits::LIST_ROOM;
 pub use limits::STEP_ROOM;
 pub use limits::TEXT_LIMIT;
+pub use limits::TEXT_ROOM;
 pub use turn::Turn;
 pub use turn::put_end;
 pub use turn::take_turn;

@@ -14,3 +14,6 @@ pub const STEP_ROOM: usize = 49152;
 
 // The most bytes of an answer.
 pub const TEXT_LIMIT: usize = 307311;
+
+// Places for text.
+pub const TEXT_ROOM: usize = 1048576;

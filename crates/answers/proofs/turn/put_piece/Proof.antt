@@ -1,45 +1,45 @@
+-- `answers::turn::put_piece` meets its contract: a line that has not ended gets no text, and one that has its answer's.
+use mathlib.Core.Path.{sym}
+use borrow.Author.Tests.{not-true, not-false}
 use borrow.Author.Needs.{needs}
+use lib.Seq.{length-take-le}
+use Rattle.texts.proofs.PutLaws.{put-none, put-same}
+use Rattle.answers.proofs.TurnLaws.{piece-unended, piece-ended}
 use Rattle.answers.proofs.turn.put_piece.Statement.{statement}
 use Rattle.answers.proofs.turn.put_piece.Tie as tie
-use Rattle.answers.proofs.turn.put_piece.Reads as reads
-use Rattle.answers.proofs.turn.put_piece.Lts as lts
-use Rattle.answers.proofs.answer.put_answer.Reads as put-answer-reads
 
--- src/turn.rt:37:9
 returns : tie.Need-returns
-returns c = search needs
+returns c =
+    let a = c .before .before .before .before .before .before .args in
+    put-same (put-none (a .out .now) (a .at)) (sym (piece-unended (a .piece) (a .line .now) (not-true (a .piece .whole) (c .if1 .taken))))
 
--- src/turn.rt:40:16
 slice-aggregate-put-answer : tie.Need-slice-aggregate-put-answer
-slice-aggregate-put-answer c = search needs
+slice-aggregate-put-answer c = sym (length-take-le _ _ (c .before .before .before .before .before .before .before .pre .1))
 
--- src/turn.rt:40:5
 put-answer-requires : tie.Need-put-answer-requires
 put-answer-requires c κs = search needs
 
--- src/turn.rt:22:1
 same-length : tie.Need-same-length
 same-length c = search needs
 
--- src/turn.rt:22:1
 same-length-2 : tie.Need-same-length-2
 same-length-2 c = search needs
 
--- src/turn.rt:22:1
 same-length-3 : tie.Need-same-length-3
 same-length-3 c = search needs
 
--- src/turn.rt:22:1
 same-length-4 : tie.Need-same-length-4
 same-length-4 c = search needs
 
--- src/turn.rt:22:1
 same-length-5 : tie.Need-same-length-5
 same-length-5 c = search needs
 
--- src/turn.rt:22:1
 returns-2 : tie.Need-returns-2
-returns-2 c = search needs
+returns-2 c =
+    let put = c .before .before .before .before .before .before .before .before .put-answer in
+    let test = c .before .before .before .before .before .before .before .before .before .before .before .before .before .before .before .if1 in
+    let a = c .before .before .before .before .before .before .before .before .before .before .before .before .before .before .before .before .before .before .before .before .before .args in
+    put-same (put .ensures) (sym (piece-ended (a .piece) (a .line .now) (not-false (a .piece .whole) (test .left))))
 
 pub put-piece-spec : {M : Type 1} → statement M
 put-piece-spec =
