@@ -2,7 +2,7 @@
 -- each list; each of its at most 12,287 steps has at most 17: 307,311 in all. A refusal is one line of at most 128.
 use mathlib.Core.Path.{_≡_, refl, ap, sym, _∙_}
 use mathlib.Core.Bool.{Bool, true, false}
-use mathlib.Core.List.{List, [], _∷_, _++_, map}
+use mathlib.Core.List.{List, [], _∷_, _++_, map, append-nil}
 use Prim.Native.Nat.{ℕ, suc, _+_, _*_, _^_, _<_, _≤_}
 use native.Mathlib.Decide.{ℕ-discrete}
 use native.Mathlib.Omega.{arith}
@@ -40,6 +40,8 @@ use Rattle.demands.proofs.Right.{from-one, ordered, coefficients-length}
 use Rattle.demands.proofs.Fits.{plans-fit, small-at}
 use Rattle.answers.specs.Limits.{textLimit}
 use Rattle.answers.specs.Answer.{answerRefusal, plannedLines, answerText}
+use Rattle.answers.specs.Input.{lastLine, answersText}
+use Rattle.answers.specs.Turns.{endText}
 use Rattle.answers.specs.TextFits.{TextFits}
 use Rattle.answers.proofs.Rooms.{degree-range, counts-range, coefficients-most, lists-most, steps-most}
 use Rattle.answers.proofs.AnswerCases.{line-accepted, refusal-most, text-planned, text-refused}
@@ -171,3 +173,9 @@ text-fits line = by-refusal (ℕ-discrete (answerRefusal line) 0)
     by-refusal : Dec (answerRefusal line ≡ 0) → length (answerText line) ≤ textLimit
     by-refusal (yes none) = planned-fits line none
     by-refusal (no refused) = refused-fits line (omega arith)
+
+-- and none at the input's end
+pub end-fits : (held : List ℕ) → length (endText held) ≤ textLimit
+unfolding answersText lastLine joined
+end-fits [] = omega arith
+end-fits (b ∷ bs) = omega (arith, text-fits (b ∷ bs), ap (λ (t : List ℕ). length t) (append-nil (answerText (b ∷ bs))))
