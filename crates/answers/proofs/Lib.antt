@@ -7,5 +7,6 @@ mod AnswerLaws
 mod TurnLaws
 pub mod InputLines
 pub mod Turns
+pub mod OneAnswer
 pub mod AnswersSame
 pub mod TextFits

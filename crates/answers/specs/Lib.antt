@@ -1,5 +1,6 @@
 pub mod Limits
 pub mod Answer
+pub mod OneAnswer
 pub mod AnswersSame
 pub mod TextFits
 pub mod Input

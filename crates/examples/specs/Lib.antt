@@ -6,3 +6,4 @@ pub mod Walk
 pub mod Plan
 pub mod Lines
 pub mod Texts
+pub mod Answers

@@ -13,7 +13,7 @@ use Rattle.walk.specs.declared.plan.Step.{Step}
 use Rattle.lines.specs.Bytes.{tab, lineFeed, minus, digit0, letterB, letterG, letterH, letterL, letterP, letterQ, letterR}
 use Rattle.texts.specs.Decimal.{digitsWithin, decimal, signedDecimal}
 use Rattle.texts.specs.Text.{fieldsText, lineText, numbersLine, listLine}
-use Rattle.texts.specs.PlanText.{headLine, stepLine, linesOf, shownLists, shownSteps}
+use Rattle.texts.specs.PlanText.{headLine, stepLine, linesOf}
 use Rattle.texts.specs.TextIsLines.{IsLine, TextIsLines}
 
 -- ---- bytes without a line feed
@@ -108,6 +108,6 @@ lines-are head lists steps = more (head-is head) (lines-with listLine list-is li
 
 pub text-is-lines : TextIsLines
 text-is-lines = record {
-  plans = λ head coefficients bounds steps. line-at (lines-are head (shownLists head coefficients bounds) (shownSteps head steps));
+  plans = λ head lists steps. line-at (lines-are head lists steps);
   refusals = λ refusal. numbers-are letterR (refusal ∷ []) (λ (e : letterR ≡ lineFeed). omega arith);
 }

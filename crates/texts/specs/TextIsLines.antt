@@ -5,9 +5,10 @@ use Prim.Native.Nat.{ℕ, suc, _<_}
 use lib.IntN.{ℤ}
 use lib.ListN.{length, getD}
 use Rattle.walk.specs.declared.plan.Head.{Head}
+use Rattle.walk.specs.declared.plan.Step.{Step}
 use Rattle.lines.specs.Bytes.{lineFeed}
 use Rattle.texts.specs.Text.{refusalLine}
-use Rattle.texts.specs.PlanText.{planLines}
+use Rattle.texts.specs.PlanText.{linesOf}
 
 -- it ends in a line feed, and every line feed in it stands last
 pub record IsLine (line : List ℕ) : Type 0 where
@@ -17,6 +18,6 @@ pub record IsLine (line : List ℕ) : Type 0 where
 
 -- the text of a plan is its lines one after another
 pub record TextIsLines : Type 0 where
-  pub plans : (head : Head) (coefficients : List ℤ) (bounds steps : List ℕ) (k : ℕ) → k < length (planLines head coefficients bounds steps)
-      → IsLine (getD (planLines head coefficients bounds steps) k [])
+  pub plans : (head : Head) (lists : List (List ℤ)) (steps : List Step) (k : ℕ) → k < length (linesOf head lists steps)
+      → IsLine (getD (linesOf head lists steps) k [])
   pub refusals : (refusal : ℕ) → IsLine (refusalLine refusal)
