@@ -2,13 +2,13 @@
 -- plan call refuses only its input. A line with more coefficients than are kept has too many for a plan, and so have those that are kept.
 use mathlib.Core.Path.{_≡_, refl, ap, sym, _∙_}
 use mathlib.Core.Bool.{Bool, true, false}
-use mathlib.Core.List.{List, [], _∷_, _++_, append-nil}
+use mathlib.Core.List.{List, append-nil}
 use Prim.Native.Nat.{ℕ, zero, suc, _+_, _-_, _<_, _≤_, _^_}
 use native.Mathlib.Omega.{arith}
 use borrow.Author.Tests.{lt-ltb, leb-true, leb-false}
 use lib.Dec.{leb}
 use lib.IntN.{ℤ}
-use lib.ListN.{length, take, drop, length-append, length-take, length-drop}
+use lib.ListN.{length, take, drop, length-append, length-take}
 use Rattle.algebra.specs.declared.Basis.{Basis}
 use Rattle.algebra.specs.declared.Parity.{Parity}
 use Rattle.number.specs.Limits.{planLimit}
@@ -17,7 +17,6 @@ use Rattle.number.specs.Refusal.{firstRefusal, unlessRefused}
 use Rattle.number.proofs.Refusal.{first-kept, when-refused, when-accepted}
 use Rattle.counts.specs.declared.choice.SplitStrategy.{SplitStrategy}
 use Rattle.lists.specs.Lists.{joined}
-use Rattle.walk.specs.declared.plan.Head.{Head}
 use Rattle.plan.specs.PlanCall.{inputTests, Accepted, headFor, planRefusal, planAnswer, PlanCall}
 use Rattle.plan.specs.declared.call.Planned.{Planned}
 use Rattle.lines.specs.Line.{isLine, basisIn, parityIn, strategyIn, foldIn, coefficientsIn}
@@ -31,9 +30,8 @@ use Rattle.texts.proofs.PartLaws.{from-first}
 use Rattle.demands.specs.Right.{listsFor, stepsFor}
 use Rattle.demands.proofs.Refusals.{refusal-of, plan-made}
 use Rattle.demands.proofs.Right.{plans-right, holds}
-use Rattle.answers.specs.Limits.{textLimit}
 use Rattle.answers.specs.Answer.{answerRefusal, plannedLines, answerLines, answerText}
-use Rattle.answers.specs.inside.Rooms.{PlanRoom, AnswerRoom}
+use Rattle.answers.specs.inside.Rooms.{PlanRoom}
 use Rattle.answers.specs.inside.TextFor.{textFor}
 use Rattle.answers.proofs.AnswerCases.{text-refused}
 use Rattle.answers.proofs.Rooms.{rooms-enough}

@@ -1,13 +1,12 @@
 -- A line gets its plan's lines or its refusal's one line, by the definition; each of them is a line, and the first of a plan is the head's.
-use mathlib.Core.Path.{_≡_, refl, ap, sym, _∙_}
-use mathlib.Core.Bool.{Bool, true, false}
+use mathlib.Core.Path.{_≡_, refl, sym}
+use mathlib.Core.Bool.{true, false}
 use mathlib.Core.List.{List, [], _∷_}
 use Prim.Native.Nat.{ℕ, zero, suc, _<_}
 use native.Mathlib.Omega.{arith}
 use native.Mathlib.Decide.{ℕ-discrete}
 use lib.ListN.{length, getD}
 use Rattle.number.proofs.Refusal.{refusals-say, when-accepted, when-refused}
-use Rattle.plan.specs.PlanCall.{inputTests}
 use Rattle.lines.specs.Bytes.{letterH}
 use Rattle.lines.specs.Line.{foldIn, parityIn, coefficientsIn}
 use Rattle.texts.specs.Text.{lineText, refusalLine}
@@ -17,7 +16,7 @@ use Rattle.texts.proofs.TextIsLines.{text-is-lines}
 use Rattle.demands.specs.Total.{numbersOf}
 use Rattle.demands.proofs.Refusals.{inputs-numbered}
 use Rattle.answers.specs.Answer.{answerTests, answerRefusal, plannedLines, answerLines}
-use Rattle.answers.specs.OneAnswer.{OneAnswer, OneAnswers}
+use Rattle.answers.specs.OneAnswer.{OneAnswers}
 
 module _ (line : List ℕ) where
   planned : answerRefusal line ≡ 0 → answerLines line ≡ plannedLines line

@@ -15,7 +15,7 @@ use Rattle.texts.specs.Put.{Put}
 use Rattle.texts.proofs.PutLaws.{put-none, put-then, put-same}
 use Rattle.answers.specs.Limits.{lineRoom, textLimit}
 use Rattle.answers.specs.Answer.{answerText}
-use Rattle.answers.specs.Input.{ended, unended, lastLine, answersText}
+use Rattle.answers.specs.Input.{lastLine, answersText}
 use Rattle.answers.specs.Turns.{heldOf, turnText, turnHeld, endText}
 use Rattle.answers.specs.TakeTurn.{TakeTurn}
 use Rattle.answers.specs.inside.Pieces.{between, Taken, pieceText, heldAfter}

@@ -5,7 +5,7 @@ use mathlib.Core.List.{List, [], append-nil}
 use Prim.Native.Nat.{ℕ, _+_, _-_, _≤_}
 use native.Mathlib.Omega.{arith}
 use lib.IntN.{ℤ}
-use lib.ListN.{length, take, drop, length-take}
+use lib.ListN.{length, take, length-take}
 use lib.Seq.{take-all, take-add}
 use Rattle.texts.specs.Put.{Put}
 use Rattle.answers.specs.Limits.{lineRoom, coefficientRoom, listRoom, stepRoom, textLimit, textRoom}

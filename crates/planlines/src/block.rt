@@ -27,7 +27,17 @@ pub fn answer_block(
     let mut at = 0;
     let mut kept = held;
     while at < block.len() {
-        let turn = take_turn(block, at, line, kept, coefficients, planned, bounds, steps, out);
+        let turn = take_turn(
+            block,
+            at,
+            line,
+            kept,
+            coefficients,
+            planned,
+            bounds,
+            steps,
+            out,
+        );
         let text = turn.text;
         if !write_text(&out[..text]) {
             return Answered {

@@ -22,11 +22,11 @@ same-length-2 c = search needs
 
 returns : tie.Need-returns
 returns c =
-    let put = c .before .before .put-refusal in
-    let test = c .before .before .before .before .if1 in
-    let read = c .before .before .before .before .before .before .read-line in
-    let start = c .before .before .before .before .before .before .before .before .before .before .before .before in
-    put-same (put .ensures) (line-refused (start .pre .coefficient-room) (read .ensures) (test .taken))
+    let put = c .before .before in
+    let test = put .before .before in
+    let read = test .before .before in
+    let start = read .before .before .before .before .before .before in
+    put-same (put .put-refusal .ensures) (line-refused (start .pre .coefficient-room) (read .read-line .ensures) (test .if1 .taken))
 
 part-between-requires : tie.Need-part-between-requires
 part-between-requires c κs = search needs
@@ -51,13 +51,13 @@ same-length-7 c = search needs
 
 returns-2 : tie.Need-returns-2
 returns-2 c =
-    let put = c .before .before .before .before .before .before .before .put-planned in
-    let part = c .before .before .before .before .before .before .before .before .before .before .before .before .part-between in
-    let test = c .before .before .before .before .before .before .before .before .before .before .before .before .before .before .if1 in
-    let read = c .before .before .before .before .before .before .before .before .before .before .before .before .before .before .before .before .read-line in
-    let start = c .before .before .before .before .before .before .before .before .before .before .before .before .before .before .before .before .before .before .before .before .before .before in
-    put-same (put .ensures)
-    (ap (textFor _ _ _ _) (part .ensures) ∙ line-said (start .pre .coefficient-room) (read .ensures) (test .left))
+    let put = c .before .before .before .before .before .before .before in
+    let part = put .before .before .before .before .before in
+    let test = part .before .before in
+    let read = test .before .before in
+    let start = read .before .before .before .before .before .before in
+    put-same (put .put-planned .ensures)
+    (ap (textFor _ _ _ _) (part .part-between .ensures) ∙ line-said (start .pre .coefficient-room) (read .read-line .ensures) (test .if1 .left))
 
 pub put-answer-spec : {M : Type 1} → statement M
 put-answer-spec =

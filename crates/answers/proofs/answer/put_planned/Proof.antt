@@ -26,18 +26,18 @@ same-length-4 c = search needs
 
 returns : tie.Need-returns
 returns c =
-    let put = c .before .before .put-refusal in
-    let test = c .before .before .before .before .if1 in
-    let made = c .before .before .before .before .before .before .before .before .before .before .plan in
-    let start = c .before .before .before .before .before .before .before .before .before .before .before .before .before .before .before .before .before in
-    put-same (put .ensures) (refused-text _ _ _ _ _ (start .pre) (made .ensures) (test .taken))
+    let put = c .before .before in
+    let test = put .before .before in
+    let made = test .before .before .before .before .before .before in
+    let start = made .before .before .before .before .before .before .before in
+    put-same (put .put-refusal .ensures) (refused-text _ _ _ _ _ (start .pre) (made .plan .ensures) (test .if1 .taken))
 
 put-plan-requires : tie.Need-put-plan-requires
 put-plan-requires c κs =
-    let test = c .before .before .before .before .if1 in
-    let made = c .before .before .before .before .before .before .before .before .before .before .plan in
-    let start = c .before .before .before .before .before .before .before .before .before .before .before .before .before .before .before .before .before in
-    planned-ends _ _ _ _ _ (start .pre) (made .ensures) (test .left)
+    let test = c .before .before .before .before in
+    let made = test .before .before .before .before .before .before in
+    let start = made .before .before .before .before .before .before .before in
+    planned-ends _ _ _ _ _ (start .pre) (made .plan .ensures) (test .if1 .left)
 
 same-length-5 : tie.Need-same-length-5
 same-length-5 c = search needs
@@ -53,11 +53,11 @@ same-length-8 c = search needs
 
 returns-2 : tie.Need-returns-2
 returns-2 c =
-    let put = c .before .before .put-plan in
-    let test = c .before .before .before .before .before .before .before .if1 in
-    let made = c .before .before .before .before .before .before .before .before .before .before .before .before .before .plan in
-    let start = c .before .before .before .before .before .before .before .before .before .before .before .before .before .before .before .before .before .before .before .before in
-    put-same (put .ensures) (planned-text _ _ _ _ _ (start .pre) (made .ensures) (test .left))
+    let put = c .before .before in
+    let test = put .before .before .before .before .before in
+    let made = test .before .before .before .before .before .before in
+    let start = made .before .before .before .before .before .before .before in
+    put-same (put .put-plan .ensures) (planned-text _ _ _ _ _ (start .pre) (made .plan .ensures) (test .if1 .left))
 
 pub put-planned-spec : {M : Type 1} → statement M
 put-planned-spec =

@@ -27,20 +27,20 @@ same-length c = search needs
 
 returns : tie.Need-returns
 returns c =
-    let put = c .before .before .before .hold in
-    let found = c .before .before .before .before .before .before .feed-from in
-    let start = c .before .before .before .before .before .before .before .before .before in
-    piece-whole (found .ensures) (put .ensures) (start .pre .1 .1) (c .if1 .taken)
+    let put = c .before .before .before in
+    let found = put .before .before .before in
+    let start = found .before .before .before in
+    piece-whole (found .feed-from .ensures) (put .hold .ensures) (start .pre .1 .1) (c .if1 .taken)
 
 same-length-2 : tie.Need-same-length-2
 same-length-2 c = search needs
 
 returns-2 : tie.Need-returns-2
 returns-2 c =
-    let put = c .before .before .before .hold in
-    let found = c .before .before .before .before .before .before .feed-from in
-    let start = c .before .before .before .before .before .before .before .before .before in
-    piece-rest (found .ensures) (put .ensures) (start .pre .1 .1) (c .if1 .left)
+    let put = c .before .before .before in
+    let found = put .before .before .before in
+    let start = found .before .before .before in
+    piece-rest (found .feed-from .ensures) (put .hold .ensures) (start .pre .1 .1) (c .if1 .left)
 
 pub take-piece-spec : {M : Type 1} → statement M
 take-piece-spec =

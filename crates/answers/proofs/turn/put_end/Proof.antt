@@ -39,12 +39,12 @@ same-length-5 c = search needs
 
 returns-2 : tie.Need-returns-2
 returns-2 c =
-    let put = c .before .before .before .before .before .before .before .before .put-answer in
-    let test = c .before .before .before .before .before .before .before .before .before .before .before .before .before .before .before .if1 in
-    let start = c .before .before .before .before .before .before .before .before .before .before .before .before .before .before .before .before .before .before .before .before in
+    let put = c .before .before .before .before .before .before .before .before in
+    let test = put .before .before .before .before .before .before .before in
+    let start = test .before .before .before .before .before in
     let a = start .args in
-    put-same (put .ensures)
-    (sym (end-some (take (a .held) (a .line .now)) (omega (arith, length-take-le (a .held) (a .line .now) (start .pre .1), test .left))))
+    put-same (put .put-answer .ensures)
+    (sym (end-some (take (a .held) (a .line .now)) (omega (arith, length-take-le (a .held) (a .line .now) (start .pre .1), test .if1 .left))))
 
 pub put-end-spec : {M : Type 1} → statement M
 put-end-spec =

@@ -10,7 +10,8 @@ use Rattle.answers.proofs.turn.put_piece.Tie as tie
 
 returns : tie.Need-returns
 returns c =
-    let a = c .before .before .before .before .before .before .args in
+    let start = c .before .before .before .before .before .before in
+    let a = start .args in
     put-same (put-none (a .out .now) (a .at)) (sym (piece-unended (a .piece) (a .line .now) (not-true (a .piece .whole) (c .if1 .taken))))
 
 slice-aggregate-put-answer : tie.Need-slice-aggregate-put-answer
@@ -36,10 +37,10 @@ same-length-5 c = search needs
 
 returns-2 : tie.Need-returns-2
 returns-2 c =
-    let put = c .before .before .before .before .before .before .before .before .put-answer in
-    let test = c .before .before .before .before .before .before .before .before .before .before .before .before .before .before .before .if1 in
-    let a = c .before .before .before .before .before .before .before .before .before .before .before .before .before .before .before .before .before .before .before .before .before .args in
-    put-same (put .ensures) (sym (piece-ended (a .piece) (a .line .now) (not-false (a .piece .whole) (test .left))))
+    let put = c .before .before .before .before .before .before .before .before in
+    let test = put .before .before .before .before .before .before .before in
+    let a = test .before .before .before .before .before .before in
+    put-same (put .put-answer .ensures) (sym (piece-ended (a .args .piece) (a .args .line .now) (not-false (a .args .piece .whole) (test .if1 .left))))
 
 pub put-piece-spec : {M : Type 1} → statement M
 put-piece-spec =

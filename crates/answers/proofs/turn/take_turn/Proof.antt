@@ -1,6 +1,6 @@
 -- `answers::turn::take_turn` meets its contract. The loop's invariant: what is put and what is held stand for the part of the block that is taken. Each
 -- turn takes a piece, so the rest gets shorter, and the text of one piece more fits, since there is room for the longest.
-use mathlib.Core.Path.{_≡_, refl, sym, _∙_}
+use mathlib.Core.Path.{_≡_, refl, _∙_}
 use Prim.Native.Nat.{_-_}
 use native.Mathlib.Omega.{arith}
 use borrow.Author.Needs.{needs}
@@ -46,20 +46,20 @@ take-piece-requires c κs =
 
 put-piece-requires : tie.Need-put-piece-requires Inv-loop μ-loop
 put-piece-requires c κs =
-    let taken = c .before .before .before .before .before .before .before .before .take-piece in
-    let loop = c .before .before .before .before .before .before .before .before .before .before .before .before .loop in
-    let room = c .before .before .before .before .before .before .before .before .before .before .before .before .before .before .before .before .before .before .pre .0 in
-    (
+    let taken = c .before .before .before .before .before .before .before .before in
+    let loop = taken .before .before .before .before in
+    let start = loop .before .before .before .before .before .before in
+    let room = start .pre .0 in (
       record {
-        coefficient-room = omega (arith, room .coefficient-room, loop .inv .coefficients-long);
+        coefficient-room = omega (arith, room .coefficient-room, loop .loop .inv .coefficients-long);
         plan-room = record {
-          planned-room = omega (arith, room .planned-room, loop .inv .planned-long);
-          boundary-room = omega (arith, room .boundary-room, loop .inv .bounds-long);
-          step-room = omega (arith, room .step-room, loop .inv .steps-long);
-          place = omega (arith, room .text-room, loop .inv .done .text-within);
+          planned-room = omega (arith, room .planned-room, loop .loop .inv .planned-long);
+          boundary-room = omega (arith, room .boundary-room, loop .loop .inv .bounds-long);
+          step-room = omega (arith, room .step-room, loop .loop .inv .steps-long);
+          place = omega (arith, room .text-room, loop .loop .inv .done .text-within);
         };
       },
-      omega (arith, taken .ensures .held-within, taken .kept .1 .1 .0),
+      omega (arith, taken .take-piece .ensures .held-within, taken .take-piece .kept .1 .1 .0),
     )
 
 held-after-requires : tie.Need-held-after-requires Inv-loop μ-loop
@@ -67,27 +67,30 @@ held-after-requires c κs = search needs
 
 loop-less : tie.Need-loop-less Inv-loop μ-loop
 loop-less c =
-    let taken = c .before .before .before .before .before .before .before .before .before .before .before .before .before .before .before .before .before .before .take-piece in
-    let test = c .before .before .before .before .before .before .before .before .before .before .before .before .before .before .before .before .before .before .before .before .before .loop-test .taken in
-    omega (arith, taken .ensures .onward test)
+    let put = c .before .before .before .before .before .before .before .before .before in
+    let taken = put .before .before .before .before .before .before .before .before .before in
+    let test = taken .before .before .before in
+    omega (arith, taken .take-piece .ensures .onward (test .loop-test .taken))
 
 loop-again : tie.Need-loop-again Inv-loop μ-loop
 loop-again c =
-    let put = c .before .before .before .before .before .before .before .before .before .put-piece in
-    let taken = c .before .before .before .before .before .before .before .before .before .before .before .before .before .before .before .before .before .before .take-piece in
-    let test = c .before .before .before .before .before .before .before .before .before .before .before .before .before .before .before .before .before .before .before .before .if1 in
-    let loop = c .before .before .before .before .before .before .before .before .before .before .before .before .before .before .before .before .before .before .before .before .before .before .loop in
-    let inv = loop .inv in
-    let room = c .before .before .before .before .before .before .before .before .before .before .before .before .before .before .before .before .before .before .before .before .before .before .before .before .before .before .before .before .pre .0 in
+    let put = c .before .before .before .before .before .before .before .before .before in
+    let taken = put .before .before .before .before .before .before .before .before .before in
+    let test = taken .before .before in
+    let more = test .before in
+    let loop = more .before in
+    let inv = loop .loop .inv in
+    let room = loop .before .before .before .before .before .before in
     record {
       done =
-          so-far-more (inv .done) (c .before .before .before .before .before .before .before .before .before .before .before .before .before .before .before .before .before .before .before .before .before .loop-test .taken) (omega (arith, test .left, room .text-room)) (taken .ensures) (taken .kept .1 .1 .0)
-          (put .ensures) (c .held-after .ensures);
-      coefficients-long = put .kept .1 .1 .0 ∙ inv .coefficients-long;
-      planned-long = put .kept .1 .1 .1 .0 ∙ inv .planned-long;
-      bounds-long = put .kept .1 .1 .1 .1 .0 ∙ inv .bounds-long;
-      steps-long = put .kept .1 .1 .1 .1 .1 .0 ∙ inv .steps-long;
-      out-long = put .kept .1 .1 .1 .1 .1 .1 .1 .0 ∙ inv .out-long;
+          so-far-more (inv .done) (more .loop-test .taken) (omega (arith, test .if1 .left, room .pre .0 .text-room)) (taken .take-piece .ensures)
+          (taken .take-piece .kept .1 .1 .0)
+          (put .put-piece .ensures) (c .held-after .ensures);
+      coefficients-long = put .put-piece .kept .1 .1 .0 ∙ inv .coefficients-long;
+      planned-long = put .put-piece .kept .1 .1 .1 .0 ∙ inv .planned-long;
+      bounds-long = put .put-piece .kept .1 .1 .1 .1 .0 ∙ inv .bounds-long;
+      steps-long = put .put-piece .kept .1 .1 .1 .1 .1 .0 ∙ inv .steps-long;
+      out-long = put .put-piece .kept .1 .1 .1 .1 .1 .1 .1 .0 ∙ inv .out-long;
     }
 
 same-length : tie.Need-same-length Inv-loop μ-loop
@@ -110,9 +113,9 @@ same-length-6 c = search needs
 
 returns : tie.Need-returns Inv-loop μ-loop
 returns c =
-    let loop = c .before .loop in
-    let room = c .before .before .before .before .before .before .before .pre .0 in
-    so-far-end (loop .inv .done) (room .line-room) (omega (arith, room .text-room)) (λ more. absurd (omega (arith, c .loop-test .left)))
+    let loop = c .before in
+    let room = loop .before .before .before .before .before .before in
+    so-far-end (loop .loop .inv .done) (room .pre .0 .line-room) (omega (arith, room .pre .0 .text-room)) (λ more. absurd (omega (arith, c .loop-test .left)))
 
 same-length-7 : tie.Need-same-length-7 Inv-loop μ-loop
 same-length-7 c = search needs
@@ -134,9 +137,10 @@ same-length-12 c = search needs
 
 returns-2 : tie.Need-returns-2 Inv-loop μ-loop
 returns-2 c =
-    let loop = c .before .before .loop in
-    let room = c .before .before .before .before .before .before .before .before .pre .0 in
-    so-far-end (loop .inv .done) (room .line-room) (omega (arith, room .text-room)) (λ more. omega (arith, c .if1 .taken, room .text-room))
+    let loop = c .before .before in
+    let room = loop .before .before .before .before .before .before in
+    so-far-end (loop .loop .inv .done) (room .pre .0 .line-room) (omega (arith, room .pre .0 .text-room))
+    (λ more. omega (arith, c .if1 .taken, room .pre .0 .text-room))
 
 pub take-turn-spec : {M : Type 1} → statement M
 take-turn-spec =

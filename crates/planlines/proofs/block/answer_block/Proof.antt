@@ -48,30 +48,29 @@ loop-holds c =
 
 take-turn-requires : tie.Need-take-turn-requires Inv-loop μ-loop
 take-turn-requires c κs =
-    let inv = c .before .before .before .before .before .before .before .loop .inv in
-    let room = c .before .before .before .before .before .before .before .before .before .before .before .before .before .pre in
-    (
+    let inv = c .before .before .before .before .before .before .before in
+    let room = c .before .before .before .before .before .before .before .before .before .before .before .before .before .pre in (
       record {
-        line-room = inv .line-long ∙ room .line-room;
-        held-within = inv .kept-within;
-        coefficient-room = omega (arith, room .coefficient-room, inv .coefficients-long);
-        planned-room = omega (arith, room .planned-room, inv .planned-long);
-        boundary-room = omega (arith, room .boundary-room, inv .bounds-long);
-        step-room = omega (arith, room .step-room, inv .steps-long);
-        text-room = inv .out-long ∙ room .text-room;
+        line-room = inv .loop .inv .line-long ∙ room .line-room;
+        held-within = inv .loop .inv .kept-within;
+        coefficient-room = omega (arith, room .coefficient-room, inv .loop .inv .coefficients-long);
+        planned-room = omega (arith, room .planned-room, inv .loop .inv .planned-long);
+        boundary-room = omega (arith, room .boundary-room, inv .loop .inv .bounds-long);
+        step-room = omega (arith, room .step-room, inv .loop .inv .steps-long);
+        text-room = inv .loop .inv .out-long ∙ room .text-room;
       },
-      inv .within,
+      inv .loop .inv .within,
     )
 
 slice-reshare-prefix-write-text : tie.Need-slice-reshare-prefix-write-text Inv-loop μ-loop
 slice-reshare-prefix-write-text c =
-    let turn = c .before .before .before .before .before .before .before .before .before .before .take-turn in
-    omega (arith, turn .ensures .text-within, turn .kept .1 .1 .1 .1 .1 .1 .1 .1 .0)
+    let turn = c .before .before .before .before .before .before .before .before .before .before in
+    omega (arith, turn .take-turn .ensures .text-within, turn .take-turn .kept .1 .1 .1 .1 .1 .1 .1 .1 .0)
 
 slice-aggregate-write-text : tie.Need-slice-aggregate-write-text Inv-loop μ-loop
 slice-aggregate-write-text c =
-    let turn = c .before .before .before .before .before .before .before .before .before .before .before .take-turn in
-    sym (length-take-le _ _ (omega (arith, turn .ensures .text-within, turn .kept .1 .1 .1 .1 .1 .1 .1 .1 .0)))
+    let turn = c .before .before .before .before .before .before .before .before .before .before .before in
+    sym (length-take-le _ _ (omega (arith, turn .take-turn .ensures .text-within, turn .take-turn .kept .1 .1 .1 .1 .1 .1 .1 .1 .0)))
 
 write-text-requires : tie.Need-write-text-requires Inv-loop μ-loop
 write-text-requires c κs = search needs
@@ -103,28 +102,30 @@ returns c =
 
 loop-less : tie.Need-loop-less Inv-loop μ-loop
 loop-less c =
-    let turn = c .before .before .before .before .before .before .before .before .before .before .before .before .before .take-turn in
-    let test = c .before .before .before .before .before .before .before .before .before .before .before .before .before .before .before .before .before .before .before .before .loop-test .taken in
-    omega (arith, turn .ensures .onward test)
+    let turn = c .before .before .before .before .before .before .before .before .before .before .before .before .before in
+    let test = turn .before .before .before .before .before .before .before in
+    omega (arith, turn .take-turn .ensures .onward (test .loop-test .taken))
 
 loop-again : tie.Need-loop-again Inv-loop μ-loop
 loop-again c =
-    let turn = c .before .before .before .before .before .before .before .before .before .before .before .before .before .take-turn in
-    let test = c .before .before .before .before .before .before .before .before .before .before .before .before .before .before .before .before .before .before .before .before .loop-test .taken in
-    let loop = c .before .before .before .before .before .before .before .before .before .before .before .before .before .before .before .before .before .before .before .before .before .loop in
-    let inv = loop .inv in
-    let onward = turn .ensures .onward test in
-    let reaches : loop .at ≤ turn .result .read = omega arith in
+    let turn = c .before .before .before .before .before .before .before .before .before .before .before .before .before in
+    let test = turn .before .before .before .before .before .before .before in
+    let loop = test .before in
+    let inv = loop .loop .inv in
+    let onward = turn .take-turn .ensures .onward (test .loop-test .taken) in
+    let reaches : loop .loop .at ≤ turn .take-turn .result .read = omega arith in
     record {
-      within = turn .ensures .within;
-      line-held = held-more _ _ _ _ (loop .at) (loop .kept) (turn .result) (inv .line-held) reaches (turn .ensures .line-held);
-      kept-within = omega (arith, turn .ensures .held-within, turn .kept .1 .1 .0);
-      line-long = turn .kept .1 .1 .0 ∙ inv .line-long;
-      coefficients-long = turn .kept .1 .1 .1 .1 .0 ∙ inv .coefficients-long;
-      planned-long = turn .kept .1 .1 .1 .1 .1 .0 ∙ inv .planned-long;
-      bounds-long = turn .kept .1 .1 .1 .1 .1 .1 .0 ∙ inv .bounds-long;
-      steps-long = turn .kept .1 .1 .1 .1 .1 .1 .1 .0 ∙ inv .steps-long;
-      out-long = turn .kept .1 .1 .1 .1 .1 .1 .1 .1 .0 ∙ inv .out-long;
+      within = turn .take-turn .ensures .within;
+      line-held =
+          held-more _ _ _ _ (loop .loop .at) (loop .loop .kept) (turn .take-turn .result) (inv .line-held) reaches
+          (turn .take-turn .ensures .line-held);
+      kept-within = omega (arith, turn .take-turn .ensures .held-within, turn .take-turn .kept .1 .1 .0);
+      line-long = turn .take-turn .kept .1 .1 .0 ∙ inv .line-long;
+      coefficients-long = turn .take-turn .kept .1 .1 .1 .1 .0 ∙ inv .coefficients-long;
+      planned-long = turn .take-turn .kept .1 .1 .1 .1 .1 .0 ∙ inv .planned-long;
+      bounds-long = turn .take-turn .kept .1 .1 .1 .1 .1 .1 .0 ∙ inv .bounds-long;
+      steps-long = turn .take-turn .kept .1 .1 .1 .1 .1 .1 .1 .0 ∙ inv .steps-long;
+      out-long = turn .take-turn .kept .1 .1 .1 .1 .1 .1 .1 .1 .0 ∙ inv .out-long;
     }
 
 same-length-7 : tie.Need-same-length-7 Inv-loop μ-loop

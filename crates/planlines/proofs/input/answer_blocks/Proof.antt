@@ -70,7 +70,10 @@ same-length-7 : tie.Need-same-length-7 Inv-loop μ-loop
 same-length-7 c = search needs
 
 returns : tie.Need-returns Inv-loop μ-loop
-returns c = omega (arith, c .before .before .before .before .before .before .before .before .before .before .before .before .answer-block .ensures .within, c .before .before .before .before .before .before .before .before .before .before .before .before .before .before .before .before .before .before .before .before .before .before .before .before .before .before .loop .inv .line-long)
+returns c =
+    let answered = c .before .before .before .before .before .before .before .before .before .before .before .before in
+    let loop = answered .before .before .before .before .before .before .before .before .before .before .before .before .before .before in
+    omega (arith, answered .answer-block .ensures .within, loop .loop .inv .line-long)
 
 sub-turns : tie.Need-sub-turns Inv-loop μ-loop
 sub-turns c = search needs
@@ -80,33 +83,33 @@ loop-less c = search needs
 
 loop-again : tie.Need-loop-again Inv-loop μ-loop
 loop-again c =
-    let answered = c .before .before .before .before .before .before .before .before .before .before .before .before .answer-block in
-    let read = c .before .before .before .before .before .before .before .before .before .before .before .before .before .before .before .before .before .before .before .before .before .before .before .read-block in
-    let inv = c .before .before .before .before .before .before .before .before .before .before .before .before .before .before .before .before .before .before .before .before .before .before .before .before .before .before .loop .inv in
-    let room = inv .room in
-    let line-kept = answered .kept .1 .0 in
-    let coefficients-kept = answered .kept .1 .1 .1 .0 in
-    let planned-kept = answered .kept .1 .1 .1 .1 .0 in
-    let bounds-kept = answered .kept .1 .1 .1 .1 .1 .0 in
-    let steps-kept = answered .kept .1 .1 .1 .1 .1 .1 .0 in
-    let out-kept = answered .kept .1 .1 .1 .1 .1 .1 .1 .0 in
+    let answered = c .before .before .before .before .before .before .before .before .before .before .before .before in
+    let read = answered .before .before .before .before .before .before .before .before .before .before .before in
+    let inv = read .before .before .before in
+    let room = inv .loop .inv .room in
+    let line-kept = answered .answer-block .kept .1 .0 in
+    let coefficients-kept = answered .answer-block .kept .1 .1 .1 .0 in
+    let planned-kept = answered .answer-block .kept .1 .1 .1 .1 .0 in
+    let bounds-kept = answered .answer-block .kept .1 .1 .1 .1 .1 .0 in
+    let steps-kept = answered .answer-block .kept .1 .1 .1 .1 .1 .1 .0 in
+    let out-kept = answered .answer-block .kept .1 .1 .1 .1 .1 .1 .1 .0 in
     record {
       room = record {
         line-room = line-kept ∙ room .line-room;
-        held-within = omega (arith, answered .ensures .within, line-kept);
+        held-within = omega (arith, answered .answer-block .ensures .within, line-kept);
         coefficient-room = omega (arith, coefficients-kept, room .coefficient-room);
         planned-room = omega (arith, planned-kept, room .planned-room);
         boundary-room = omega (arith, bounds-kept, room .boundary-room);
         step-room = omega (arith, steps-kept, room .step-room);
         text-room = out-kept ∙ room .text-room;
       };
-      block-long = read .kept .0 ∙ inv .block-long;
-      line-long = line-kept ∙ inv .line-long;
-      coefficients-long = coefficients-kept ∙ inv .coefficients-long;
-      planned-long = planned-kept ∙ inv .planned-long;
-      bounds-long = bounds-kept ∙ inv .bounds-long;
-      steps-long = steps-kept ∙ inv .steps-long;
-      out-long = out-kept ∙ inv .out-long;
+      block-long = read .read-block .kept .0 ∙ inv .loop .inv .block-long;
+      line-long = line-kept ∙ inv .loop .inv .line-long;
+      coefficients-long = coefficients-kept ∙ inv .loop .inv .coefficients-long;
+      planned-long = planned-kept ∙ inv .loop .inv .planned-long;
+      bounds-long = bounds-kept ∙ inv .loop .inv .bounds-long;
+      steps-long = steps-kept ∙ inv .loop .inv .steps-long;
+      out-long = out-kept ∙ inv .loop .inv .out-long;
     }
 
 same-length-8 : tie.Need-same-length-8 Inv-loop μ-loop
@@ -158,8 +161,8 @@ same-length-21 c = search needs
 
 returns-3 : tie.Need-returns-3 Inv-loop μ-loop
 returns-3 c =
-    let inv = c .before .before .before .before .before .before .loop .inv in
-    omega (arith, inv .room .held-within, inv .line-long)
+    let inv = c .before .before .before .before .before .before in
+    omega (arith, inv .loop .inv .room .held-within, inv .loop .inv .line-long)
 
 pub answer-blocks-spec : {M : Type 1} → statement M
 answer-blocks-spec =

@@ -39,17 +39,21 @@ put-end-requires c κs = search needs
 
 slice-reshare-prefix-write-text : tie.Need-slice-reshare-prefix-write-text
 slice-reshare-prefix-write-text c =
-    let put = c .before .before .before .before .before .before .before .before .put-end in
-    let answered = c .before .before .before .before .before .before .before .before .before .before .before .before .before .before .before .before .before .before .before .before .before .before .before .before .before .before .before .before .before .answer-blocks in
-    let room = c .before .before .before .before .before .before .before .before .before .before .before .before .before .before .before .before .before .before .before .before .before .before .before .before .before .before .before .before .before .before .before .before .before .before .before .before .before .before .before .before .before .before .pre in
-    end-within (end-fits _) (put .ensures) (put .kept .1 .1 .1 .1 .1 .1 .0 ∙ answered .kept .1 .1 .1 .1 .1 .1 .0 ∙ room .text-room)
+    let put = c .before .before .before .before .before .before .before .before in
+    let test = put .before .before .before .before .before .before .before in
+    let answered = test .before .before .before .before .before .before .before .before .before .before .before .before .before .before in
+    let start = answered .before .before .before .before .before .before .before .before .before .before .before .before .before in
+    let long = put .put-end .kept .1 .1 .1 .1 .1 .1 .0 ∙ answered .answer-blocks .kept .1 .1 .1 .1 .1 .1 .0 ∙ start .pre .text-room in
+    end-within (end-fits _) (put .put-end .ensures) long
 
 slice-aggregate-write-text : tie.Need-slice-aggregate-write-text
 slice-aggregate-write-text c =
-    let put = c .before .before .before .before .before .before .before .before .before .put-end in
-    let answered = c .before .before .before .before .before .before .before .before .before .before .before .before .before .before .before .before .before .before .before .before .before .before .before .before .before .before .before .before .before .before .answer-blocks in
-    let room = c .before .before .before .before .before .before .before .before .before .before .before .before .before .before .before .before .before .before .before .before .before .before .before .before .before .before .before .before .before .before .before .before .before .before .before .before .before .before .before .before .before .before .before .pre in
-    sym (length-take-le _ _ (end-within (end-fits _) (put .ensures) (put .kept .1 .1 .1 .1 .1 .1 .0 ∙ answered .kept .1 .1 .1 .1 .1 .1 .0 ∙ room .text-room)))
+    let put = c .before .before .before .before .before .before .before .before .before in
+    let test = put .before .before .before .before .before .before .before in
+    let answered = test .before .before .before .before .before .before .before .before .before .before .before .before .before .before in
+    let start = answered .before .before .before .before .before .before .before .before .before .before .before .before .before in
+    let long = put .put-end .kept .1 .1 .1 .1 .1 .1 .0 ∙ answered .answer-blocks .kept .1 .1 .1 .1 .1 .1 .0 ∙ start .pre .text-room in
+    sym (length-take-le _ _ (end-within (end-fits _) (put .put-end .ensures) long))
 
 write-text-requires : tie.Need-write-text-requires
 write-text-requires c κs = search needs
