@@ -1,6 +1,6 @@
 -- What is held while a block is taken part by part stands for the bytes taken so far: before the first part, one part more, and in the end for all.
 use mathlib.Core.Path.{_≡_, refl, ap, sym, _∙_}
-use mathlib.Core.Bool.{true}
+use mathlib.Core.Bool.{Bool, true, false}
 use mathlib.Core.List.{List, [], append-nil}
 use Prim.Native.Nat.{ℕ, _+_, _-_, _≤_}
 use native.Mathlib.Omega.{arith}
@@ -18,6 +18,10 @@ use Rattle.answers.proofs.Turns.{turn-held-append, turn-none}
 no-bytes : noFeed [] ≡ true
 unfolding noFeed
 no-bytes = refl
+
+-- nothing is said of what was not written
+pub unwritten : {X : Type 0} {written : Bool} → written ≡ false → written ≡ true → X
+unwritten is e = let clash : _≡_ {A = ℕ} 0 1 = cc in absurd (omega arith)
 
 pub held-start : (block line : List ℕ) (held : ℕ) → length line ≡ lineRoom → take held line ≡ turnHeld (take held line) (take 0 block)
 held-start block line held room =

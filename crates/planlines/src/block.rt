@@ -26,7 +26,8 @@ pub fn answer_block(
 {
     let mut at = 0;
     let mut kept = held;
-    while at < block.len() {
+    let mut written = true;
+    while written && at < block.len() {
         let turn = take_turn(
             block,
             at,
@@ -39,17 +40,12 @@ pub fn answer_block(
             out,
         );
         let text = turn.text;
-        if !write_text(&out[..text]) {
-            return Answered {
-                held: 0,
-                written: false,
-            };
-        }
+        written = write_text(&out[..text]);
         at = turn.read;
         kept = turn.held;
     }
     Answered {
         held: kept,
-        written: true,
+        written,
     }
 }

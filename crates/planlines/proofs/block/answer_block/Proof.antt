@@ -1,19 +1,20 @@
 -- `planlines::block::answer_block` meets its contract. The loop's invariant: what is held stands for the bytes of the block taken so far. Each turn takes
 -- some, so the rest gets shorter.
 use mathlib.Core.Path.{_≡_, refl, sym, _∙_}
-use mathlib.Core.Bool.{true, false}
-use Prim.Native.Nat.{ℕ, _-_, _≤_}
+use mathlib.Core.Bool.{true}
+use Prim.Native.Nat.{_-_, _≤_}
 use native.Mathlib.Omega.{arith}
+use borrow.Author.Tests.{ltb-true, ltb-false}
 use borrow.Author.Needs.{needs}
 use lib.ListN.{length, take}
 use lib.Seq.{length-take-le}
 use Rattle.answers.specs.Turns.{turnHeld}
-use Rattle.planlines.proofs.BlockLaws.{held-start, held-more, held-end}
+use Rattle.planlines.proofs.BlockLaws.{held-start, held-more, held-end, unwritten}
 use Rattle.planlines.proofs.block.answer_block.Statement.{statement}
 use Rattle.planlines.proofs.block.answer_block.Tie as tie
 
 abbrev Inv-loop : tie.InvT-loop
-Inv-loop block line₀ held coefficients₀ planned₀ bounds₀ steps₀ out₀ at₀ kept₀ line coefficients planned bounds steps out at kept =
+Inv-loop block line₀ held coefficients₀ planned₀ bounds₀ steps₀ out₀ at₀ kept₀ written₀ line coefficients planned bounds steps out at kept written =
     record {
       within : at ≤ length block;
       line-held : take kept line ≡ turnHeld (take held line₀) (take at block);
@@ -27,7 +28,8 @@ Inv-loop block line₀ held coefficients₀ planned₀ bounds₀ steps₀ out₀
     }
 
 abbrev μ-loop : tie.MeasureT-loop
-μ-loop block line₀ held coefficients₀ planned₀ bounds₀ steps₀ out₀ at₀ kept₀ line coefficients planned bounds steps out at kept = length block - at
+μ-loop block line₀ held coefficients₀ planned₀ bounds₀ steps₀ out₀ at₀ kept₀ written₀ line coefficients planned bounds steps out at kept written =
+    length block - at
 
 loop-holds : tie.Need-loop-holds Inv-loop μ-loop
 loop-holds c =
@@ -48,18 +50,20 @@ loop-holds c =
 
 take-turn-requires : tie.Need-take-turn-requires Inv-loop μ-loop
 take-turn-requires c κs =
-    let inv = c .before .before .before .before .before .before .before in
-    let room = c .before .before .before .before .before .before .before .before .before .before .before .before .before .pre in (
+    let loop = c .before .before .before .before .before .before .before .before in
+    let inv = loop .loop .inv in
+    let start = loop .before .before .before .before .before .before in
+    let room = start .pre in (
       record {
-        line-room = inv .loop .inv .line-long ∙ room .line-room;
-        held-within = inv .loop .inv .kept-within;
-        coefficient-room = omega (arith, room .coefficient-room, inv .loop .inv .coefficients-long);
-        planned-room = omega (arith, room .planned-room, inv .loop .inv .planned-long);
-        boundary-room = omega (arith, room .boundary-room, inv .loop .inv .bounds-long);
-        step-room = omega (arith, room .step-room, inv .loop .inv .steps-long);
-        text-room = inv .loop .inv .out-long ∙ room .text-room;
+        line-room = inv .line-long ∙ room .line-room;
+        held-within = inv .kept-within;
+        coefficient-room = omega (arith, room .coefficient-room, inv .coefficients-long);
+        planned-room = omega (arith, room .planned-room, inv .planned-long);
+        boundary-room = omega (arith, room .boundary-room, inv .bounds-long);
+        step-room = omega (arith, room .step-room, inv .steps-long);
+        text-room = inv .out-long ∙ room .text-room;
       },
-      inv .loop .inv .within,
+      inv .within,
     )
 
 slice-reshare-prefix-write-text : tie.Need-slice-reshare-prefix-write-text Inv-loop μ-loop
@@ -74,6 +78,34 @@ slice-aggregate-write-text c =
 
 write-text-requires : tie.Need-write-text-requires Inv-loop μ-loop
 write-text-requires c κs = search needs
+
+loop-less : tie.Need-loop-less Inv-loop μ-loop
+loop-less c =
+    let turn = c .before .before .before .before .before .before .before .before .before .before .before .before in
+    let test = turn .before .before .before .before .before .before .before in
+    omega (arith, turn .take-turn .ensures .onward (ltb-true _ _ (test .if1 .taken)))
+
+loop-again : tie.Need-loop-again Inv-loop μ-loop
+loop-again c =
+    let turn = c .before .before .before .before .before .before .before .before .before .before .before .before in
+    let test = turn .before .before .before .before .before .before .before in
+    let loop = test .before .before in
+    let inv = loop .loop .inv in
+    let onward = turn .take-turn .ensures .onward (ltb-true _ _ (test .if1 .taken)) in
+    let reaches : loop .loop .at ≤ turn .take-turn .result .read = omega arith in
+    record {
+      within = turn .take-turn .ensures .within;
+      line-held =
+          held-more _ _ _ _ (loop .loop .at) (loop .loop .kept) (turn .take-turn .result) (inv .line-held) reaches
+          (turn .take-turn .ensures .line-held);
+      kept-within = omega (arith, turn .take-turn .ensures .held-within, turn .take-turn .kept .1 .1 .0);
+      line-long = turn .take-turn .kept .1 .1 .0 ∙ inv .line-long;
+      coefficients-long = turn .take-turn .kept .1 .1 .1 .1 .0 ∙ inv .coefficients-long;
+      planned-long = turn .take-turn .kept .1 .1 .1 .1 .1 .0 ∙ inv .planned-long;
+      bounds-long = turn .take-turn .kept .1 .1 .1 .1 .1 .1 .0 ∙ inv .bounds-long;
+      steps-long = turn .take-turn .kept .1 .1 .1 .1 .1 .1 .1 .0 ∙ inv .steps-long;
+      out-long = turn .take-turn .kept .1 .1 .1 .1 .1 .1 .1 .1 .0 ∙ inv .out-long;
+    }
 
 same-length : tie.Need-same-length Inv-loop μ-loop
 same-length c = search needs
@@ -95,37 +127,11 @@ same-length-6 c = search needs
 
 returns : tie.Need-returns Inv-loop μ-loop
 returns c =
+    let loop = c .before .before .loop in
+    let inv = loop .inv in
     record {
-      within = omega arith;
-      line-held = λ (e : false ≡ true). let clash : _≡_ {A = ℕ} 0 1 = cc in absurd (omega arith);
-    }
-
-loop-less : tie.Need-loop-less Inv-loop μ-loop
-loop-less c =
-    let turn = c .before .before .before .before .before .before .before .before .before .before .before .before .before in
-    let test = turn .before .before .before .before .before .before .before in
-    omega (arith, turn .take-turn .ensures .onward (test .loop-test .taken))
-
-loop-again : tie.Need-loop-again Inv-loop μ-loop
-loop-again c =
-    let turn = c .before .before .before .before .before .before .before .before .before .before .before .before .before in
-    let test = turn .before .before .before .before .before .before .before in
-    let loop = test .before in
-    let inv = loop .loop .inv in
-    let onward = turn .take-turn .ensures .onward (test .loop-test .taken) in
-    let reaches : loop .loop .at ≤ turn .take-turn .result .read = omega arith in
-    record {
-      within = turn .take-turn .ensures .within;
-      line-held =
-          held-more _ _ _ _ (loop .loop .at) (loop .loop .kept) (turn .take-turn .result) (inv .line-held) reaches
-          (turn .take-turn .ensures .line-held);
-      kept-within = omega (arith, turn .take-turn .ensures .held-within, turn .take-turn .kept .1 .1 .0);
-      line-long = turn .take-turn .kept .1 .1 .0 ∙ inv .line-long;
-      coefficients-long = turn .take-turn .kept .1 .1 .1 .1 .0 ∙ inv .coefficients-long;
-      planned-long = turn .take-turn .kept .1 .1 .1 .1 .1 .0 ∙ inv .planned-long;
-      bounds-long = turn .take-turn .kept .1 .1 .1 .1 .1 .1 .0 ∙ inv .bounds-long;
-      steps-long = turn .take-turn .kept .1 .1 .1 .1 .1 .1 .1 .0 ∙ inv .steps-long;
-      out-long = turn .take-turn .kept .1 .1 .1 .1 .1 .1 .1 .1 .0 ∙ inv .out-long;
+      within = omega (arith, inv .kept-within, inv .line-long);
+      line-held = λ e. held-end _ _ (loop .line) (loop .at) (loop .kept) (inv .line-held) (ltb-false _ _ (c .if1 .left));
     }
 
 same-length-7 : tie.Need-same-length-7 Inv-loop μ-loop
@@ -152,7 +158,7 @@ returns-2 c =
     let inv = loop .inv in
     record {
       within = omega (arith, inv .kept-within, inv .line-long);
-      line-held = λ e. held-end _ _ (loop .line) (loop .at) (loop .kept) (inv .line-held) (c .loop-test .left);
+      line-held = λ (e : loop .written ≡ true). unwritten (c .loop-test .left) e;
     }
 
 pub answer-block-spec : {M : Type 1} → statement M
@@ -166,6 +172,8 @@ answer-block-spec =
     slice-reshare-prefix-write-text
     slice-aggregate-write-text
     write-text-requires
+    loop-less
+    loop-again
     same-length
     same-length-2
     same-length-3
@@ -173,8 +181,6 @@ answer-block-spec =
     same-length-5
     same-length-6
     returns
-    loop-less
-    loop-again
     same-length-7
     same-length-8
     same-length-9
