@@ -10,3 +10,4 @@ pub mod Turns
 pub mod OneAnswer
 pub mod AnswersSame
 pub mod TextFits
+pub mod PrintedBack

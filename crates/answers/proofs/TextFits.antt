@@ -119,7 +119,7 @@ module _ (strategy : SplitStrategy) (parity : Parity) (basis : Basis) (folded : 
         depth = omega (arith, depth .to);
       }
 
-  lists-small : AllTo53 (joined lists)
+  pub lists-small : AllTo53 (joined lists)
   lists-small = rw (ordered strategy parity basis folded c accepted .places) at (coefficients-small strategy parity basis folded c accepted)
 
   lists-fit : length (joined (map listLine lists)) ≤ 24 * 4096

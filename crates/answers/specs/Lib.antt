@@ -3,6 +3,7 @@ pub mod Answer
 pub mod OneAnswer
 pub mod AnswersSame
 pub mod TextFits
+pub mod PrintedBack
 pub mod Input
 pub mod InputLines
 pub mod Turns
