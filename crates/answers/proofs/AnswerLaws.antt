@@ -30,6 +30,7 @@ use Rattle.texts.proofs.PartLaws.{from-first}
 use Rattle.demands.specs.Right.{listsFor, stepsFor}
 use Rattle.demands.proofs.Refusals.{refusal-of, plan-made}
 use Rattle.demands.proofs.Right.{plans-right, holds}
+use Rattle.answers.specs.Limits.{coefficientRoom}
 use Rattle.answers.specs.Answer.{answerRefusal, plannedLines, answerLines, answerText}
 use Rattle.answers.specs.inside.Rooms.{PlanRoom}
 use Rattle.answers.specs.inside.TextFor.{textFor}
@@ -128,7 +129,7 @@ kept-many line buffer form many =
       length-take (length buffer) c,
     )
 
-module _ (line : List ℕ) (buffer : List ℤ) (room : 4097 ≤ length buffer) (form : isLine line ≡ true) where
+module _ (line : List ℕ) (buffer : List ℤ) (room : coefficientRoom ≤ length buffer) (form : isLine line ≡ true) where
   abbrev kept : List ℤ
   kept = take (length (coefficientsIn line)) (lineBuffer line buffer)
 
@@ -149,7 +150,7 @@ module _ (line : List ℕ) (buffer : List ℤ) (room : 4097 ≤ length buffer) (
   kept-text : textFor (strategyIn line) (parityIn line) (basisIn line) (foldIn line) kept ≡ answerText line
   kept-text = by-count (leb (length (coefficientsIn line)) (length buffer)) refl ∙ in-form line form
 
-module _ {line : List ℕ} {buffer buffer′ : List ℤ} {r : Line} (room : 4097 ≤ length buffer) (read : ReadLine line buffer r buffer′) where
+module _ {line : List ℕ} {buffer buffer′ : List ℤ} {r : Line} (room : coefficientRoom ≤ length buffer) (read : ReadLine line buffer r buffer′) where
   -- the refusal of the form
   form-refused : (t : Bool) → isLine line ≡ t → 0 < r .refusal → refusalLine (r .refusal) ≡ answerText line
   unfolding lineAnswer lineRefusal unlessRefused
