@@ -1,0 +1,4 @@
+pub mod Kinds
+pub mod Unknown
+pub mod Flat
+pub mod Degrees
