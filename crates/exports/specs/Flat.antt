@@ -1,5 +1,10 @@
 -- Answers as structs of numbers: field by field, a kind by its number.
+use Prim.Native.Nat.{ℕ}
+use Rattle.algebra.specs.EnumNumbers.{parityNumber, transformNumber}
 use Rattle.number.specs.declared.split.Parts.{Parts}
+use Rattle.number.specs.declared.fold.Folded.{Folded}
+use Rattle.number.specs.declared.interval.Interval.{Interval}
+use Rattle.interpolation.specs.declared.Interpolated.{Interpolated}
 use Rattle.counts.specs.declared.choice.SplitChoice.{SplitChoice}
 use Rattle.counts.specs.declared.choice.OpCounts.{OpCounts}
 use Rattle.counts.specs.declared.depth.EvalDepth.{EvalDepth}
@@ -9,6 +14,9 @@ use Rattle.exports.specs.declared.flat.CSplit.{CSplit}
 use Rattle.exports.specs.declared.flat.CCounts.{CCounts}
 use Rattle.exports.specs.declared.flat.CDepth.{CDepth}
 use Rattle.exports.specs.declared.flat.CBits.{CBits}
+use Rattle.exports.specs.declared.flat.CFolded.{CFolded}
+use Rattle.exports.specs.declared.flat.CInterval.{CInterval}
+use Rattle.exports.specs.declared.flat.CInterpolated.{CInterpolated}
 
 abbrev pub flatParts : Parts → CParts
 flatParts r = record { refusal = r .refusal; a = r .a; b = r .b }
@@ -24,3 +32,20 @@ flatDepth r = record { refusal = r .refusal; depth = r .depth }
 
 abbrev pub flatBits : ConsumedBits → CBits
 flatBits r = record { refusal = r .refusal; bits = r .bits }
+
+abbrev pub flatFolded : Folded → CFolded
+flatFolded r = record { refusal = r .refusal; transform = transformNumber (r .transform); parity = parityNumber (r .parity); count = r .count }
+
+abbrev pub flatInterval : (refusal : ℕ) → Interval → CInterval
+flatInterval refusal r = record { refusal = refusal; a = r .a; b = r .b; u = r .u; w = r .w }
+
+abbrev pub flatInterpolated : Interpolated → CInterpolated
+flatInterpolated r = record {
+  refusal = r .refusal;
+  count = r .count;
+  parity = parityNumber (r .parity);
+  a = r .interval .a;
+  b = r .interval .b;
+  u = r .interval .u;
+  w = r .interval .w;
+}

@@ -2,3 +2,4 @@ pub mod Kinds
 pub mod Unknown
 pub mod Flat
 pub mod Degrees
+pub mod Values

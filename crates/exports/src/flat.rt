@@ -1,11 +1,16 @@
 // Answers as structs of numbers, for C.
 use firrozun::ConsumedBits;
 use firrozun::EvalDepth;
+use firrozun::Folded;
+use firrozun::Interpolated;
+use firrozun::Interval;
 use firrozun::OpCounts;
 use firrozun::Parts;
 use firrozun::SplitChoice;
+use firrozun::parity_number;
+use firrozun::transform_number;
 ghost use mathlib.Core.Path.{_≡_};
-ghost use Rattle.exports.specs.Flat.{flatParts, flatSplit, flatCounts, flatDepth, flatBits};
+ghost use Rattle.exports.specs.Flat.{flatParts, flatSplit, flatCounts, flatDepth, flatBits, flatFolded, flatInterval, flatInterpolated};
 
 #[repr(C)]
 pub struct CParts {
@@ -37,6 +42,42 @@ pub struct CDepth {
 pub struct CBits {
     pub refusal: u8,
     pub bits: usize,
+}
+
+#[repr(C)]
+pub struct CFolded {
+    pub refusal: u8,
+    pub transform: u8,
+    pub parity: u8,
+    pub count: usize,
+}
+
+// A value, or a refusal with +0.
+#[repr(C)]
+pub struct CValue {
+    pub refusal: u8,
+    pub value: f64,
+}
+
+// An interval with its change pair, or a refusal with +0 in every field.
+#[repr(C)]
+pub struct CInterval {
+    pub refusal: u8,
+    pub a: f64,
+    pub b: f64,
+    pub u: f64,
+    pub w: f64,
+}
+
+#[repr(C)]
+pub struct CInterpolated {
+    pub refusal: u8,
+    pub count: usize,
+    pub parity: u8,
+    pub a: f64,
+    pub b: f64,
+    pub u: f64,
+    pub w: f64,
 }
 
 pub fn flat_parts(parts: Parts) -> CParts
@@ -83,5 +124,46 @@ pub fn flat_bits(answer: ConsumedBits) -> CBits
     CBits {
         refusal: answer.refusal,
         bits: answer.bits,
+    }
+}
+
+pub fn flat_folded(answer: Folded) -> CFolded
+    ensures { λ r. ⌜ r ≡ flatFolded answer ⌝ }
+{
+    let transform = answer.transform;
+    let parity = answer.parity;
+    CFolded {
+        refusal: answer.refusal,
+        transform: transform_number(transform),
+        parity: parity_number(parity),
+        count: answer.count,
+    }
+}
+
+pub fn flat_interval(refusal: u8, interval: Interval) -> CInterval
+    ensures { λ r. ⌜ r ≡ flatInterval refusal interval ⌝ }
+{
+    CInterval {
+        refusal,
+        a: interval.a,
+        b: interval.b,
+        u: interval.u,
+        w: interval.w,
+    }
+}
+
+pub fn flat_interpolated(answer: Interpolated) -> CInterpolated
+    ensures { λ r. ⌜ r ≡ flatInterpolated answer ⌝ }
+{
+    let parity = answer.parity;
+    let interval = answer.interval;
+    CInterpolated {
+        refusal: answer.refusal,
+        count: answer.count,
+        parity: parity_number(parity),
+        a: interval.a,
+        b: interval.b,
+        u: interval.u,
+        w: interval.w,
     }
 }

@@ -2,3 +2,4 @@
 pub mod degrees;
 pub mod flat;
 pub mod kinds;
+pub mod values;
