@@ -1,2 +1,3 @@
 pub mod KindNumbers
+pub mod HeadsShown
 mod Known

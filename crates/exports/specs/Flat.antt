@@ -9,6 +9,8 @@ use Rattle.counts.specs.declared.choice.SplitChoice.{SplitChoice}
 use Rattle.counts.specs.declared.choice.OpCounts.{OpCounts}
 use Rattle.counts.specs.declared.depth.EvalDepth.{EvalDepth}
 use Rattle.counts.specs.declared.consumed.ConsumedBits.{ConsumedBits}
+use Rattle.lists.specs.declared.call.Listed.{Listed}
+use Rattle.walk.specs.declared.call.Trial.{Trial}
 use Rattle.exports.specs.declared.flat.CParts.{CParts}
 use Rattle.exports.specs.declared.flat.CSplit.{CSplit}
 use Rattle.exports.specs.declared.flat.CCounts.{CCounts}
@@ -17,6 +19,8 @@ use Rattle.exports.specs.declared.flat.CBits.{CBits}
 use Rattle.exports.specs.declared.flat.CFolded.{CFolded}
 use Rattle.exports.specs.declared.flat.CInterval.{CInterval}
 use Rattle.exports.specs.declared.flat.CInterpolated.{CInterpolated}
+use Rattle.exports.specs.declared.flat.CListed.{CListed}
+use Rattle.exports.specs.declared.flat.CTrial.{CTrial}
 
 abbrev pub flatParts : Parts → CParts
 flatParts r = record { refusal = r .refusal; a = r .a; b = r .b }
@@ -49,3 +53,9 @@ flatInterpolated r = record {
   u = r .interval .u;
   w = r .interval .w;
 }
+
+abbrev pub flatListed : Listed → CListed
+flatListed r = record { refusal = r .refusal; degree = r .degree; base = r .base; coefficients = r .coefficients; lists = r .lists }
+
+abbrev pub flatTrial : Trial → CTrial
+flatTrial r = record { refusal = r .refusal; remainder = r .remainder }

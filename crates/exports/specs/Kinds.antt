@@ -55,6 +55,10 @@ knowsPair parity basis = isParity parity && isBasis basis
 unfoldable pub knowsAll : (strategy parity basis : ℕ) → Bool
 knowsAll strategy parity basis = isStrategy strategy && knowsPair parity basis
 
+-- with folding or without
+unfoldable pub knowsSettings : (strategy parity basis fold : ℕ) → Bool
+knowsSettings strategy parity basis fold = isFold fold && knowsAll strategy parity basis
+
 -- ---- the numbers are those that answers show, and there are no others
 
 -- a kind `of` each number that `known` accepts, which is the kind's own

@@ -3,3 +3,5 @@ pub mod Unknown
 pub mod Flat
 pub mod Degrees
 pub mod Values
+pub mod Listing
+pub mod Planning

@@ -4,13 +4,16 @@ use firrozun::EvalDepth;
 use firrozun::Folded;
 use firrozun::Interpolated;
 use firrozun::Interval;
+use firrozun::Listed;
 use firrozun::OpCounts;
 use firrozun::Parts;
 use firrozun::SplitChoice;
+use firrozun::Trial;
 use firrozun::parity_number;
 use firrozun::transform_number;
 ghost use mathlib.Core.Path.{_≡_};
 ghost use Rattle.exports.specs.Flat.{flatParts, flatSplit, flatCounts, flatDepth, flatBits, flatFolded, flatInterval, flatInterpolated};
+ghost use Rattle.exports.specs.Flat.{flatListed, flatTrial};
 
 #[repr(C)]
 pub struct CParts {
@@ -78,6 +81,21 @@ pub struct CInterpolated {
     pub b: f64,
     pub u: f64,
     pub w: f64,
+}
+
+#[repr(C)]
+pub struct CListed {
+    pub refusal: u8,
+    pub degree: usize,
+    pub base: usize,
+    pub coefficients: usize,
+    pub lists: usize,
+}
+
+#[repr(C)]
+pub struct CTrial {
+    pub refusal: u8,
+    pub remainder: u64,
 }
 
 pub fn flat_parts(parts: Parts) -> CParts
@@ -165,5 +183,26 @@ pub fn flat_interpolated(answer: Interpolated) -> CInterpolated
         b: interval.b,
         u: interval.u,
         w: interval.w,
+    }
+}
+
+pub fn flat_listed(answer: Listed) -> CListed
+    ensures { λ r. ⌜ r ≡ flatListed answer ⌝ }
+{
+    CListed {
+        refusal: answer.refusal,
+        degree: answer.degree,
+        base: answer.base,
+        coefficients: answer.coefficients,
+        lists: answer.lists,
+    }
+}
+
+pub fn flat_trial(answer: Trial) -> CTrial
+    ensures { λ r. ⌜ r ≡ flatTrial answer ⌝ }
+{
+    CTrial {
+        refusal: answer.refusal,
+        remainder: answer.remainder,
     }
 }

@@ -5,7 +5,7 @@ use firrozun::PolynomialInputTransform;
 use firrozun::SplitStrategy;
 ghost use mathlib.Core.Path.{_≡_};
 ghost use Rattle.exports.specs.Kinds.{isBasis, basisOf, isParity, parityOf, isStrategy, strategyOf, isTransform, transformOf, isFold, foldOf};
-ghost use Rattle.exports.specs.Kinds.{knowsPair, knowsAll};
+ghost use Rattle.exports.specs.Kinds.{knowsPair, knowsAll, knowsSettings};
 
 pub fn is_basis(n: u8) -> bool
     ensures { λ r. ⌜ r ≡ isBasis n ⌝ }
@@ -110,4 +110,14 @@ pub fn knows_all(strategy: u8, parity: u8, basis: u8) -> bool
         return false;
     }
     knows_pair(parity, basis)
+}
+
+// Whether a plan call with these settings may go on.
+pub fn knows_settings(strategy: u8, parity: u8, basis: u8, fold: u8) -> bool
+    ensures { λ r. ⌜ r ≡ knowsSettings strategy parity basis fold ⌝ }
+{
+    if !is_fold(fold) {
+        return false;
+    }
+    knows_all(strategy, parity, basis)
 }

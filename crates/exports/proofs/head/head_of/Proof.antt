@@ -1,0 +1,34 @@
+-- `head_of` is right: each number becomes the kind that it stands for, and the other fields stay.
+use Rattle.exports.specs.Planning.{headOf}
+use borrow.Author.Needs.{needs}
+use Rattle.exports.proofs.head.head_of.Statement.{statement}
+use Rattle.exports.proofs.head.head_of.Tie as tie
+
+basis-of-requires : tie.Need-basis-of-requires
+basis-of-requires c κs = search needs
+
+parity-of-requires : tie.Need-parity-of-requires
+parity-of-requires c κs = search needs
+
+strategy-of-requires : tie.Need-strategy-of-requires
+strategy-of-requires c κs = search needs
+
+transform-of-requires : tie.Need-transform-of-requires
+transform-of-requires c κs = search needs
+
+returns : tie.Need-returns
+unfolding headOf
+returns c =
+    let planned = c .before in
+    let told = planned .before in
+    rw (c .transform-of .ensures, planned .strategy-of .ensures, told .parity-of .ensures, told .before .basis-of .ensures)
+
+pub head-of-spec : {M : Type 1} → statement M
+head-of-spec =
+    tie.close
+    (tie.spec
+    basis-of-requires
+    parity-of-requires
+    strategy-of-requires
+    transform-of-requires
+    returns)
