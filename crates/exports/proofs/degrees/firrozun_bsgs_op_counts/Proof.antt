@@ -35,7 +35,8 @@ returns-2 c =
     let told = based .before in
     let chosen = told .before in
     let test = chosen .before in
-    rw (known (test .if1 .left) (test .before .knows-all .ensures), c .flat-counts .ensures, called .bsgs-op-counts .ensures, based .basis-of .ensures, told .parity-of .ensures, chosen .strategy-of .ensures)
+    let sure = known (test .if1 .left) (test .before .knows-all .ensures) in
+    rw (sure, c .flat-counts .ensures, called .bsgs-op-counts .ensures, based .basis-of .ensures, told .parity-of .ensures, chosen .strategy-of .ensures)
 
 pub firrozun-bsgs-op-counts-spec : {M : Type 1} → statement M
 firrozun-bsgs-op-counts-spec =

@@ -31,7 +31,8 @@ returns-2 c =
     let based = called .before in
     let told = based .before in
     let test = told .before in
-    rw (known (test .if1 .left) (test .before .knows-pair .ensures), c .flat-split .ensures, called .min-mult-split .ensures, based .basis-of .ensures, told .parity-of .ensures)
+    let sure = known (test .if1 .left) (test .before .knows-pair .ensures) in
+    rw (sure, c .flat-split .ensures, called .min-mult-split .ensures, based .basis-of .ensures, told .parity-of .ensures)
 
 pub firrozun-min-mult-split-spec : {M : Type 1} → statement M
 firrozun-min-mult-split-spec =

@@ -25,14 +25,20 @@ returns-3 c =
 returns-4 : tie.Need-returns-4
 unfolding transformOf
 returns-4 c =
-    let n = c .before .before .before .before .args .n in
-    rw (ne-eqb n 0 (c .before .before .before .if1 .left), ne-eqb n 1 (c .before .before .if2 .left), ne-eqb n 2 (c .before .if3 .left), eq-eqb n 3 (c .if4 .taken))
+    let third = c .before in
+    let second = third .before in
+    let first = second .before in
+    let n = first .before .args .n in
+    rw (ne-eqb n 0 (first .if1 .left), ne-eqb n 1 (second .if2 .left), ne-eqb n 2 (third .if3 .left), eq-eqb n 3 (c .if4 .taken))
 
 returns-5 : tie.Need-returns-5
 unfolding transformOf
 returns-5 c =
-    let n = c .before .before .before .before .args .n in
-    rw (ne-eqb n 0 (c .before .before .before .if1 .left), ne-eqb n 1 (c .before .before .if2 .left), ne-eqb n 2 (c .before .if3 .left), ne-eqb n 3 (c .if4 .left))
+    let third = c .before in
+    let second = third .before in
+    let first = second .before in
+    let n = first .before .args .n in
+    rw (ne-eqb n 0 (first .if1 .left), ne-eqb n 1 (second .if2 .left), ne-eqb n 2 (third .if3 .left), ne-eqb n 3 (c .if4 .left))
 
 pub transform-of-spec : {M : Type 1} → statement M
 transform-of-spec = tie.close (tie.spec returns returns-2 returns-3 returns-4 returns-5)

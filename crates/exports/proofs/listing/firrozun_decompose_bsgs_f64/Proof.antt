@@ -16,10 +16,11 @@ returns : tie.Need-returns
 unfolding whenKnown
 returns c =
     let test = c .before in
+    let unsure = unknown (test .if1 .taken) (test .before .knows-all .ensures) in
     record {
-      answer = rw (unknown (test .if1 .taken) (test .before .knows-all .ensures), c .no-lists .ensures);
-      coefficients = rw (unknown (test .if1 .taken) (test .before .knows-all .ensures));
-      boundaries = rw (unknown (test .if1 .taken) (test .before .knows-all .ensures));
+      answer = rw (unsure, c .no-lists .ensures);
+      coefficients = rw (unsure);
+      boundaries = rw (unsure);
     }
 
 strategy-of-requires : tie.Need-strategy-of-requires
@@ -51,10 +52,14 @@ returns-2 c =
     let told = based .before in
     let chosen = told .before in
     let test = chosen .before in
+    let basis = based .basis-of .ensures in
+    let parity = told .parity-of .ensures in
+    let strategy = chosen .strategy-of .ensures in
+    let sure = known (test .if1 .left) (test .before .knows-all .ensures) in
     record {
-      answer = rw (known (test .if1 .left) (test .before .knows-all .ensures), c .flat-listed .ensures, called .decompose-bsgs-f64 .ensures .answer, based .basis-of .ensures, told .parity-of .ensures, chosen .strategy-of .ensures);
-      coefficients = rw (known (test .if1 .left) (test .before .knows-all .ensures), called .decompose-bsgs-f64 .ensures .coefficients, based .basis-of .ensures, told .parity-of .ensures, chosen .strategy-of .ensures);
-      boundaries = rw (known (test .if1 .left) (test .before .knows-all .ensures), called .decompose-bsgs-f64 .ensures .boundaries, based .basis-of .ensures, told .parity-of .ensures, chosen .strategy-of .ensures);
+      answer = rw (sure, c .flat-listed .ensures, called .decompose-bsgs-f64 .ensures .answer, basis, parity, strategy);
+      coefficients = rw (sure, called .decompose-bsgs-f64 .ensures .coefficients, basis, parity, strategy);
+      boundaries = rw (sure, called .decompose-bsgs-f64 .ensures .boundaries, basis, parity, strategy);
     }
 
 pub firrozun-decompose-bsgs-f64-spec : {M : Type 1} → statement M

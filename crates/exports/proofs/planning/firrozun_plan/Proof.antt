@@ -16,11 +16,12 @@ returns : tie.Need-returns
 unfolding whenKnown
 returns c =
     let test = c .before in
+    let unsure = unknown (test .if1 .taken) (test .before .knows-settings .ensures) in
     record {
-      answer = rw (unknown (test .if1 .taken) (test .before .knows-settings .ensures), c .no-plan .ensures);
-      coefficients = rw (unknown (test .if1 .taken) (test .before .knows-settings .ensures));
-      boundaries = rw (unknown (test .if1 .taken) (test .before .knows-settings .ensures));
-      numbers = rw (unknown (test .if1 .taken) (test .before .knows-settings .ensures));
+      answer = rw (unsure, c .no-plan .ensures);
+      coefficients = rw (unsure);
+      boundaries = rw (unsure);
+      numbers = rw (unsure);
     }
 
 strategy-of-requires : tie.Need-strategy-of-requires
@@ -59,11 +60,16 @@ returns-2 c =
     let told = based .before in
     let chosen = told .before in
     let test = chosen .before in
+    let fold = folded .fold-of .ensures in
+    let basis = based .basis-of .ensures in
+    let parity = told .parity-of .ensures in
+    let strategy = chosen .strategy-of .ensures in
+    let sure = known (test .if1 .left) (test .before .knows-settings .ensures) in
     record {
-      answer = rw (known (test .if1 .left) (test .before .knows-settings .ensures), c .flat-planned .ensures, called .plan .ensures .answer, folded .fold-of .ensures, based .basis-of .ensures, told .parity-of .ensures, chosen .strategy-of .ensures);
-      coefficients = rw (known (test .if1 .left) (test .before .knows-settings .ensures), called .plan .ensures .coefficients, folded .fold-of .ensures, based .basis-of .ensures, told .parity-of .ensures, chosen .strategy-of .ensures);
-      boundaries = rw (known (test .if1 .left) (test .before .knows-settings .ensures), called .plan .ensures .boundaries, folded .fold-of .ensures, based .basis-of .ensures, told .parity-of .ensures, chosen .strategy-of .ensures);
-      numbers = rw (known (test .if1 .left) (test .before .knows-settings .ensures), called .plan .ensures .numbers, folded .fold-of .ensures, based .basis-of .ensures, told .parity-of .ensures, chosen .strategy-of .ensures);
+      answer = rw (sure, c .flat-planned .ensures, called .plan .ensures .answer, fold, basis, parity, strategy);
+      coefficients = rw (sure, called .plan .ensures .coefficients, fold, basis, parity, strategy);
+      boundaries = rw (sure, called .plan .ensures .boundaries, fold, basis, parity, strategy);
+      numbers = rw (sure, called .plan .ensures .numbers, fold, basis, parity, strategy);
     }
 
 pub firrozun-plan-spec : {M : Type 1} → statement M

@@ -29,7 +29,8 @@ returns-2 c =
     let meant = called .before in
     let test = meant .before in
     let start = test .before .before .before .before in
-    rw (known (test .if1 .left) (test .before .knows-head .ensures), c .flat-trial .ensures, called .trial-walk .ensures, meant .head-of .ensures, toZ-ofZ (start .fits .point))
+    let sure = known (test .if1 .left) (test .before .knows-head .ensures) in
+    rw (sure, c .flat-trial .ensures, called .trial-walk .ensures, meant .head-of .ensures, toZ-ofZ (start .fits .point))
 
 pub firrozun-trial-walk-spec : {M : Type 1} → statement M
 firrozun-trial-walk-spec =

@@ -16,9 +16,10 @@ returns : tie.Need-returns
 unfolding whenKnown
 returns c =
     let test = c .before in
+    let unsure = unknown (test .if1 .taken) (test .before .knows-pair .ensures) in
     record {
-      answer = rw (unknown (test .if1 .taken) (test .before .knows-pair .ensures), c .no-fold .ensures);
-      buffer = rw (unknown (test .if1 .taken) (test .before .knows-pair .ensures));
+      answer = rw (unsure, c .no-fold .ensures);
+      buffer = rw (unsure);
     }
 
 parity-of-requires : tie.Need-parity-of-requires
@@ -43,9 +44,10 @@ returns-2 c =
     let based = called .before .before in
     let told = based .before in
     let test = told .before in
+    let sure = known (test .if1 .left) (test .before .knows-pair .ensures) in
     record {
-      answer = rw (known (test .if1 .left) (test .before .knows-pair .ensures), c .flat-folded .ensures, called .fold-parity-f64 .ensures .answer, based .basis-of .ensures, told .parity-of .ensures);
-      buffer = rw (known (test .if1 .left) (test .before .knows-pair .ensures), called .fold-parity-f64 .ensures .buffer, based .basis-of .ensures, told .parity-of .ensures);
+      answer = rw (sure, c .flat-folded .ensures, called .fold-parity-f64 .ensures .answer, based .basis-of .ensures, told .parity-of .ensures);
+      buffer = rw (sure, called .fold-parity-f64 .ensures .buffer, based .basis-of .ensures, told .parity-of .ensures);
     }
 
 pub firrozun-fold-parity-f64-spec : {M : Type 1} → statement M
