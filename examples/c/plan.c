@@ -134,7 +134,8 @@ static void bare_numbers(void) {
     firrozun_depth depth = firrozun_bsgs_eval_depth(FIRROZUN_MIN_DEPTH, 4);
     expect(depth.refusal == 0 && depth.depth == 3, "the depth of 4");
     expect(firrozun_bsgs_eval_depth(2, 4).refusal == FIRROZUN_REFUSAL_UNKNOWN_KIND, "the depth with an unknown strategy");
-    expect(firrozun_bsgs_consumed_bits(FIRROZUN_MIN_DEPTH, 0, 40, 30).refusal == 0, "the bits of 0");
+    firrozun_bits bits = firrozun_bsgs_consumed_bits(FIRROZUN_MIN_DEPTH, 4, 40, 30);
+    expect(bits.refusal == 0 && bits.bits == 110, "the bits of 4");
     expect(firrozun_bsgs_consumed_bits(FIRROZUN_MIN_DEPTH, 4, 65536, 30).refusal == FIRROZUN_REFUSAL_SCALE, "a scale of 65,536");
     expect(firrozun_bsgs_consumed_bits(2, 4, 40, 30).refusal == FIRROZUN_REFUSAL_UNKNOWN_KIND, "the bits with an unknown strategy");
 }
@@ -180,8 +181,8 @@ static void coefficients(void) {
     firrozun_listed listed = firrozun_decompose_bsgs(FIRROZUN_MIN_DEPTH, FIRROZUN_FULL, 2, even, 3, out, 3, bounds, 3);
     expect(listed.refusal == FIRROZUN_REFUSAL_UNKNOWN_KIND && out[0] == 7 && bounds[0] == 7, "lists with an unknown basis");
     listed = firrozun_decompose_bsgs(FIRROZUN_MIN_DEPTH, FIRROZUN_FULL, FIRROZUN_MONOMIAL, even, 3, out, 3, bounds, 3);
-    expect(listed.refusal == 0 && listed.degree == 2 && listed.coefficients == 3, "lists");
-    expect(memcmp(out, even, sizeof out) == 0 && bounds[listed.lists - 1] == 3, "the coefficients of lists");
+    expect(listed.refusal == 0 && listed.degree == 2 && listed.base == 2 && listed.coefficients == 3 && listed.lists == 2, "lists");
+    expect(memcmp(out, even, sizeof out) == 0 && bounds[0] == 2 && bounds[1] == 3 && bounds[2] == 7, "the buffers of lists");
     listed = firrozun_decompose_bsgs_f64(FIRROZUN_MIN_DEPTH, FIRROZUN_FULL, FIRROZUN_MONOMIAL, even_f64, 3, out_f64, 3, bounds, 3);
     expect(listed.refusal == 0 && memcmp(out_f64, even_f64, sizeof out_f64) == 0, "lists of doubles");
 }

@@ -14,7 +14,8 @@ use Rattle.algebra.specs.declared.PolynomialInputTransform.the-variants.{Identi
 use Rattle.counts.specs.StrategyNumber.{strategyNumber}
 use Rattle.counts.specs.declared.choice.SplitStrategy.{SplitStrategy}
 use Rattle.counts.specs.declared.choice.SplitStrategy.the-variants.{MinDepth, MinMult}
-use Rattle.exports.specs.Kinds.{isBasis, basisOf, isParity, parityOf, isStrategy, strategyOf, isTransform, transformOf, KindsNumbered}
+use Rattle.exports.specs.Kinds.{isBasis, basisOf, isParity, parityOf, isStrategy, strategyOf, isTransform, transformOf}
+use Rattle.exports.specs.KindNumbers.{KindsTold}
 
 -- ---- bases
 
@@ -96,8 +97,8 @@ transform-back (suc (suc (suc zero))) known = refl
 transform-back (suc (suc (suc (suc zero)))) known = refl
 transform-back (suc (suc (suc (suc (suc n))))) known = absurd (omega (arith, ltb-true (suc (suc (suc (suc (suc n))))) 5 known))
 
-pub kinds-numbered : KindsNumbered
-kinds-numbered = record {
+pub kinds-told : KindsTold
+kinds-told = record {
   bases = record { accepted = basis-accepted; same = basis-same; back = basis-back };
   parities = record { accepted = parity-accepted; same = parity-same; back = parity-back };
   strategies = record { accepted = strategy-accepted; same = strategy-same; back = strategy-back };

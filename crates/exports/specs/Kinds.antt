@@ -1,17 +1,14 @@
 -- The kinds by their numbers (docs/RULES.md, "Numbers of the kinds"): which numbers are a kind's, and the kind of each. An unknown number stands for
 -- the last kind, and no call uses it.
-use mathlib.Core.Path.{_≡_}
-use mathlib.Core.Bool.{Bool, true, cond, _&&_}
+use mathlib.Core.Bool.{Bool, cond, _&&_}
 use Prim.Native.Nat.{ℕ}
 use lib.Dec.{eqb, ltb}
-use Rattle.algebra.specs.EnumNumbers.{basisNumber, parityNumber, transformNumber}
 use Rattle.algebra.specs.declared.Basis.{Basis}
 use Rattle.algebra.specs.declared.Basis.the-variants.{Monomial, Chebyshev}
 use Rattle.algebra.specs.declared.Parity.{Parity}
 use Rattle.algebra.specs.declared.Parity.the-variants.{Full, Even, Odd}
 use Rattle.algebra.specs.declared.PolynomialInputTransform.{PolynomialInputTransform}
 use Rattle.algebra.specs.declared.PolynomialInputTransform.the-variants.{Identity, Square, SquareTimesInput, ChebyshevT2, ChebyshevT2TimesInput}
-use Rattle.counts.specs.StrategyNumber.{strategyNumber}
 use Rattle.counts.specs.declared.choice.SplitStrategy.{SplitStrategy}
 use Rattle.counts.specs.declared.choice.SplitStrategy.the-variants.{MinDepth, MinMult}
 
@@ -58,17 +55,3 @@ knowsAll strategy parity basis = isStrategy strategy && knowsPair parity basis
 -- with folding or without
 unfoldable pub knowsSettings : (strategy parity basis fold : ℕ) → Bool
 knowsSettings strategy parity basis fold = isFold fold && knowsAll strategy parity basis
-
--- ---- the numbers are those that answers show, and there are no others
-
--- a kind `of` each number that `known` accepts, which is the kind's own
-pub record Numbered (K : Type 0) (number : K → ℕ) (known : ℕ → Bool) (of : ℕ → K) : Type 0 where
-  pub accepted : (kind : K) → known (number kind) ≡ true
-  pub same : (kind : K) → of (number kind) ≡ kind
-  pub back : (n : ℕ) → known n ≡ true → number (of n) ≡ n
-
-pub record KindsNumbered : Type 0 where
-  pub bases : Numbered Basis basisNumber isBasis basisOf
-  pub parities : Numbered Parity parityNumber isParity parityOf
-  pub strategies : Numbered SplitStrategy strategyNumber isStrategy strategyOf
-  pub transforms : Numbered PolynomialInputTransform transformNumber isTransform transformOf

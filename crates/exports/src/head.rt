@@ -12,7 +12,7 @@ use firrozun::parity_number;
 use firrozun::strategy_number;
 use firrozun::transform_number;
 ghost use mathlib.Core.Path.{_≡_};
-ghost use Rattle.exports.specs.Planning.{flatHead, headOf, knowsHead, flatPlanned, noPlan};
+ghost use Rattle.exports.specs.Heads.{flatHead, headMeant, knowsHead, flatPlanned, noPlan};
 
 // The four kinds by their numbers.
 #[repr(C)]
@@ -62,7 +62,7 @@ fn flat_head(head: Head) -> CHead
 
 // The head that is meant.
 pub fn head_of(head: CHead) -> Head
-    ensures { λ r. ⌜ r ≡ headOf head ⌝ }
+    ensures { λ r. ⌜ r ≡ headMeant head ⌝ }
 {
     Head {
         basis: basis_of(head.basis),

@@ -17,9 +17,9 @@ transform-number-requires c κs = search needs
 
 returns : tie.Need-returns
 returns c =
-    let planned = c .before in
-    let told = planned .before in
-    rw (c .transform-number .ensures, planned .strategy-number .ensures, told .parity-number .ensures, told .before .basis-number .ensures)
+    let chosen = c .before in
+    let told = chosen .before in
+    rw (c .transform-number .ensures, chosen .strategy-number .ensures, told .parity-number .ensures, told .before .basis-number .ensures)
 
 pub flat-head-spec : {M : Type 1} → statement M
 flat-head-spec =

@@ -1,5 +1,5 @@
 -- `head_of` is right: each number becomes the kind that it stands for, and the other fields stay.
-use Rattle.exports.specs.Planning.{headOf}
+use Rattle.exports.specs.Heads.{headMeant}
 use borrow.Author.Needs.{needs}
 use Rattle.exports.proofs.head.head_of.Statement.{statement}
 use Rattle.exports.proofs.head.head_of.Tie as tie
@@ -17,11 +17,11 @@ transform-of-requires : tie.Need-transform-of-requires
 transform-of-requires c κs = search needs
 
 returns : tie.Need-returns
-unfolding headOf
+unfolding headMeant
 returns c =
-    let planned = c .before in
-    let told = planned .before in
-    rw (c .transform-of .ensures, planned .strategy-of .ensures, told .parity-of .ensures, told .before .basis-of .ensures)
+    let chosen = c .before in
+    let told = chosen .before in
+    rw (c .transform-of .ensures, chosen .strategy-of .ensures, told .parity-of .ensures, told .before .basis-of .ensures)
 
 pub head-of-spec : {M : Type 1} → statement M
 head-of-spec =

@@ -1,5 +1,5 @@
 -- `knows_head` is right: an unknown transform makes it false, and a known one leaves it to the three other kinds.
-use Rattle.exports.specs.Planning.{knowsHead}
+use Rattle.exports.specs.Heads.{knowsHead}
 use Rattle.exports.proofs.Known.{unknown, known}
 use borrow.Author.Needs.{needs}
 use Rattle.exports.proofs.head.knows_head.Statement.{statement}
