@@ -1,7 +1,8 @@
--- `firrozun_min_mult_split` is right: with two known kinds it is the call's own answer for them, field by field, and else refusal 43.
+-- `exports::degrees::firrozun_min_mult_split` meets its contract. With two known kinds the answer is the call's own answer for them, field by
+-- field, and else refusal 43.
+use borrow.Author.Needs.{needs}
 use Rattle.exports.specs.Unknown.{whenKnown}
 use Rattle.exports.proofs.Known.{unknown, known}
-use borrow.Author.Needs.{needs}
 use Rattle.exports.proofs.degrees.firrozun_min_mult_split.Statement.{statement}
 use Rattle.exports.proofs.degrees.firrozun_min_mult_split.Tie as tie
 

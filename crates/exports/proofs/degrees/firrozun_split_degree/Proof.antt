@@ -1,7 +1,7 @@
--- `firrozun_split_degree` is right: it is the call's own answer, field by field.
+-- `exports::degrees::firrozun_split_degree` meets its contract. It is the call's own answer, field by field.
 use mathlib.Core.Path.{ap, _∙_}
-use Rattle.exports.specs.Flat.{flatParts}
 use borrow.Author.Needs.{needs}
+use Rattle.exports.specs.Flat.{flatParts}
 use Rattle.exports.proofs.degrees.firrozun_split_degree.Statement.{statement}
 use Rattle.exports.proofs.degrees.firrozun_split_degree.Tie as tie
 

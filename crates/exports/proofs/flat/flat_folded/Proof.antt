@@ -1,4 +1,4 @@
--- `flat_folded` is right: it shows both kinds by their numbers, and the other fields as they are.
+-- `exports::flat::flat_folded` meets its contract. It shows both kinds by their numbers, and the other fields as they are.
 use borrow.Author.Needs.{needs}
 use Rattle.exports.proofs.flat.flat_folded.Statement.{statement}
 use Rattle.exports.proofs.flat.flat_folded.Tie as tie

@@ -1,4 +1,5 @@
--- `flat_interpolated` is right: it shows the parity by its number, and the other fields, with those of the interval, as they are.
+-- `exports::flat::flat_interpolated` meets its contract. It shows the parity by its number, and the other fields, with those of the interval, as
+-- they are.
 use borrow.Author.Needs.{needs}
 use Rattle.exports.proofs.flat.flat_interpolated.Statement.{statement}
 use Rattle.exports.proofs.flat.flat_interpolated.Tie as tie

@@ -1,4 +1,4 @@
--- `flat_head` is right: each kind becomes its number, and the other fields stay.
+-- `exports::head::flat_head` meets its contract. Each kind becomes its number, and the other fields stay.
 use borrow.Author.Needs.{needs}
 use Rattle.exports.proofs.head.flat_head.Statement.{statement}
 use Rattle.exports.proofs.head.flat_head.Tie as tie

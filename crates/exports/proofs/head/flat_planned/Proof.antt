@@ -1,4 +1,4 @@
--- `flat_planned` is right: the refusal stays, and the head is shown in numbers.
+-- `exports::head::flat_planned` meets its contract. The refusal stays, and the head is shown in numbers.
 use borrow.Author.Needs.{needs}
 use Rattle.exports.proofs.head.flat_planned.Statement.{statement}
 use Rattle.exports.proofs.head.flat_planned.Tie as tie

@@ -1,6 +1,6 @@
--- `head_of` is right: each number becomes the kind that it stands for, and the other fields stay.
-use Rattle.exports.specs.Heads.{headMeant}
+-- `exports::head::head_of` meets its contract. Each number becomes the kind that it stands for, and the other fields stay.
 use borrow.Author.Needs.{needs}
+use Rattle.exports.specs.Heads.{headMeant}
 use Rattle.exports.proofs.head.head_of.Statement.{statement}
 use Rattle.exports.proofs.head.head_of.Tie as tie
 

@@ -1,7 +1,7 @@
--- `knows_head` is right: an unknown transform makes it false, and a known one leaves it to the three other kinds.
+-- `exports::head::knows_head` meets its contract. An unknown transform makes it false, and a known one leaves it to the three other kinds.
+use borrow.Author.Needs.{needs}
 use Rattle.exports.specs.Heads.{knowsHead}
 use Rattle.exports.proofs.Known.{unknown, known}
-use borrow.Author.Needs.{needs}
 use Rattle.exports.proofs.head.knows_head.Statement.{statement}
 use Rattle.exports.proofs.head.knows_head.Tie as tie
 

@@ -1,4 +1,4 @@
--- `basis_of` is right: 0 is the first basis, and every other number the second, as the test found.
+-- `exports::kinds::basis_of` meets its contract. 0 is the first basis, and every other number the second, as the test found.
 use borrow.Author.Tests.{eq-eqb, ne-eqb}
 use Rattle.exports.specs.Kinds.{basisOf}
 use Rattle.exports.proofs.kinds.basis_of.Statement.{statement}

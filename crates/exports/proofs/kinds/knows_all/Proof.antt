@@ -1,7 +1,7 @@
--- `knows_all` is right: an unknown strategy makes it false, and a known one leaves it to parity and basis.
+-- `exports::kinds::knows_all` meets its contract. An unknown strategy makes it false, and a known one leaves it to parity and basis.
+use borrow.Author.Needs.{needs}
 use Rattle.exports.specs.Kinds.{knowsAll}
 use Rattle.exports.proofs.Known.{unknown, known}
-use borrow.Author.Needs.{needs}
 use Rattle.exports.proofs.kinds.knows_all.Statement.{statement}
 use Rattle.exports.proofs.kinds.knows_all.Tie as tie
 

@@ -1,7 +1,7 @@
--- `knows_pair` is right: an unknown parity makes it false, and a known one leaves it to the basis.
+-- `exports::kinds::knows_pair` meets its contract. An unknown parity makes it false, and a known one leaves it to the basis.
+use borrow.Author.Needs.{needs}
 use Rattle.exports.specs.Kinds.{knowsPair}
 use Rattle.exports.proofs.Known.{unknown, known}
-use borrow.Author.Needs.{needs}
 use Rattle.exports.proofs.kinds.knows_pair.Statement.{statement}
 use Rattle.exports.proofs.kinds.knows_pair.Tie as tie
 

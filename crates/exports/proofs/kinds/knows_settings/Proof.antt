@@ -1,7 +1,7 @@
--- `knows_settings` is right: an unknown fold makes it false, and a known one leaves it to the three kinds.
+-- `exports::kinds::knows_settings` meets its contract. An unknown fold makes it false, and a known one leaves it to the three kinds.
+use borrow.Author.Needs.{needs}
 use Rattle.exports.specs.Kinds.{knowsSettings}
 use Rattle.exports.proofs.Known.{unknown, known}
-use borrow.Author.Needs.{needs}
 use Rattle.exports.proofs.kinds.knows_settings.Statement.{statement}
 use Rattle.exports.proofs.kinds.knows_settings.Tie as tie
 

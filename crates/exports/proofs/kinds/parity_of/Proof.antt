@@ -1,4 +1,4 @@
--- `parity_of` is right: 0, 1 and any other number are the first, the second and the third parity, as the tests found.
+-- `exports::kinds::parity_of` meets its contract. 0, 1 and any other number are the first, the second and the third parity, as the tests found.
 use borrow.Author.Tests.{eq-eqb, ne-eqb}
 use Rattle.exports.specs.Kinds.{parityOf}
 use Rattle.exports.proofs.kinds.parity_of.Statement.{statement}

@@ -1,4 +1,4 @@
--- `strategy_of` is right: 0 is the first strategy, and every other number the second, as the test found.
+-- `exports::kinds::strategy_of` meets its contract. 0 is the first strategy, and every other number the second, as the test found.
 use borrow.Author.Tests.{eq-eqb, ne-eqb}
 use Rattle.exports.specs.Kinds.{strategyOf}
 use Rattle.exports.proofs.kinds.strategy_of.Statement.{statement}

@@ -1,4 +1,4 @@
--- `transform_of` is right: 0 to 3 and any other number are the five transforms in their order, as the tests found.
+-- `exports::kinds::transform_of` meets its contract. 0 to 3 and any other number are the five transforms in their order, as the tests found.
 use borrow.Author.Tests.{eq-eqb, ne-eqb}
 use Rattle.exports.specs.Kinds.{transformOf}
 use Rattle.exports.proofs.kinds.transform_of.Statement.{statement}

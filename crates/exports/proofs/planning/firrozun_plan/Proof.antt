@@ -1,8 +1,8 @@
--- `firrozun_plan` is right: with known settings it is the call's own answer for them, with its head in numbers and the call's own buffers,
--- and else refusal 43 with the buffers unchanged.
+-- `exports::planning::firrozun_plan` meets its contract. With known settings the answer is the call's own answer for them, with its head in numbers
+-- and the call's own buffers, and else refusal 43 with the buffers unchanged.
+use borrow.Author.Needs.{needs}
 use Rattle.exports.specs.Unknown.{whenKnown}
 use Rattle.exports.proofs.Known.{unknown, known}
-use borrow.Author.Needs.{needs}
 use Rattle.exports.proofs.planning.firrozun_plan.Statement.{statement}
 use Rattle.exports.proofs.planning.firrozun_plan.Tie as tie
 

@@ -1,8 +1,9 @@
--- `firrozun_trial_walk` is right: with a known head it is the call's own answer for the head that is meant, and else refusal 43.
+-- `exports::planning::firrozun_trial_walk` meets its contract. With a known head it is the call's own answer for the head that is meant, and else
+-- refusal 43.
+use borrow.Author.Needs.{needs}
 use mir.Facts.{toZ-ofZ}
 use Rattle.exports.specs.Unknown.{whenKnown}
 use Rattle.exports.proofs.Known.{unknown, known}
-use borrow.Author.Needs.{needs}
 use Rattle.exports.proofs.planning.firrozun_trial_walk.Statement.{statement}
 use Rattle.exports.proofs.planning.firrozun_trial_walk.Tie as tie
 

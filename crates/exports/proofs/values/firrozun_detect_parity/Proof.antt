@@ -1,4 +1,4 @@
--- `firrozun_detect_parity` is right: it is the number of the parity that the call detects.
+-- `exports::values::firrozun_detect_parity` meets its contract. It is the number of the parity that the call detects.
 use borrow.Author.Needs.{needs}
 use Rattle.exports.proofs.values.firrozun_detect_parity.Statement.{statement}
 use Rattle.exports.proofs.values.firrozun_detect_parity.Tie as tie

@@ -1,4 +1,4 @@
--- `firrozun_detect_parity_f64` is right: it is the number of the parity that the call detects.
+-- `exports::values::firrozun_detect_parity_f64` meets its contract. It is the number of the parity that the call detects.
 use borrow.Author.Needs.{needs}
 use Rattle.exports.proofs.values.firrozun_detect_parity_f64.Statement.{statement}
 use Rattle.exports.proofs.values.firrozun_detect_parity_f64.Tie as tie

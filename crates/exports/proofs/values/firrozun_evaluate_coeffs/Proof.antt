@@ -1,8 +1,9 @@
--- `firrozun_evaluate_coeffs` is right: with a known basis it is the call's own value for it, and else refusal 43 with 0.0, which is +0.
+-- `exports::values::firrozun_evaluate_coeffs` meets its contract. With a known basis it is the call's own value for it, and else refusal 43 with
+-- 0.0, which is +0.
+use borrow.Author.Needs.{needs}
 use Rattle.number.proofs.Literals.{zero-is}
 use Rattle.exports.specs.Unknown.{whenKnown}
 use Rattle.exports.proofs.Known.{unknown, known}
-use borrow.Author.Needs.{needs}
 use Rattle.exports.proofs.values.firrozun_evaluate_coeffs.Statement.{statement}
 use Rattle.exports.proofs.values.firrozun_evaluate_coeffs.Tie as tie
 
