@@ -1,6 +1,6 @@
 -- Each kind's numbers are those that answers show, and there are no others: number by number.
 use mathlib.Core.Path.{_≡_, refl}
-use mathlib.Core.Bool.{true}
+use mathlib.Core.Bool.{Bool, true, false}
 use Prim.Native.Nat.{ℕ, zero, suc}
 use native.Mathlib.Omega.{arith}
 use borrow.Author.Tests.{ltb-true}
@@ -14,8 +14,8 @@ use Rattle.algebra.specs.declared.PolynomialInputTransform.the-variants.{Identi
 use Rattle.counts.specs.StrategyNumber.{strategyNumber}
 use Rattle.counts.specs.declared.choice.SplitStrategy.{SplitStrategy}
 use Rattle.counts.specs.declared.choice.SplitStrategy.the-variants.{MinDepth, MinMult}
-use Rattle.exports.specs.Kinds.{isBasis, basisOf, isParity, parityOf, isStrategy, strategyOf, isTransform, transformOf}
-use Rattle.exports.specs.KindNumbers.{KindsTold}
+use Rattle.exports.specs.Kinds.{isBasis, basisOf, isParity, parityOf, isStrategy, strategyOf, isTransform, transformOf, isFold, foldOf}
+use Rattle.exports.specs.KindNumbers.{foldNumber, KindsTold}
 
 -- ---- bases
 
@@ -97,10 +97,26 @@ transform-back (suc (suc (suc zero))) known = refl
 transform-back (suc (suc (suc (suc zero)))) known = refl
 transform-back (suc (suc (suc (suc (suc n))))) known = absurd (omega (arith, ltb-true (suc (suc (suc (suc (suc n))))) 5 known))
 
+-- ---- folds
+
+fold-accepted : (f : Bool) → isFold (foldNumber f) ≡ true
+fold-accepted true = refl
+fold-accepted false = refl
+
+fold-same : (f : Bool) → foldOf (foldNumber f) ≡ f
+fold-same true = refl
+fold-same false = refl
+
+fold-back : (n : ℕ) → isFold n ≡ true → foldNumber (foldOf n) ≡ n
+fold-back zero known = refl
+fold-back (suc zero) known = refl
+fold-back (suc (suc n)) known = absurd (omega (arith, ltb-true (suc (suc n)) 2 known))
+
 pub kinds-told : KindsTold
 kinds-told = record {
   bases = record { accepted = basis-accepted; same = basis-same; back = basis-back };
   parities = record { accepted = parity-accepted; same = parity-same; back = parity-back };
   strategies = record { accepted = strategy-accepted; same = strategy-same; back = strategy-back };
   transforms = record { accepted = transform-accepted; same = transform-same; back = transform-back };
+  folds = record { accepted = fold-accepted; same = fold-same; back = fold-back };
 }
