@@ -1,0 +1,3 @@
+pub mod KindNumbers
+pub mod HeadsShown
+mod Known

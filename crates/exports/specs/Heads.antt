@@ -1,0 +1,58 @@
+-- The head of a plan as a struct of numbers, and the head that such a struct means.
+use mathlib.Core.Bool.{Bool, _&&_}
+use Rattle.algebra.specs.EnumNumbers.{basisNumber, parityNumber, transformNumber}
+use Rattle.counts.specs.StrategyNumber.{strategyNumber}
+use Rattle.walk.specs.declared.plan.Head.{Head}
+use Rattle.plan.specs.PlanHead.{noHead}
+use Rattle.plan.specs.declared.call.Planned.{Planned}
+use Rattle.exports.specs.Kinds.{isTransform, transformOf, strategyOf, parityOf, basisOf, knowsAll}
+use Rattle.exports.specs.Unknown.{unknownKind}
+use Rattle.exports.specs.declared.head.CHead.{CHead}
+use Rattle.exports.specs.declared.head.CPlanned.{CPlanned}
+
+-- a head with its kinds by their numbers
+abbrev pub flatHead : Head → CHead
+flatHead h = record {
+  basis = basisNumber (h .basis);
+  parity = parityNumber (h .parity);
+  strategy = strategyNumber (h .strategy);
+  transform = transformNumber (h .transform);
+  degree = h .degree;
+  base = h .base;
+  ct = h .ct;
+  pt = h .pt;
+  depth = h .depth;
+  coefficients = h .coefficients;
+  lists = h .lists;
+  steps = h .steps;
+}
+
+-- the head that a head of numbers means
+unfoldable pub headMeant : CHead → Head
+headMeant h = record {
+  basis = basisOf (h .basis);
+  parity = parityOf (h .parity);
+  strategy = strategyOf (h .strategy);
+  transform = transformOf (h .transform);
+  degree = h .degree;
+  base = h .base;
+  ct = h .ct;
+  pt = h .pt;
+  depth = h .depth;
+  coefficients = h .coefficients;
+  lists = h .lists;
+  steps = h .steps;
+}
+
+-- whether all four of its kinds are known
+unfoldable pub knowsHead : CHead → Bool
+knowsHead h = isTransform (h .transform) && knowsAll (h .strategy) (h .parity) (h .basis)
+
+-- ---- the answer of the plan call
+
+abbrev pub flatPlanned : Planned → CPlanned
+flatPlanned r = record { refusal = r .refusal; head = flatHead (r .head) }
+
+-- the answer to an unknown kind
+abbrev pub noPlan : CPlanned
+noPlan = record { refusal = unknownKind; head = flatHead noHead }

@@ -1,0 +1,10 @@
+pub mod Kinds
+pub mod KindNumbers
+pub mod Unknown
+pub mod Flat
+pub mod Degrees
+pub mod Values
+pub mod Listing
+pub mod Heads
+pub mod HeadsShown
+pub mod Planning

@@ -1,0 +1,37 @@
+-- The plan call and the trial walk, for C: each is its call's own answer, flat, with its own buffers; or refusal 43 with zeros, and the buffers
+-- unchanged.
+use mathlib.Core.Path.{_≡_}
+use mathlib.Core.Bool.{Bool}
+use mathlib.Core.List.{List}
+use Prim.Native.Nat.{ℕ}
+use lib.IntN.{ℤ}
+use Rattle.walk.specs.Trial.{trialOf, noTrial}
+use Rattle.plan.specs.PlanCall.{planAnswer, planCoefficients, planBoundaries, planNumbers}
+use Rattle.exports.specs.Kinds.{foldOf, strategyOf, parityOf, basisOf, knowsSettings}
+use Rattle.exports.specs.Unknown.{unknownKind, whenKnown}
+use Rattle.exports.specs.Flat.{flatTrial}
+use Rattle.exports.specs.Heads.{headMeant, knowsHead, flatPlanned, noPlan}
+use Rattle.exports.specs.declared.flat.CTrial.{CTrial}
+use Rattle.exports.specs.declared.head.CHead.{CHead}
+use Rattle.exports.specs.declared.head.CPlanned.{CPlanned}
+
+module _ (strategy parity basis fold : ℕ) (c out : List ℤ) (bounds steps : List ℕ) where
+  abbrev known : Bool
+  known = knowsSettings strategy parity basis fold
+
+  pub record PlanFlat (r : CPlanned) (out′ : List ℤ) (bounds′ steps′ : List ℕ) : Type 0 where
+    pub answer : r
+        ≡ whenKnown known (flatPlanned (planAnswer (strategyOf strategy) (parityOf parity) (basisOf basis) (foldOf fold) c out bounds steps)) noPlan
+    pub coefficients : out′
+        ≡ whenKnown known (planCoefficients (strategyOf strategy) (parityOf parity) (basisOf basis) (foldOf fold) c out bounds steps) out
+    pub boundaries : bounds′
+        ≡ whenKnown known (planBoundaries (strategyOf strategy) (parityOf parity) (basisOf basis) (foldOf fold) c out bounds steps) bounds
+    pub numbers : steps′
+        ≡ whenKnown known (planNumbers (strategyOf strategy) (parityOf parity) (basisOf basis) (foldOf fold) c out bounds steps) steps
+
+-- the walk is of the head that is meant
+abbrev pub trialFlat : CHead → (coefficients : List ℤ) → (bounds steps : List ℕ) → (point : ℤ) → (modulus : ℕ) → CTrial
+trialFlat head coefficients bounds steps point modulus =
+    whenKnown (knowsHead head)
+    (flatTrial (trialOf (headMeant head) coefficients bounds steps point modulus))
+    (flatTrial (noTrial unknownKind))

@@ -1,0 +1,110 @@
+// The calls on bare numbers: the split of an index, the choice of the split, counts, depth and bits.
+use super::flat::CBits;
+use super::flat::CCounts;
+use super::flat::CDepth;
+use super::flat::CParts;
+use super::flat::CSplit;
+use super::flat::flat_bits;
+use super::flat::flat_counts;
+use super::flat::flat_depth;
+use super::flat::flat_parts;
+use super::flat::flat_split;
+use super::kinds::basis_of;
+use super::kinds::is_strategy;
+use super::kinds::knows_all;
+use super::kinds::knows_pair;
+use super::kinds::parity_of;
+use super::kinds::strategy_of;
+use firrozun::bsgs_consumed_bits;
+use firrozun::bsgs_eval_depth;
+use firrozun::bsgs_op_counts;
+use firrozun::min_depth_split;
+use firrozun::min_mult_split;
+use firrozun::split_degree;
+ghost use mathlib.Core.Path.{_≡_};
+ghost use Rattle.number.specs.Split.{splitOf};
+ghost use Rattle.counts.specs.Calls.{minDepthCall};
+ghost use Rattle.exports.specs.Flat.{flatParts, flatSplit};
+ghost use Rattle.exports.specs.Degrees.{minMultFlat, countsFlat, depthFlat, bitsFlat};
+
+#[no_mangle]
+pub extern "C" fn firrozun_split_degree(n: usize) -> CParts
+    ensures { λ r. ⌜ r ≡ flatParts (splitOf n) ⌝ }
+{
+    flat_parts(split_degree(n))
+}
+
+#[no_mangle]
+pub extern "C" fn firrozun_min_depth_split(degree: usize) -> CSplit
+    ensures { λ r. ⌜ r ≡ flatSplit (minDepthCall degree) ⌝ }
+{
+    flat_split(min_depth_split(degree))
+}
+
+#[no_mangle]
+pub extern "C" fn firrozun_min_mult_split(parity: u8, basis: u8, degree: usize) -> CSplit
+    ensures { λ r. ⌜ r ≡ minMultFlat parity basis degree ⌝ }
+{
+    if !knows_pair(parity, basis) {
+        return CSplit {
+            refusal: 43,
+            split: 0,
+        };
+    }
+    flat_split(min_mult_split(parity_of(parity), basis_of(basis), degree))
+}
+
+#[no_mangle]
+pub extern "C" fn firrozun_bsgs_op_counts(
+    strategy: u8,
+    parity: u8,
+    basis: u8,
+    degree: usize,
+) -> CCounts
+    ensures { λ r. ⌜ r ≡ countsFlat strategy parity basis degree ⌝ }
+{
+    if !knows_all(strategy, parity, basis) {
+        return CCounts {
+            refusal: 43,
+            ct: 0,
+            pt: 0,
+        };
+    }
+    flat_counts(bsgs_op_counts(
+        strategy_of(strategy),
+        parity_of(parity),
+        basis_of(basis),
+        degree,
+    ))
+}
+
+#[no_mangle]
+pub extern "C" fn firrozun_bsgs_eval_depth(strategy: u8, degree: usize) -> CDepth
+    ensures { λ r. ⌜ r ≡ depthFlat strategy degree ⌝ }
+{
+    if !is_strategy(strategy) {
+        return CDepth {
+            refusal: 43,
+            depth: 0,
+        };
+    }
+    flat_depth(bsgs_eval_depth(strategy_of(strategy), degree))
+}
+
+#[no_mangle]
+pub extern "C" fn firrozun_bsgs_consumed_bits(
+    strategy: u8,
+    degree: usize,
+    input: usize,
+    coeff: usize,
+) -> CBits
+    ensures { λ r. ⌜ r ≡ bitsFlat strategy degree input coeff ⌝ }
+{
+    if !is_strategy(strategy) {
+        return CBits {
+            refusal: 43,
+            bits: 0,
+        };
+    }
+    flat_bits(bsgs_consumed_bits(strategy_of(strategy), degree, input, coeff))
+}

@@ -1,0 +1,67 @@
+// The plan call and the trial walk.
+use super::flat::CTrial;
+use super::flat::flat_trial;
+use super::head::CHead;
+use super::head::CPlanned;
+use super::head::flat_planned;
+use super::head::head_of;
+use super::head::knows_head;
+use super::head::no_plan;
+use super::kinds::basis_of;
+use super::kinds::fold_of;
+use super::kinds::knows_settings;
+use super::kinds::parity_of;
+use super::kinds::strategy_of;
+use firrozun::plan;
+use firrozun::trial_walk;
+ghost use mathlib.Core.Path.{_≡_};
+ghost use Rattle.exports.specs.Planning.{PlanFlat, trialFlat};
+
+#[no_mangle]
+pub extern "C" fn firrozun_plan(
+    strategy: u8,
+    parity: u8,
+    basis: u8,
+    fold: u8,
+    c: &[i64],
+    out: &mut [i64],
+    bounds: &mut [u16],
+    steps: &mut [u16],
+) -> CPlanned
+    ensures { λ r. ⌜ PlanFlat strategy parity basis fold (now (c .entry)) (now (out .entry)) (now (bounds .entry)) (now (steps .entry))
+        r (now (out .exit)) (now (bounds .exit)) (now (steps .exit)) ⌝ }
+{
+    if !knows_settings(strategy, parity, basis, fold) {
+        return no_plan();
+    }
+    flat_planned(plan(
+        strategy_of(strategy),
+        parity_of(parity),
+        basis_of(basis),
+        fold_of(fold),
+        c,
+        out,
+        bounds,
+        steps,
+    ))
+}
+
+#[no_mangle]
+pub extern "C" fn firrozun_trial_walk(
+    head: CHead,
+    coefficients: &[i64],
+    bounds: &[u16],
+    steps: &[u16],
+    point: i64,
+    modulus: u64,
+) -> CTrial
+    ensures { λ r. ⌜ r ≡ trialFlat head (now (coefficients .entry)) (now (bounds .entry)) (now (steps .entry)) point modulus ⌝ }
+{
+    if !knows_head(head) {
+        return CTrial {
+            refusal: 43,
+            remainder: 0,
+        };
+    }
+    flat_trial(trial_walk(head_of(head), coefficients, bounds, steps, point, modulus))
+}

@@ -1,0 +1,119 @@
+// The calls on coefficients below planning: folding, evaluation, parity detection, the change of basis and interpolation.
+use super::flat::CFolded;
+use super::flat::CInterpolated;
+use super::flat::CInterval;
+use super::flat::CValue;
+use super::flat::flat_folded;
+use super::flat::flat_interpolated;
+use super::flat::flat_interval;
+use super::kinds::basis_of;
+use super::kinds::is_basis;
+use super::kinds::knows_pair;
+use super::kinds::parity_of;
+use firrozun::change_of_basis;
+use firrozun::chebyshev_interpolate;
+use firrozun::detect_parity;
+use firrozun::detect_parity_f64;
+use firrozun::evaluate_coeffs;
+use firrozun::fold_parity;
+use firrozun::fold_parity_f64;
+use firrozun::parity_number;
+use number::no_interval;
+ghost use mathlib.Core.Path.{_≡_};
+ghost use Rattle.algebra.specs.EnumNumbers.{parityNumber};
+ghost use Rattle.number.specs.Numbers.{wholeNumbers, floatNumbers};
+ghost use Rattle.number.specs.FoldCall.{noFold};
+ghost use Rattle.number.specs.Parity.{parityOf};
+ghost use Rattle.exports.specs.Unknown.{unknownKind};
+ghost use Rattle.exports.specs.Flat.{flatFolded};
+ghost use Rattle.exports.specs.Values.{FoldFlat, evaluateFlat, changeFlat, InterpolateFlat};
+
+// The answer to an unknown kind.
+fn no_fold() -> CFolded
+    ensures { λ r. ⌜ r ≡ flatFolded (noFold unknownKind) ⌝ }
+{
+    CFolded {
+        refusal: 43,
+        transform: 0,
+        parity: 0,
+        count: 0,
+    }
+}
+
+#[no_mangle]
+pub extern "C" fn firrozun_fold_parity(parity: u8, basis: u8, c: &[i64], out: &mut [i64]) -> CFolded
+    ensures { λ r. ⌜ FoldFlat wholeNumbers parity basis (now (c .entry)) (now (out .entry)) r (now (out .exit)) ⌝ }
+{
+    if !knows_pair(parity, basis) {
+        return no_fold();
+    }
+    flat_folded(fold_parity(parity_of(parity), basis_of(basis), c, out))
+}
+
+#[no_mangle]
+pub extern "C" fn firrozun_fold_parity_f64(
+    parity: u8,
+    basis: u8,
+    c: &[f64],
+    out: &mut [f64],
+) -> CFolded
+    ensures { λ r. ⌜ FoldFlat floatNumbers parity basis (now (c .entry)) (now (out .entry)) r (now (out .exit)) ⌝ }
+{
+    if !knows_pair(parity, basis) {
+        return no_fold();
+    }
+    flat_folded(fold_parity_f64(parity_of(parity), basis_of(basis), c, out))
+}
+
+#[no_mangle]
+pub extern "C" fn firrozun_evaluate_coeffs(basis: u8, coeffs: &[f64], x: f64) -> CValue
+    ensures { λ r. ⌜ r ≡ evaluateFlat basis (now (coeffs .entry)) x ⌝ }
+{
+    if !is_basis(basis) {
+        return CValue {
+            refusal: 43,
+            value: 0.0,
+        };
+    }
+    CValue {
+        refusal: 0,
+        value: evaluate_coeffs(basis_of(basis), coeffs, x),
+    }
+}
+
+#[no_mangle]
+pub extern "C" fn firrozun_detect_parity(c: &[i64]) -> u8
+    ensures { λ r. ⌜ r ≡ parityNumber (parityOf wholeNumbers (now (c .entry))) ⌝ }
+{
+    parity_number(detect_parity(c))
+}
+
+#[no_mangle]
+pub extern "C" fn firrozun_detect_parity_f64(c: &[f64]) -> u8
+    ensures { λ r. ⌜ r ≡ parityNumber (parityOf floatNumbers (now (c .entry))) ⌝ }
+{
+    parity_number(detect_parity_f64(c))
+}
+
+#[no_mangle]
+pub extern "C" fn firrozun_change_of_basis(basis: u8, a: f64, b: f64) -> CInterval
+    ensures { λ r. ⌜ r ≡ changeFlat basis a b ⌝ }
+{
+    if !is_basis(basis) {
+        return flat_interval(43, no_interval());
+    }
+    flat_interval(0, change_of_basis(basis_of(basis), a, b))
+}
+
+#[no_mangle]
+pub extern "C" fn firrozun_chebyshev_interpolate(
+    nodes: &[f64],
+    values: &[f64],
+    a: f64,
+    b: f64,
+    out: &mut [f64],
+) -> CInterpolated
+    ensures { λ r. ⌜ InterpolateFlat (now (nodes .entry)) (now (values .entry)) a b (now (out .entry)) r (now (out .exit)) ⌝ }
+{
+    flat_interpolated(chebyshev_interpolate(nodes, values, a, b, out))
+}

@@ -1,0 +1,250 @@
+/* Firrozun for C and C++: planning the evaluation of polynomials by baby steps and giant steps.
+ *
+ * Each function is proved to answer, and to leave in its buffers, what crates/exports/specs says, for every input. docs/RULES.md has the rules
+ * in words. Link with target/staticlib/libexports.a, which `rt staticlib exports` writes (x86-64 Linux).
+ *
+ * Kinds go by number (FIRROZUN_MONOMIAL and so on). A number that is no kind's is refusal 43, ahead of every other test.
+ *
+ * Refusals: the answer's first field is 0, or the number of the first test that holds, in the order given with each function. After a refusal
+ * every other field is 0 and no buffer is changed.
+ *
+ * Buffers come as a pointer and a length, which counts elements and not bytes. A call fills the first places of a buffer, and leaves the places
+ * beyond as they were. An empty one may be NULL. The caller sees to it that a buffer has the elements that its length says, and that a buffer that
+ * is written overlaps no other of the same call. No function keeps a pointer, asks for memory or changes anything else, so calls may run at the
+ * same time on buffers that they don't share. */
+#ifndef FIRROZUN_H
+#define FIRROZUN_H
+
+#include <stddef.h>
+#include <stdint.h>
+
+#ifdef __cplusplus
+extern "C" {
+#endif
+
+/* ---- kinds */
+
+/* The basis: x^n, or T_n. */
+#define FIRROZUN_MONOMIAL 0
+#define FIRROZUN_CHEBYSHEV 1
+
+/* The parity: which powers a polynomial may have. */
+#define FIRROZUN_FULL 0
+#define FIRROZUN_EVEN 1
+#define FIRROZUN_ODD 2
+
+/* The strategy: least depth, or fewest multiplications. */
+#define FIRROZUN_MIN_DEPTH 0
+#define FIRROZUN_MIN_MULT 1
+
+/* The transform: what the input goes through before a folded polynomial is evaluated. TIMES_INPUT multiplies the result by the input. */
+#define FIRROZUN_IDENTITY 0
+#define FIRROZUN_SQUARE 1
+#define FIRROZUN_SQUARE_TIMES_INPUT 2
+#define FIRROZUN_CHEBYSHEV_T2 3
+#define FIRROZUN_CHEBYSHEV_T2_TIMES_INPUT 4
+
+/* Whether a plan is of the polynomial's fold. */
+#define FIRROZUN_NOT_FOLDED 0
+#define FIRROZUN_FOLDED 1
+
+/* The kinds of a step, its first number. */
+#define FIRROZUN_STEP_MAKE 1          /* 1 n a b: makes power n from powers a and b */
+#define FIRROZUN_STEP_LOAD 2          /* 2 i 0 0: pushes the value of list i, counted from 0 */
+#define FIRROZUN_STEP_COMBINE 3       /* 3 p 0 0: takes high, then low, and pushes high * (power p) + low, two ciphertexts multiplied */
+#define FIRROZUN_STEP_COMBINE_PLAIN 4 /* 4 p 0 0: the same, where high is plain */
+
+/* ---- refusals */
+
+#define FIRROZUN_ACCEPTED 0
+#define FIRROZUN_REFUSAL_NO_DEGREE 1           /* the degree is 0: no coefficient, or one */
+#define FIRROZUN_REFUSAL_DEGREE 2              /* the degree is above the limit of the call */
+#define FIRROZUN_REFUSAL_MAGNITUDE 3           /* the magnitudes of the whole coefficients sum above 2^30 */
+#define FIRROZUN_REFUSAL_PARITY 4              /* a coefficient that is not zero stands where the parity allows none */
+#define FIRROZUN_REFUSAL_FOLD_FULL 5           /* folding is asked for with parity full */
+#define FIRROZUN_REFUSAL_FOLD_LOW 6            /* folding is asked for with even and degree below 2, or with odd and degree below 3 */
+#define FIRROZUN_REFUSAL_INTERVAL 7            /* a < b does not hold */
+#define FIRROZUN_REFUSAL_NODES 8               /* nodes and values differ in number, or there are none, or more than 4,096 */
+#define FIRROZUN_REFUSAL_INDEX 9               /* the index to split is below 2 or above 4,294,967,295 */
+#define FIRROZUN_REFUSAL_SCALE 10              /* a bit scale is above 65,535 */
+#define FIRROZUN_REFUSAL_MODULUS 11            /* the modulus is below 2 or above 2,147,483,647 */
+#define FIRROZUN_REFUSAL_LINE 12               /* a line of the program planlines does not have its form; no function answers it */
+#define FIRROZUN_REFUSAL_COEFFICIENT_BUFFER 21 /* the coefficient buffer is too short */
+#define FIRROZUN_REFUSAL_BOUNDARY_BUFFER 22    /* the boundary buffer has fewer places than there are lists */
+#define FIRROZUN_REFUSAL_STEP_BUFFER 23        /* the step buffer has fewer than four places for each step */
+#define FIRROZUN_REFUSAL_UNWALKABLE 24         /* the plan that is lent cannot be walked */
+#define FIRROZUN_REFUSAL_UNKNOWN_KIND 43       /* a basis, parity, strategy, transform or fold goes by a number that is none of its kinds' */
+
+/* ---- room that is enough for every plan */
+
+#define FIRROZUN_COEFFICIENT_ROOM 4096
+#define FIRROZUN_BOUNDARY_ROOM 4096
+#define FIRROZUN_STEP_ROOM 49152
+
+/* ---- answers */
+
+typedef struct {
+    uint8_t refusal;
+    size_t a;
+    size_t b;
+} firrozun_parts;
+
+typedef struct {
+    uint8_t refusal;
+    size_t split;
+} firrozun_split;
+
+typedef struct {
+    uint8_t refusal;
+    size_t ct; /* multiplications of two ciphertexts */
+    size_t pt; /* multiplications of a plaintext and a ciphertext */
+} firrozun_counts;
+
+typedef struct {
+    uint8_t refusal;
+    size_t depth;
+} firrozun_depth;
+
+typedef struct {
+    uint8_t refusal;
+    size_t bits;
+} firrozun_bits;
+
+typedef struct {
+    uint8_t refusal;
+    uint8_t transform;
+    uint8_t parity; /* of the fold: full */
+    size_t count;   /* coefficients written */
+} firrozun_folded;
+
+typedef struct {
+    uint8_t refusal;
+    double value;
+} firrozun_value;
+
+/* From a to b, with y = u * x + w. */
+typedef struct {
+    uint8_t refusal;
+    double a;
+    double b;
+    double u;
+    double w;
+} firrozun_interval;
+
+typedef struct {
+    uint8_t refusal;
+    size_t count; /* coefficients written */
+    uint8_t parity;
+    double a;
+    double b;
+    double u;
+    double w;
+} firrozun_interpolated;
+
+typedef struct {
+    uint8_t refusal;
+    size_t degree;
+    size_t base;
+    size_t coefficients; /* written to `out` */
+    size_t lists;        /* boundaries written to `bounds` */
+} firrozun_listed;
+
+/* What a plan is of, its costs, and how many coefficients, lists and steps it has. Parity and degree are those of what is planned: with folding
+ * the fold, of parity full. */
+typedef struct {
+    uint8_t basis;
+    uint8_t parity;
+    uint8_t strategy;
+    uint8_t transform;
+    size_t degree;
+    size_t base;
+    size_t ct;
+    size_t pt;
+    size_t depth;
+    size_t coefficients;
+    size_t lists;
+    size_t steps;
+} firrozun_head;
+
+typedef struct {
+    uint8_t refusal;
+    firrozun_head head;
+} firrozun_planned;
+
+typedef struct {
+    uint8_t refusal;
+    uint64_t remainder;
+} firrozun_trial;
+
+/* ---- calls on bare numbers */
+
+/* The two parts of the power n: a + b = n. Refusal 9. */
+firrozun_parts firrozun_split_degree(size_t n);
+
+/* MinDepth's split of a degree: the base is 2^split. Refusals 2 (above 4,294,967,295), 1. */
+firrozun_split firrozun_min_depth_split(size_t degree);
+
+/* MinMult's split of a degree. Refusals 43, 2 (above 4,095). */
+firrozun_split firrozun_min_mult_split(uint8_t parity, uint8_t basis, size_t degree);
+
+/* The counts of multiplications at the split that the strategy chooses; none at degree 0. Refusals 43, 2 (above 4,095). */
+firrozun_counts firrozun_bsgs_op_counts(uint8_t strategy, uint8_t parity, uint8_t basis, size_t degree);
+
+/* The depth of an evaluation; 0 at degree 0. Refusals 43, 2 (above 4,294,967,295). */
+firrozun_depth firrozun_bsgs_eval_depth(uint8_t strategy, size_t degree);
+
+/* The bits that an evaluation consumes, by the bit scales of input and coefficients; 0 at degree 0. Refusals 43, 2 (above 4,294,967,295), 10. */
+firrozun_bits firrozun_bsgs_consumed_bits(uint8_t strategy, size_t degree, size_t input, size_t coeff);
+
+/* ---- calls on coefficients: coefficient j stands at place j */
+
+/* Folds a whole polynomial of parity even or odd into one of about half the degree, behind a transform. `out` takes c_len - c_len / 2 coefficients
+ * for even and c_len / 2 for odd. Refusals 43, 2 (above 4,095), 5, 6, 4, 3, 21. */
+firrozun_folded firrozun_fold_parity(uint8_t parity, uint8_t basis, const int64_t *c, size_t c_len, int64_t *out, size_t out_len);
+
+/* The same of doubles, where -0 counts as zero and a NaN does not. Refusals 43, 2 (above 4,095), 5, 6, 4, 21. */
+firrozun_folded firrozun_fold_parity_f64(uint8_t parity, uint8_t basis, const double *c, size_t c_len, double *out, size_t out_len);
+
+/* The value at x, by Horner's rule or by Clenshaw's; 0 of no coefficient. Refusal 43. */
+firrozun_value firrozun_evaluate_coeffs(uint8_t basis, const double *coeffs, size_t coeffs_len, double x);
+
+/* The number of the parity that the coefficients have: even, else odd, else full. It refuses nothing. */
+uint8_t firrozun_detect_parity(const int64_t *c, size_t c_len);
+
+/* The same of doubles. It refuses nothing. */
+uint8_t firrozun_detect_parity_f64(const double *c, size_t c_len);
+
+/* The interval from a to b with its change pair, which for Chebyshev takes a to -1 and b to 1. Refusal 43. */
+firrozun_interval firrozun_change_of_basis(uint8_t basis, double a, double b);
+
+/* Interpolates in the Chebyshev basis: `out` takes a coefficient for each node. Nodes and values stand in the order k = n down to 1.
+ * Refusals 8, 7, 21. */
+firrozun_interpolated firrozun_chebyshev_interpolate(const double *nodes, size_t nodes_len, const double *values, size_t values_len, double a,
+                                                     double b, double *out, size_t out_len);
+
+/* The lists of coefficients of a plan, one after another in `out`, which takes c_len coefficients. `bounds` takes for each list the place just past
+ * it; there are at most c_len. Refusals 43, 2 (above 4,095), 1, 3, 21, 22. */
+firrozun_listed firrozun_decompose_bsgs(uint8_t strategy, uint8_t parity, uint8_t basis, const int64_t *c, size_t c_len, int64_t *out,
+                                        size_t out_len, uint16_t *bounds, size_t bounds_len);
+
+/* The same of doubles. Refusals 43, 2 (above 4,095), 1, 21, 22. */
+firrozun_listed firrozun_decompose_bsgs_f64(uint8_t strategy, uint8_t parity, uint8_t basis, const double *c, size_t c_len, double *out,
+                                            size_t out_len, uint16_t *bounds, size_t bounds_len);
+
+/* ---- the plan call and the trial walk */
+
+/* Plans a whole polynomial, or with `fold` its fold: the head in the answer, the lists in `out` and `bounds` as firrozun_decompose_bsgs leaves them,
+ * and in `steps` four numbers for each step. FIRROZUN_COEFFICIENT_ROOM, FIRROZUN_BOUNDARY_ROOM and FIRROZUN_STEP_ROOM places are always enough.
+ * Refusals 43, 2 (above 4,095), 1, with folding 5, 6, then 4, 3, 21, 22, 23. */
+firrozun_planned firrozun_plan(uint8_t strategy, uint8_t parity, uint8_t basis, uint8_t fold, const int64_t *c, size_t c_len, int64_t *out,
+                               size_t out_len, uint16_t *bounds, size_t bounds_len, uint16_t *steps, size_t steps_len);
+
+/* Walks a plan at a point: the value's remainder modulo `modulus`, from 0 up. Head and buffers may be any, damaged ones too. Refusals 43, 11, 24. */
+firrozun_trial firrozun_trial_walk(firrozun_head head, const int64_t *coefficients, size_t coefficients_len, const uint16_t *bounds,
+                                   size_t bounds_len, const uint16_t *steps, size_t steps_len, int64_t point, uint64_t modulus);
+
+#ifdef __cplusplus
+}
+#endif
+
+#endif
