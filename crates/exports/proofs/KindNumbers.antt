@@ -14,7 +14,8 @@ use Rattle.algebra.specs.declared.PolynomialInputTransform.the-variants.{Identi
 use Rattle.counts.specs.StrategyNumber.{strategyNumber}
 use Rattle.counts.specs.declared.choice.SplitStrategy.{SplitStrategy}
 use Rattle.counts.specs.declared.choice.SplitStrategy.the-variants.{MinDepth, MinMult}
-use Rattle.exports.specs.Kinds.{isBasis, basisOf, isParity, parityOf, isStrategy, strategyOf, isTransform, transformOf, isFold, foldOf}
+use Rattle.exports.specs.Kinds.{isBasis, isParity, isStrategy, isTransform, isFold}
+use Rattle.exports.specs.Kinds.{basisNumbered, parityNumbered, strategyNumbered, transformNumbered, foldNumbered}
 use Rattle.exports.specs.KindNumbers.{foldNumber, KindsTold}
 
 -- ---- bases
@@ -23,13 +24,13 @@ basis-accepted : (b : Basis) → isBasis (basisNumber b) ≡ true
 basis-accepted Monomial = refl
 basis-accepted Chebyshev = refl
 
-basis-same : (b : Basis) → basisOf (basisNumber b) ≡ b
-unfolding basisOf
+basis-same : (b : Basis) → basisNumbered (basisNumber b) ≡ b
+unfolding basisNumbered
 basis-same Monomial = refl
 basis-same Chebyshev = refl
 
-basis-back : (n : ℕ) → isBasis n ≡ true → basisNumber (basisOf n) ≡ n
-unfolding basisOf
+basis-back : (n : ℕ) → isBasis n ≡ true → basisNumber (basisNumbered n) ≡ n
+unfolding basisNumbered
 basis-back zero known = refl
 basis-back (suc zero) known = refl
 basis-back (suc (suc n)) known = absurd (omega (arith, ltb-true (suc (suc n)) 2 known))
@@ -41,14 +42,14 @@ parity-accepted Full = refl
 parity-accepted Even = refl
 parity-accepted Odd = refl
 
-parity-same : (p : Parity) → parityOf (parityNumber p) ≡ p
-unfolding parityOf
+parity-same : (p : Parity) → parityNumbered (parityNumber p) ≡ p
+unfolding parityNumbered
 parity-same Full = refl
 parity-same Even = refl
 parity-same Odd = refl
 
-parity-back : (n : ℕ) → isParity n ≡ true → parityNumber (parityOf n) ≡ n
-unfolding parityOf
+parity-back : (n : ℕ) → isParity n ≡ true → parityNumber (parityNumbered n) ≡ n
+unfolding parityNumbered
 parity-back zero known = refl
 parity-back (suc zero) known = refl
 parity-back (suc (suc zero)) known = refl
@@ -60,13 +61,13 @@ strategy-accepted : (s : SplitStrategy) → isStrategy (strategyNumber s) ≡ tr
 strategy-accepted MinDepth = refl
 strategy-accepted MinMult = refl
 
-strategy-same : (s : SplitStrategy) → strategyOf (strategyNumber s) ≡ s
-unfolding strategyOf
+strategy-same : (s : SplitStrategy) → strategyNumbered (strategyNumber s) ≡ s
+unfolding strategyNumbered
 strategy-same MinDepth = refl
 strategy-same MinMult = refl
 
-strategy-back : (n : ℕ) → isStrategy n ≡ true → strategyNumber (strategyOf n) ≡ n
-unfolding strategyOf
+strategy-back : (n : ℕ) → isStrategy n ≡ true → strategyNumber (strategyNumbered n) ≡ n
+unfolding strategyNumbered
 strategy-back zero known = refl
 strategy-back (suc zero) known = refl
 strategy-back (suc (suc n)) known = absurd (omega (arith, ltb-true (suc (suc n)) 2 known))
@@ -80,16 +81,16 @@ transform-accepted SquareTimesInput = refl
 transform-accepted ChebyshevT2 = refl
 transform-accepted ChebyshevT2TimesInput = refl
 
-transform-same : (t : PolynomialInputTransform) → transformOf (transformNumber t) ≡ t
-unfolding transformOf
+transform-same : (t : PolynomialInputTransform) → transformNumbered (transformNumber t) ≡ t
+unfolding transformNumbered
 transform-same Identity = refl
 transform-same Square = refl
 transform-same SquareTimesInput = refl
 transform-same ChebyshevT2 = refl
 transform-same ChebyshevT2TimesInput = refl
 
-transform-back : (n : ℕ) → isTransform n ≡ true → transformNumber (transformOf n) ≡ n
-unfolding transformOf
+transform-back : (n : ℕ) → isTransform n ≡ true → transformNumber (transformNumbered n) ≡ n
+unfolding transformNumbered
 transform-back zero known = refl
 transform-back (suc zero) known = refl
 transform-back (suc (suc zero)) known = refl
@@ -103,11 +104,11 @@ fold-accepted : (f : Bool) → isFold (foldNumber f) ≡ true
 fold-accepted true = refl
 fold-accepted false = refl
 
-fold-same : (f : Bool) → foldOf (foldNumber f) ≡ f
+fold-same : (f : Bool) → foldNumbered (foldNumber f) ≡ f
 fold-same true = refl
 fold-same false = refl
 
-fold-back : (n : ℕ) → isFold n ≡ true → foldNumber (foldOf n) ≡ n
+fold-back : (n : ℕ) → isFold n ≡ true → foldNumber (foldNumbered n) ≡ n
 fold-back zero known = refl
 fold-back (suc zero) known = refl
 fold-back (suc (suc n)) known = absurd (omega (arith, ltb-true (suc (suc n)) 2 known))

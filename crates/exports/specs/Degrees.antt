@@ -1,7 +1,7 @@
 -- The calls on bare numbers, for C: each is its call's own answer, flat; or refusal 43 with zeros.
 use Prim.Native.Nat.{ℕ}
 use Rattle.counts.specs.Calls.{minMultCall, noSplit, countsCall, noCounts, depthCall, noDepth, bitsCall, noBits}
-use Rattle.exports.specs.Kinds.{isStrategy, strategyOf, parityOf, basisOf, knowsPair, knowsAll}
+use Rattle.exports.specs.Kinds.{isStrategy, strategyNumbered, parityNumbered, basisNumbered, knowsPair, knowsAll}
 use Rattle.exports.specs.Unknown.{unknownKind, whenKnown}
 use Rattle.exports.specs.Flat.{flatSplit, flatCounts, flatDepth, flatBits}
 use Rattle.exports.specs.declared.flat.CSplit.{CSplit}
@@ -11,17 +11,17 @@ use Rattle.exports.specs.declared.flat.CBits.{CBits}
 
 abbrev pub minMultFlat : (parity basis degree : ℕ) → CSplit
 minMultFlat parity basis degree =
-    whenKnown (knowsPair parity basis) (flatSplit (minMultCall (parityOf parity) (basisOf basis) degree)) (flatSplit (noSplit unknownKind))
+    whenKnown (knowsPair parity basis) (flatSplit (minMultCall (parityNumbered parity) (basisNumbered basis) degree)) (flatSplit (noSplit unknownKind))
 
 abbrev pub countsFlat : (strategy parity basis degree : ℕ) → CCounts
 countsFlat strategy parity basis degree =
     whenKnown (knowsAll strategy parity basis)
-    (flatCounts (countsCall (strategyOf strategy) (parityOf parity) (basisOf basis) degree))
+    (flatCounts (countsCall (strategyNumbered strategy) (parityNumbered parity) (basisNumbered basis) degree))
     (flatCounts (noCounts unknownKind))
 
 abbrev pub depthFlat : (strategy degree : ℕ) → CDepth
-depthFlat strategy degree = whenKnown (isStrategy strategy) (flatDepth (depthCall (strategyOf strategy) degree)) (flatDepth (noDepth unknownKind))
+depthFlat strategy degree = whenKnown (isStrategy strategy) (flatDepth (depthCall (strategyNumbered strategy) degree)) (flatDepth (noDepth unknownKind))
 
 abbrev pub bitsFlat : (strategy degree input coeff : ℕ) → CBits
 bitsFlat strategy degree input coeff =
-    whenKnown (isStrategy strategy) (flatBits (bitsCall (strategyOf strategy) degree input coeff)) (flatBits (noBits unknownKind))
+    whenKnown (isStrategy strategy) (flatBits (bitsCall (strategyNumbered strategy) degree input coeff)) (flatBits (noBits unknownKind))

@@ -5,7 +5,7 @@ use Rattle.counts.specs.StrategyNumber.{strategyNumber}
 use Rattle.walk.specs.declared.plan.Head.{Head}
 use Rattle.plan.specs.PlanHead.{noHead}
 use Rattle.plan.specs.declared.call.Planned.{Planned}
-use Rattle.exports.specs.Kinds.{isTransform, transformOf, strategyOf, parityOf, basisOf, knowsAll}
+use Rattle.exports.specs.Kinds.{isTransform, transformNumbered, strategyNumbered, parityNumbered, basisNumbered, knowsAll}
 use Rattle.exports.specs.Unknown.{unknownKind}
 use Rattle.exports.specs.declared.head.CHead.{CHead}
 use Rattle.exports.specs.declared.head.CPlanned.{CPlanned}
@@ -30,10 +30,10 @@ flatHead h = record {
 -- the head that a head of numbers means
 unfoldable pub headMeant : CHead → Head
 headMeant h = record {
-  basis = basisOf (h .basis);
-  parity = parityOf (h .parity);
-  strategy = strategyOf (h .strategy);
-  transform = transformOf (h .transform);
+  basis = basisNumbered (h .basis);
+  parity = parityNumbered (h .parity);
+  strategy = strategyNumbered (h .strategy);
+  transform = transformNumbered (h .transform);
   degree = h .degree;
   base = h .base;
   ct = h .ct;

@@ -8,7 +8,8 @@ use Rattle.algebra.specs.declared.Parity.{Parity}
 use Rattle.algebra.specs.declared.PolynomialInputTransform.{PolynomialInputTransform}
 use Rattle.counts.specs.StrategyNumber.{strategyNumber}
 use Rattle.counts.specs.declared.choice.SplitStrategy.{SplitStrategy}
-use Rattle.exports.specs.Kinds.{isBasis, basisOf, isParity, parityOf, isStrategy, strategyOf, isTransform, transformOf, isFold, foldOf}
+use Rattle.exports.specs.Kinds.{isBasis, isParity, isStrategy, isTransform, isFold}
+use Rattle.exports.specs.Kinds.{basisNumbered, parityNumbered, strategyNumbered, transformNumbered, foldNumbered}
 
 -- without folding 0, with it 1
 abbrev pub foldNumber : Bool → ℕ
@@ -22,8 +23,8 @@ pub record Told (K : Type 0) (number : K → ℕ) (known : ℕ → Bool) (of : �
   pub back : (n : ℕ) → known n ≡ true → number (of n) ≡ n
 
 pub record KindsTold : Type 0 where
-  pub bases : Told Basis basisNumber isBasis basisOf
-  pub parities : Told Parity parityNumber isParity parityOf
-  pub strategies : Told SplitStrategy strategyNumber isStrategy strategyOf
-  pub transforms : Told PolynomialInputTransform transformNumber isTransform transformOf
-  pub folds : Told Bool foldNumber isFold foldOf
+  pub bases : Told Basis basisNumber isBasis basisNumbered
+  pub parities : Told Parity parityNumber isParity parityNumbered
+  pub strategies : Told SplitStrategy strategyNumber isStrategy strategyNumbered
+  pub transforms : Told PolynomialInputTransform transformNumber isTransform transformNumbered
+  pub folds : Told Bool foldNumber isFold foldNumbered

@@ -15,34 +15,34 @@ use Rattle.counts.specs.declared.choice.SplitStrategy.the-variants.{MinDepth, M
 abbrev pub isBasis : ℕ → Bool
 isBasis n = ltb n 2
 
-unfoldable pub basisOf : ℕ → Basis
-basisOf n = cond (eqb n 0) Monomial Chebyshev
+unfoldable pub basisNumbered : ℕ → Basis
+basisNumbered n = cond (eqb n 0) Monomial Chebyshev
 
 abbrev pub isParity : ℕ → Bool
 isParity n = ltb n 3
 
-unfoldable pub parityOf : ℕ → Parity
-parityOf n = cond (eqb n 0) Full (cond (eqb n 1) Even Odd)
+unfoldable pub parityNumbered : ℕ → Parity
+parityNumbered n = cond (eqb n 0) Full (cond (eqb n 1) Even Odd)
 
 abbrev pub isStrategy : ℕ → Bool
 isStrategy n = ltb n 2
 
-unfoldable pub strategyOf : ℕ → SplitStrategy
-strategyOf n = cond (eqb n 0) MinDepth MinMult
+unfoldable pub strategyNumbered : ℕ → SplitStrategy
+strategyNumbered n = cond (eqb n 0) MinDepth MinMult
 
 abbrev pub isTransform : ℕ → Bool
 isTransform n = ltb n 5
 
-unfoldable pub transformOf : ℕ → PolynomialInputTransform
-transformOf n =
+unfoldable pub transformNumbered : ℕ → PolynomialInputTransform
+transformNumbered n =
     cond (eqb n 0) Identity (cond (eqb n 1) Square (cond (eqb n 2) SquareTimesInput (cond (eqb n 3) ChebyshevT2 ChebyshevT2TimesInput)))
 
 -- without folding 0, with it 1
 abbrev pub isFold : ℕ → Bool
 isFold n = ltb n 2
 
-abbrev pub foldOf : ℕ → Bool
-foldOf n = eqb n 1
+abbrev pub foldNumbered : ℕ → Bool
+foldNumbered n = eqb n 1
 
 -- ---- whether a call knows all its kinds
 

@@ -5,9 +5,12 @@ use mathlib.Core.Bool.{Bool}
 use mathlib.Core.List.{List}
 use Prim.Native.Nat.{ℕ}
 use lib.IntN.{ℤ}
+use Rattle.algebra.specs.declared.Basis.{Basis}
+use Rattle.algebra.specs.declared.Parity.{Parity}
+use Rattle.counts.specs.declared.choice.SplitStrategy.{SplitStrategy}
 use Rattle.walk.specs.Trial.{trialOf, noTrial}
 use Rattle.plan.specs.PlanCall.{planAnswer, planCoefficients, planBoundaries, planNumbers}
-use Rattle.exports.specs.Kinds.{foldOf, strategyOf, parityOf, basisOf, knowsSettings}
+use Rattle.exports.specs.Kinds.{foldNumbered, strategyNumbered, parityNumbered, basisNumbered, knowsSettings}
 use Rattle.exports.specs.Unknown.{unknownKind, whenKnown}
 use Rattle.exports.specs.Flat.{flatTrial}
 use Rattle.exports.specs.Heads.{headMeant, knowsHead, flatPlanned, noPlan}
@@ -19,15 +22,15 @@ module _ (strategy parity basis fold : ℕ) (c out : List ℤ) (bounds steps : L
   abbrev known : Bool
   known = knowsSettings strategy parity basis fold
 
+  -- what a definition says of the settings with these numbers
+  abbrev planned : {X : Type 0} → (SplitStrategy → Parity → Basis → Bool → List ℤ → List ℤ → List ℕ → List ℕ → X) → X
+  planned of = of (strategyNumbered strategy) (parityNumbered parity) (basisNumbered basis) (foldNumbered fold) c out bounds steps
+
   pub record PlanFlat (r : CPlanned) (out′ : List ℤ) (bounds′ steps′ : List ℕ) : Type 0 where
-    pub answer : r
-        ≡ whenKnown known (flatPlanned (planAnswer (strategyOf strategy) (parityOf parity) (basisOf basis) (foldOf fold) c out bounds steps)) noPlan
-    pub coefficients : out′
-        ≡ whenKnown known (planCoefficients (strategyOf strategy) (parityOf parity) (basisOf basis) (foldOf fold) c out bounds steps) out
-    pub boundaries : bounds′
-        ≡ whenKnown known (planBoundaries (strategyOf strategy) (parityOf parity) (basisOf basis) (foldOf fold) c out bounds steps) bounds
-    pub numbers : steps′
-        ≡ whenKnown known (planNumbers (strategyOf strategy) (parityOf parity) (basisOf basis) (foldOf fold) c out bounds steps) steps
+    pub answer : r ≡ whenKnown known (flatPlanned (planned planAnswer)) noPlan
+    pub coefficients : out′ ≡ whenKnown known (planned planCoefficients) out
+    pub boundaries : bounds′ ≡ whenKnown known (planned planBoundaries) bounds
+    pub numbers : steps′ ≡ whenKnown known (planned planNumbers) steps
 
 -- the walk is of the head that is meant
 abbrev pub trialFlat : CHead → (coefficients : List ℤ) → (bounds steps : List ℕ) → (point : ℤ) → (modulus : ℕ) → CTrial

@@ -4,7 +4,8 @@ use firrozun::Parity;
 use firrozun::PolynomialInputTransform;
 use firrozun::SplitStrategy;
 ghost use mathlib.Core.Path.{_≡_};
-ghost use Rattle.exports.specs.Kinds.{isBasis, basisOf, isParity, parityOf, isStrategy, strategyOf, isTransform, transformOf, isFold, foldOf};
+ghost use Rattle.exports.specs.Kinds.{isBasis, isParity, isStrategy, isTransform, isFold};
+ghost use Rattle.exports.specs.Kinds.{basisNumbered, parityNumbered, strategyNumbered, transformNumbered, foldNumbered};
 ghost use Rattle.exports.specs.Kinds.{knowsPair, knowsAll, knowsSettings};
 
 pub fn is_basis(n: u8) -> bool
@@ -14,7 +15,7 @@ pub fn is_basis(n: u8) -> bool
 }
 
 pub fn basis_of(n: u8) -> Basis
-    ensures { λ r. ⌜ r ≡ basisOf n ⌝ }
+    ensures { λ r. ⌜ r ≡ basisNumbered n ⌝ }
 {
     if n == 0 {
         Basis::Monomial
@@ -30,7 +31,7 @@ pub fn is_parity(n: u8) -> bool
 }
 
 pub fn parity_of(n: u8) -> Parity
-    ensures { λ r. ⌜ r ≡ parityOf n ⌝ }
+    ensures { λ r. ⌜ r ≡ parityNumbered n ⌝ }
 {
     if n == 0 {
         return Parity::Full;
@@ -45,7 +46,7 @@ pub fn is_strategy(n: u8) -> bool
 }
 
 pub fn strategy_of(n: u8) -> SplitStrategy
-    ensures { λ r. ⌜ r ≡ strategyOf n ⌝ }
+    ensures { λ r. ⌜ r ≡ strategyNumbered n ⌝ }
 {
     if n == 0 {
         SplitStrategy::MinDepth
@@ -61,7 +62,7 @@ pub fn is_transform(n: u8) -> bool
 }
 
 pub fn transform_of(n: u8) -> PolynomialInputTransform
-    ensures { λ r. ⌜ r ≡ transformOf n ⌝ }
+    ensures { λ r. ⌜ r ≡ transformNumbered n ⌝ }
 {
     if n == 0 {
         return PolynomialInputTransform::Identity;
@@ -87,7 +88,7 @@ pub fn is_fold(n: u8) -> bool
 }
 
 pub fn fold_of(n: u8) -> bool
-    ensures { λ r. ⌜ r ≡ foldOf n ⌝ }
+    ensures { λ r. ⌜ r ≡ foldNumbered n ⌝ }
 {
     n == 1
 }

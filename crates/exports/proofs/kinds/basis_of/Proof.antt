@@ -1,15 +1,15 @@
 -- `exports::kinds::basis_of` meets its contract. 0 is the first basis, and every other number the second, as the test found.
 use borrow.Author.Tests.{eq-eqb, ne-eqb}
-use Rattle.exports.specs.Kinds.{basisOf}
+use Rattle.exports.specs.Kinds.{basisNumbered}
 use Rattle.exports.proofs.kinds.basis_of.Statement.{statement}
 use Rattle.exports.proofs.kinds.basis_of.Tie as tie
 
 returns : tie.Need-returns
-unfolding basisOf
+unfolding basisNumbered
 returns c = rw (eq-eqb (c .before .args .n) 0 (c .if1 .taken))
 
 returns-2 : tie.Need-returns-2
-unfolding basisOf
+unfolding basisNumbered
 returns-2 c = rw (ne-eqb (c .before .args .n) 0 (c .if1 .left))
 
 pub basis-of-spec : {M : Type 1} → statement M
