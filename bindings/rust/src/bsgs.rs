@@ -57,26 +57,66 @@ impl<C> BSGSPolynomial<C> {
     }
 
     /// The basis.
+    ///
+    /// ```
+    /// # use firrozun::{Basis, Parity, Polynomial, PolynomialInputTransform, Refusal, SplitStrategy};
+    /// # let p = Polynomial::new(Basis::Chebyshev, vec![0, 1, 0, 2, 0, 3]).with_interval(0, 2);
+    /// # let bsgs = p.decompose_bsgs_folded_with(SplitStrategy::MinMult, |list| Ok::<_, Refusal>(list.to_vec()))?;
+    /// assert_eq!(bsgs.basis(), Basis::Chebyshev);
+    /// # Ok::<(), Refusal>(())
+    /// ```
     pub fn basis(&self) -> Basis {
         self.basis
     }
 
     /// The degree of what was cut, about half of the polynomial's if it was folded.
+    ///
+    /// ```
+    /// # use firrozun::{Basis, Parity, Polynomial, PolynomialInputTransform, Refusal, SplitStrategy};
+    /// # let p = Polynomial::new(Basis::Chebyshev, vec![0, 1, 0, 2, 0, 3]).with_interval(0, 2);
+    /// # let bsgs = p.decompose_bsgs_folded_with(SplitStrategy::MinMult, |list| Ok::<_, Refusal>(list.to_vec()))?;
+    /// assert_eq!((p.degree(), bsgs.degree()), (5, 2));
+    /// # Ok::<(), Refusal>(())
+    /// ```
     pub fn degree(&self) -> usize {
         self.degree
     }
 
     /// The base: a list has at most so many coefficients.
+    ///
+    /// ```
+    /// # use firrozun::{Basis, Parity, Polynomial, PolynomialInputTransform, Refusal, SplitStrategy};
+    /// # let p = Polynomial::new(Basis::Chebyshev, vec![0, 1, 0, 2, 0, 3]).with_interval(0, 2);
+    /// # let bsgs = p.decompose_bsgs_folded_with(SplitStrategy::MinMult, |list| Ok::<_, Refusal>(list.to_vec()))?;
+    /// assert_eq!(bsgs.base(), 2);
+    /// # Ok::<(), Refusal>(())
+    /// ```
     pub fn base(&self) -> usize {
         self.base
     }
 
     /// The split: the base is 2 to this power.
+    ///
+    /// ```
+    /// # use firrozun::{Basis, Parity, Polynomial, PolynomialInputTransform, Refusal, SplitStrategy};
+    /// # let p = Polynomial::new(Basis::Chebyshev, vec![0, 1, 0, 2, 0, 3]).with_interval(0, 2);
+    /// # let bsgs = p.decompose_bsgs_folded_with(SplitStrategy::MinMult, |list| Ok::<_, Refusal>(list.to_vec()))?;
+    /// assert_eq!(bsgs.log_split(), 1);
+    /// # Ok::<(), Refusal>(())
+    /// ```
     pub fn log_split(&self) -> usize {
         self.base.trailing_zeros() as usize
     }
 
     /// Levels of multiplications, those of the transform too.
+    ///
+    /// ```
+    /// # use firrozun::{Basis, Parity, Polynomial, PolynomialInputTransform, Refusal, SplitStrategy};
+    /// # let p = Polynomial::new(Basis::Chebyshev, vec![0, 1, 0, 2, 0, 3]).with_interval(0, 2);
+    /// # let bsgs = p.decompose_bsgs_folded_with(SplitStrategy::MinMult, |list| Ok::<_, Refusal>(list.to_vec()))?;
+    /// assert_eq!(bsgs.eval_depth(), 4);
+    /// # Ok::<(), Refusal>(())
+    /// ```
     pub fn eval_depth(&self) -> usize {
         self.depth
     }
@@ -84,6 +124,15 @@ impl<C> BSGSPolynomial<C> {
     /// Bits that the evaluation uses up, those of the transform too, for the bit scales of the input and of the coefficients.
     ///
     /// Refused: 10 for a scale above 65,535.
+    ///
+    /// ```
+    /// # use firrozun::{Basis, Parity, Polynomial, PolynomialInputTransform, Refusal, SplitStrategy};
+    /// # let p = Polynomial::new(Basis::Chebyshev, vec![0, 1, 0, 2, 0, 3]).with_interval(0, 2);
+    /// # let bsgs = p.decompose_bsgs_folded_with(SplitStrategy::MinMult, |list| Ok::<_, Refusal>(list.to_vec()))?;
+    /// assert_eq!(bsgs.consumed_bits(40, 30), Ok(150));
+    /// assert_eq!(bsgs.consumed_bits(65_536, 30), Err(Refusal::Scale));
+    /// # Ok::<(), Refusal>(())
+    /// ```
     pub fn consumed_bits(
         &self,
         input_log_delta: usize,
@@ -102,6 +151,14 @@ impl<C> BSGSPolynomial<C> {
     }
 
     /// The encoded lists, the lowest first.
+    ///
+    /// ```
+    /// # use firrozun::{Basis, Parity, Polynomial, PolynomialInputTransform, Refusal, SplitStrategy};
+    /// # let p = Polynomial::new(Basis::Chebyshev, vec![0, 1, 0, 2, 0, 3]).with_interval(0, 2);
+    /// # let bsgs = p.decompose_bsgs_folded_with(SplitStrategy::MinMult, |list| Ok::<_, Refusal>(list.to_vec()))?;
+    /// assert_eq!(bsgs.baby_steps(), [vec![2, -2], vec![6]]);
+    /// # Ok::<(), Refusal>(())
+    /// ```
     pub fn baby_steps(&self) -> &[C] {
         &self.baby_steps
     }
@@ -111,31 +168,79 @@ impl<C> BSGSPolynomial<C> {
     /// # Panics
     ///
     /// If there is no list `i`, as in poulpy. `baby_steps().get(i)` does not.
+    ///
+    /// ```
+    /// # use firrozun::{Basis, Parity, Polynomial, PolynomialInputTransform, Refusal, SplitStrategy};
+    /// # let p = Polynomial::new(Basis::Chebyshev, vec![0, 1, 0, 2, 0, 3]).with_interval(0, 2);
+    /// # let bsgs = p.decompose_bsgs_folded_with(SplitStrategy::MinMult, |list| Ok::<_, Refusal>(list.to_vec()))?;
+    /// assert_eq!(bsgs.baby_step(1), &[6]);
+    /// # Ok::<(), Refusal>(())
+    /// ```
     pub fn baby_step(&self, i: usize) -> &C {
         &self.baby_steps[i]
     }
 
     /// The parity of what was cut: that of the polynomial, and `Full` if it was folded.
+    ///
+    /// ```
+    /// # use firrozun::{Basis, Parity, Polynomial, PolynomialInputTransform, Refusal, SplitStrategy};
+    /// # let p = Polynomial::new(Basis::Chebyshev, vec![0, 1, 0, 2, 0, 3]).with_interval(0, 2);
+    /// # let bsgs = p.decompose_bsgs_folded_with(SplitStrategy::MinMult, |list| Ok::<_, Refusal>(list.to_vec()))?;
+    /// assert_eq!((p.parity, bsgs.parity()), (Parity::Odd, Parity::Full));
+    /// # Ok::<(), Refusal>(())
+    /// ```
     pub fn parity(&self) -> Parity {
         self.parity
     }
 
     /// The strategy that chose the split.
+    ///
+    /// ```
+    /// # use firrozun::{Basis, Parity, Polynomial, PolynomialInputTransform, Refusal, SplitStrategy};
+    /// # let p = Polynomial::new(Basis::Chebyshev, vec![0, 1, 0, 2, 0, 3]).with_interval(0, 2);
+    /// # let bsgs = p.decompose_bsgs_folded_with(SplitStrategy::MinMult, |list| Ok::<_, Refusal>(list.to_vec()))?;
+    /// assert_eq!(bsgs.split_strategy(), SplitStrategy::MinMult);
+    /// # Ok::<(), Refusal>(())
+    /// ```
     pub fn split_strategy(&self) -> SplitStrategy {
         self.split_strategy
     }
 
     /// What is done with the input before the evaluation, and with its result.
+    ///
+    /// ```
+    /// # use firrozun::{Basis, Parity, Polynomial, PolynomialInputTransform, Refusal, SplitStrategy};
+    /// # let p = Polynomial::new(Basis::Chebyshev, vec![0, 1, 0, 2, 0, 3]).with_interval(0, 2);
+    /// # let bsgs = p.decompose_bsgs_folded_with(SplitStrategy::MinMult, |list| Ok::<_, Refusal>(list.to_vec()))?;
+    /// assert_eq!(bsgs.input_transform(), PolynomialInputTransform::ChebyshevT2TimesInput);
+    /// # Ok::<(), Refusal>(())
+    /// ```
     pub fn input_transform(&self) -> PolynomialInputTransform {
         self.input_transform
     }
 
     /// The ends of the polynomial's interval.
+    ///
+    /// ```
+    /// # use firrozun::{Basis, Parity, Polynomial, PolynomialInputTransform, Refusal, SplitStrategy};
+    /// # let p = Polynomial::new(Basis::Chebyshev, vec![0, 1, 0, 2, 0, 3]).with_interval(0, 2);
+    /// # let bsgs = p.decompose_bsgs_folded_with(SplitStrategy::MinMult, |list| Ok::<_, Refusal>(list.to_vec()))?;
+    /// assert_eq!(bsgs.interval(), (0.0, 2.0));
+    /// # Ok::<(), Refusal>(())
+    /// ```
     pub fn interval(&self) -> (f64, f64) {
         self.interval
     }
 
     /// The pair (u, w) of [`change_of_basis`](crate::change_of_basis) for that interval.
+    ///
+    /// ```
+    /// # use firrozun::{Basis, Parity, Polynomial, PolynomialInputTransform, Refusal, SplitStrategy};
+    /// # let p = Polynomial::new(Basis::Chebyshev, vec![0, 1, 0, 2, 0, 3]).with_interval(0, 2);
+    /// # let bsgs = p.decompose_bsgs_folded_with(SplitStrategy::MinMult, |list| Ok::<_, Refusal>(list.to_vec()))?;
+    /// assert_eq!(bsgs.change_of_basis(), (1.0, -1.0));
+    /// # Ok::<(), Refusal>(())
+    /// ```
     pub fn change_of_basis(&self) -> (f64, f64) {
         change_of_basis(self.basis, self.interval.0, self.interval.1)
     }

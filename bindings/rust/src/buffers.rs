@@ -11,13 +11,33 @@ use crate::kinds::{Basis, Parity, PolynomialInputTransform, SplitStrategy};
 use crate::refusal::Refusal;
 
 /// Places that are enough in a coefficient buffer, for every call.
-pub const COEFFICIENT_PLACES: usize = 4096;
+///
+/// ```
+/// assert_eq!(firrozun::buffers::COEFFICIENT_ROOM, 4096);
+/// ```
+pub const COEFFICIENT_ROOM: usize = 4096;
 /// Places that are enough in a boundary buffer, for every call.
-pub const BOUNDARY_PLACES: usize = 4096;
+///
+/// ```
+/// assert_eq!(firrozun::buffers::BOUNDARY_ROOM, 4096);
+/// ```
+pub const BOUNDARY_ROOM: usize = 4096;
 /// Places that are enough in a step buffer, for every plan: four for each step.
-pub const STEP_PLACES: usize = 49_152;
+///
+/// ```
+/// assert_eq!(firrozun::buffers::STEP_ROOM, 4 * 3 * 4096);
+/// ```
+pub const STEP_ROOM: usize = 49_152;
 
 /// What a fold call answers.
+///
+/// ```
+/// use firrozun::buffers::{fold_parity_into, Folded};
+/// use firrozun::{Basis, Parity, PolynomialInputTransform};
+/// let folded = fold_parity_into(Parity::Even, Basis::Monomial, &[1, 0, 3], &mut [0; 2])?;
+/// assert_eq!(folded, Folded { transform: PolynomialInputTransform::Square, parity: Parity::Full, count: 2 });
+/// # Ok::<(), firrozun::Refusal>(())
+/// ```
 #[derive(Clone, Copy, Debug, PartialEq, Eq)]
 pub struct Folded {
     /// What is done with the input and the result of the folded polynomial.
@@ -29,6 +49,17 @@ pub struct Folded {
 }
 
 /// What a list call answers.
+///
+/// ```
+/// use firrozun::buffers::{decompose_bsgs_into, Listed};
+/// use firrozun::{Basis, Parity, SplitStrategy};
+/// let (mut out, mut ends) = ([0; 5], [0; 5]);
+/// let listed = decompose_bsgs_into(
+///     SplitStrategy::MinDepth, Parity::Full, Basis::Monomial, &[1, 2, 3, 4, 5], &mut out, &mut ends,
+/// )?;
+/// assert_eq!(listed, Listed { degree: 4, base: 4, coefficients: 5, lists: 2 });
+/// # Ok::<(), firrozun::Refusal>(())
+/// ```
 #[derive(Clone, Copy, Debug, PartialEq, Eq)]
 pub struct Listed {
     /// The degree of the polynomial.
@@ -42,6 +73,13 @@ pub struct Listed {
 }
 
 /// What an interpolation answers.
+///
+/// ```
+/// use firrozun::buffers::chebyshev_interpolate_into;
+/// let answer = chebyshev_interpolate_into(&[-0.5, 0.5], &[1.0, 2.0], -1.0, 3.0, &mut [0.0; 2])?;
+/// assert_eq!((answer.interval, answer.change_of_basis), ((-1.0, 3.0), (0.5, -0.5)));
+/// # Ok::<(), firrozun::Refusal>(())
+/// ```
 #[derive(Clone, Copy, Debug, PartialEq)]
 pub struct Interpolated {
     /// How many coefficients were written.
@@ -55,6 +93,15 @@ pub struct Interpolated {
 }
 
 /// The head of a plan: its settings, its cost, and how much of each buffer it has.
+///
+/// ```
+/// use firrozun::{Basis, Polynomial, PolynomialInputTransform, SplitStrategy};
+/// let plan = Polynomial::new(Basis::Monomial, vec![1, 0, 3, 0, 5]).plan_folded(SplitStrategy::MinMult)?;
+/// let head = plan.head();
+/// assert_eq!((head.transform, head.degree), (PolynomialInputTransform::Square, 2));
+/// assert_eq!((head.ct_ct, head.pt_ct, head.depth), (2, 2, 3));
+/// # Ok::<(), firrozun::Refusal>(())
+/// ```
 #[derive(Clone, Copy, Debug, PartialEq, Eq)]
 pub struct Head {
     /// The basis.
@@ -120,6 +167,15 @@ impl Head {
 }
 
 /// The three buffers of a plan, lent to be written.
+///
+/// ```
+/// use firrozun::buffers::{plan_into, PlanBuffers};
+/// use firrozun::{Basis, Parity, Refusal, SplitStrategy};
+/// let (mut coefficients, mut boundaries, mut steps) = ([0; 2], [0; 1], [0; 3]);
+/// let buffers = PlanBuffers { coefficients: &mut coefficients, boundaries: &mut boundaries, steps: &mut steps };
+/// let planned = plan_into(SplitStrategy::MinDepth, Parity::Full, Basis::Monomial, false, &[1, 2], buffers);
+/// assert_eq!(planned, Err(Refusal::StepBuffer)); // one step wants four places
+/// ```
 #[derive(Debug)]
 pub struct PlanBuffers<'a> {
     /// The coefficients of the lists, one list after another.
@@ -246,7 +302,7 @@ pub fn plan_into(
 /// let plan = Plan::new(Basis::Monomial, &[1, 2, 3, 4, 5], Parity::Full, SplitStrategy::MinDepth, false)?;
 /// let walk = |steps: &[u16]| trial_walk(plan.head(), plan.coefficients(), plan.boundaries(), steps, 2, 100);
 /// assert_eq!(walk(plan.step_numbers()), Ok(29));
-/// assert_eq!(walk(&[]), Err(Refusal::PlanUnwalkable));
+/// assert_eq!(walk(&[]), Err(Refusal::Unwalkable));
 /// # Ok::<(), Refusal>(())
 /// ```
 pub fn trial_walk(

@@ -13,7 +13,7 @@ use crate::refusal::Refusal;
 /// use firrozun::{split_degree, Refusal};
 /// assert_eq!(split_degree(3), Ok((1, 2)));
 /// assert_eq!(split_degree(5), Ok((3, 2)));
-/// assert_eq!(split_degree(1), Err(Refusal::IndexOutOfRange));
+/// assert_eq!(split_degree(1), Err(Refusal::Index));
 /// ```
 pub fn split_degree(n: usize) -> Result<(usize, usize), Refusal> {
     let answer = ffi::split_degree(n);
@@ -29,7 +29,7 @@ pub fn split_degree(n: usize) -> Result<(usize, usize), Refusal> {
 /// ```
 /// use firrozun::{min_depth_split, Refusal};
 /// assert_eq!(min_depth_split(16), Ok(3));
-/// assert_eq!(min_depth_split(0), Err(Refusal::DegreeZero));
+/// assert_eq!(min_depth_split(0), Err(Refusal::NoDegree));
 /// ```
 pub fn min_depth_split(degree: usize) -> Result<usize, Refusal> {
     let answer = ffi::min_depth_split(degree);
@@ -61,7 +61,7 @@ pub fn min_mult_split(degree: usize, parity: Parity, basis: Basis) -> Result<usi
 /// use firrozun::{bsgs_op_counts, Basis, Parity, Refusal, SplitStrategy};
 /// let counts = |degree| bsgs_op_counts(degree, SplitStrategy::MinMult, Parity::Full, Basis::Monomial);
 /// assert_eq!(counts(7), Ok((4, 6)));
-/// assert_eq!(counts(4096), Err(Refusal::DegreeAboveLimit));
+/// assert_eq!(counts(4096), Err(Refusal::Degree));
 /// ```
 pub fn bsgs_op_counts(
     degree: usize,

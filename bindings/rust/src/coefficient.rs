@@ -14,6 +14,11 @@ use crate::kinds::{Basis, Parity, SplitStrategy};
 /// ```
 pub trait Coefficient: Calls + Copy + PartialEq + std::fmt::Debug {
     /// The nearest f64; for a whole coefficient that a plan takes, the same number.
+    ///
+    /// ```
+    /// use firrozun::Coefficient;
+    /// assert_eq!(Coefficient::to_f64(-3), -3.0);
+    /// ```
     fn to_f64(self) -> f64;
 }
 

@@ -75,6 +75,11 @@ pub enum PolynomialInputTransform {
 
 impl Basis {
     /// The number of document 01: 0 or 1.
+    ///
+    /// ```
+    /// use firrozun::Basis;
+    /// assert_eq!(Basis::Monomial.number(), 0);
+    /// ```
     pub fn number(self) -> u8 {
         self as u8
     }
@@ -89,6 +94,11 @@ impl Basis {
 
 impl Parity {
     /// The number of document 01: 0, 1 or 2.
+    ///
+    /// ```
+    /// use firrozun::Parity;
+    /// assert_eq!(Parity::Even.number(), 1);
+    /// ```
     pub fn number(self) -> u8 {
         self as u8
     }
@@ -104,6 +114,11 @@ impl Parity {
 
 impl SplitStrategy {
     /// The number of document 01: 0 or 1.
+    ///
+    /// ```
+    /// use firrozun::SplitStrategy;
+    /// assert_eq!(SplitStrategy::MinDepth.number(), 0);
+    /// ```
     pub fn number(self) -> u8 {
         self as u8
     }
@@ -118,6 +133,11 @@ impl SplitStrategy {
 
 impl PolynomialInputTransform {
     /// The number of document 01: 0 to 4.
+    ///
+    /// ```
+    /// use firrozun::PolynomialInputTransform;
+    /// assert_eq!(PolynomialInputTransform::ChebyshevT2.number(), 3);
+    /// ```
     pub fn number(self) -> u8 {
         self as u8
     }

@@ -1,6 +1,6 @@
 //! A plan with memory of its own, and its steps.
 
-use crate::buffers::{plan_into, trial_walk, Head, PlanBuffers, COEFFICIENT_PLACES};
+use crate::buffers::{plan_into, trial_walk, Head, PlanBuffers, COEFFICIENT_ROOM};
 use crate::kinds::{Basis, Parity, SplitStrategy};
 use crate::refusal::Refusal;
 
@@ -41,7 +41,7 @@ impl Plan {
     /// use firrozun::{Basis, Parity, Plan, Refusal, SplitStrategy};
     /// let folded = |coeffs: &[i64]| Plan::new(Basis::Chebyshev, coeffs, Parity::Odd, SplitStrategy::MinMult, true);
     /// assert_eq!(folded(&[0, 1, 0, 2])?.coefficients(), [-1, 4]);
-    /// assert_eq!(folded(&[0, 1]), Err(Refusal::FoldOfLowDegree));
+    /// assert_eq!(folded(&[0, 1]), Err(Refusal::FoldLow));
     /// # Ok::<(), Refusal>(())
     /// ```
     pub fn new(
@@ -53,7 +53,7 @@ impl Plan {
     ) -> Result<Self, Refusal> {
         // n coefficients make at most n lists and n − 1 powers, so fewer than 3n steps of four numbers. More than 4,096 coefficients
         // are refused before a buffer is looked at.
-        let places = coeffs.len().min(COEFFICIENT_PLACES);
+        let places = coeffs.len().min(COEFFICIENT_ROOM);
         let mut coefficients = vec![0; places];
         let mut boundaries = vec![0; places];
         let mut steps = vec![0; 12 * places];
@@ -173,7 +173,7 @@ impl Plan {
     /// use firrozun::{Basis, Parity, Plan, Refusal, SplitStrategy};
     /// let plan = Plan::new(Basis::Monomial, &[1, 2], Parity::Full, SplitStrategy::MinDepth, false)?;
     /// assert_eq!(plan.walk(-3, 7), Ok(2)); // −5
-    /// assert_eq!(plan.walk(-3, 1), Err(Refusal::ModulusOutOfRange));
+    /// assert_eq!(plan.walk(-3, 1), Err(Refusal::Modulus));
     /// # Ok::<(), Refusal>(())
     /// ```
     pub fn walk(&self, point: i64, modulus: u64) -> Result<u64, Refusal> {

@@ -2,7 +2,7 @@
 
 use crate::bsgs::BSGSPolynomial;
 use crate::buffers::{
-    chebyshev_interpolate_into, decompose_bsgs_into, fold_parity_into, COEFFICIENT_PLACES,
+    chebyshev_interpolate_into, decompose_bsgs_into, fold_parity_into, COEFFICIENT_ROOM,
 };
 use crate::calls::{change_of_basis, detect_parity, evaluate_coeffs};
 use crate::coefficient::Coefficient;
@@ -51,7 +51,7 @@ impl<F: Coefficient> Polynomial<F> {
     /// ```
     /// use firrozun::{Basis, Parity, Polynomial, Refusal};
     /// let p = Polynomial::new_with_parity(Basis::Monomial, vec![1, 2, 3], Parity::Even);
-    /// assert_eq!(p.fold_parity(), Err(Refusal::AgainstParity));
+    /// assert_eq!(p.fold_parity(), Err(Refusal::Parity));
     /// ```
     pub fn new_with_parity(basis: Basis, coeffs: Vec<F>, parity: Parity) -> Self {
         Self {
@@ -120,7 +120,7 @@ impl<F: Coefficient> Polynomial<F> {
     /// # Ok::<(), firrozun::Refusal>(())
     /// ```
     pub fn fold_parity(&self) -> Result<(Self, PolynomialInputTransform), Refusal> {
-        let mut coeffs = vec![F::ZERO; self.coeffs.len().min(COEFFICIENT_PLACES)];
+        let mut coeffs = vec![F::ZERO; self.coeffs.len().min(COEFFICIENT_ROOM)];
         let folded = fold_parity_into(self.parity, self.basis, &self.coeffs, &mut coeffs)?;
         coeffs.truncate(folded.count);
         coeffs.shrink_to_fit();
@@ -184,7 +184,7 @@ impl<F: Coefficient> Polynomial<F> {
         strategy: SplitStrategy,
         mut encode: impl FnMut(&[F]) -> Result<C, E>,
     ) -> Result<BSGSPolynomial<C>, E> {
-        let places = self.coeffs.len().min(COEFFICIENT_PLACES);
+        let places = self.coeffs.len().min(COEFFICIENT_ROOM);
         let mut coefficients = vec![F::ZERO; places];
         let mut boundaries = vec![0; places];
         let listed = decompose_bsgs_into(
@@ -245,7 +245,7 @@ impl Polynomial<f64> {
     /// use firrozun::{Polynomial, Refusal};
     /// let p = Polynomial::chebyshev_interpolate(15, -2.0, 2.0, f64::sin)?;
     /// assert!((p.evaluate_on_interval(0.5) - 0.5f64.sin()).abs() < 1e-12);
-    /// assert_eq!(Polynomial::chebyshev_interpolate(15, 2.0, 2.0, f64::sin), Err(Refusal::IntervalWithoutRoom));
+    /// assert_eq!(Polynomial::chebyshev_interpolate(15, 2.0, 2.0, f64::sin), Err(Refusal::Interval));
     /// # Ok::<(), Refusal>(())
     /// ```
     pub fn chebyshev_interpolate<Fun>(
@@ -280,8 +280,8 @@ impl Polynomial<f64> {
         Cos: Fn(f64) -> f64,
     {
         let n = degree.saturating_add(1);
-        if n > COEFFICIENT_PLACES {
-            return Err(Refusal::NodesAndValues);
+        if n > COEFFICIENT_ROOM {
+            return Err(Refusal::Nodes);
         }
         let mut nodes = Vec::with_capacity(n);
         let mut values = Vec::with_capacity(n);

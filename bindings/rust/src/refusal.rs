@@ -11,7 +11,7 @@ use std::fmt;
 /// ```
 /// use firrozun::{split_degree, Refusal};
 /// let refusal = split_degree(1).unwrap_err();
-/// assert_eq!(refusal, Refusal::IndexOutOfRange);
+/// assert_eq!(refusal, Refusal::Index);
 /// assert_eq!(refusal.number(), 9);
 /// assert_eq!(
 ///     refusal.to_string(),
@@ -21,37 +21,37 @@ use std::fmt;
 #[derive(Clone, Copy, Debug, PartialEq, Eq, Hash)]
 pub enum Refusal {
     /// 1: there is no coefficient or one, for a plan or lists, or the degree is 0 for [`min_depth_split`](crate::min_depth_split).
-    DegreeZero,
+    NoDegree,
     /// 2: the degree is above the limit of the call, mostly 4,095.
-    DegreeAboveLimit,
+    Degree,
     /// 3: the magnitudes of whole coefficients sum above 2^30.
-    MagnitudesAboveLimit,
+    Magnitude,
     /// 4: at a place that the parity does not allow stands a coefficient other than 0.
-    AgainstParity,
+    Parity,
     /// 5: folding is asked for with [`Parity::Full`](crate::Parity::Full).
-    FoldOfFull,
+    FoldFull,
     /// 6: folding is asked for of a degree below 2 for `Even`, or below 3 for `Odd`.
-    FoldOfLowDegree,
+    FoldLow,
     /// 7: a < b does not hold for the interval from a to b.
-    IntervalWithoutRoom,
+    Interval,
     /// 8: nodes and values differ in number, or there are none, or more than 4,096.
-    NodesAndValues,
+    Nodes,
     /// 9: the index to split is below 2 or above 4,294,967,295.
-    IndexOutOfRange,
+    Index,
     /// 10: a bit scale is above 65,535.
-    ScaleAboveLimit,
+    Scale,
     /// 11: the modulus of a walk is below 2 or above 2,147,483,647.
-    ModulusOutOfRange,
+    Modulus,
     /// 12: a line of the program `planlines` does not have its form. No call of this crate reads lines, so none answers it.
-    LineForm,
+    Line,
     /// 21: the coefficient buffer is too short.
-    CoefficientBufferShort,
+    CoefficientBuffer,
     /// 22: the boundary buffer is too short.
-    BoundaryBufferShort,
+    BoundaryBuffer,
     /// 23: the step buffer is too short.
-    StepBufferShort,
+    StepBuffer,
     /// 24: the plan cannot be walked: head or buffers are not as the plan call left them.
-    PlanUnwalkable,
+    Unwalkable,
     /// 43: the number of a kind is unknown. The enums of this crate have no such number, so no safe call answers it.
     UnknownKind,
 }
@@ -65,48 +65,48 @@ impl Refusal {
     /// assert!(Refusal::ALL.iter().all(|&r| Refusal::from_number(r.number()) == Some(r)));
     /// ```
     pub const ALL: [Refusal; 17] = [
-        Self::DegreeZero,
-        Self::DegreeAboveLimit,
-        Self::MagnitudesAboveLimit,
-        Self::AgainstParity,
-        Self::FoldOfFull,
-        Self::FoldOfLowDegree,
-        Self::IntervalWithoutRoom,
-        Self::NodesAndValues,
-        Self::IndexOutOfRange,
-        Self::ScaleAboveLimit,
-        Self::ModulusOutOfRange,
-        Self::LineForm,
-        Self::CoefficientBufferShort,
-        Self::BoundaryBufferShort,
-        Self::StepBufferShort,
-        Self::PlanUnwalkable,
+        Self::NoDegree,
+        Self::Degree,
+        Self::Magnitude,
+        Self::Parity,
+        Self::FoldFull,
+        Self::FoldLow,
+        Self::Interval,
+        Self::Nodes,
+        Self::Index,
+        Self::Scale,
+        Self::Modulus,
+        Self::Line,
+        Self::CoefficientBuffer,
+        Self::BoundaryBuffer,
+        Self::StepBuffer,
+        Self::Unwalkable,
         Self::UnknownKind,
     ];
 
     /// The number: 1 to 12, 21 to 24, or 43.
     ///
     /// ```
-    /// assert_eq!(firrozun::Refusal::StepBufferShort.number(), 23);
+    /// assert_eq!(firrozun::Refusal::StepBuffer.number(), 23);
     /// ```
     pub fn number(self) -> u8 {
         match self {
-            Self::DegreeZero => 1,
-            Self::DegreeAboveLimit => 2,
-            Self::MagnitudesAboveLimit => 3,
-            Self::AgainstParity => 4,
-            Self::FoldOfFull => 5,
-            Self::FoldOfLowDegree => 6,
-            Self::IntervalWithoutRoom => 7,
-            Self::NodesAndValues => 8,
-            Self::IndexOutOfRange => 9,
-            Self::ScaleAboveLimit => 10,
-            Self::ModulusOutOfRange => 11,
-            Self::LineForm => 12,
-            Self::CoefficientBufferShort => 21,
-            Self::BoundaryBufferShort => 22,
-            Self::StepBufferShort => 23,
-            Self::PlanUnwalkable => 24,
+            Self::NoDegree => 1,
+            Self::Degree => 2,
+            Self::Magnitude => 3,
+            Self::Parity => 4,
+            Self::FoldFull => 5,
+            Self::FoldLow => 6,
+            Self::Interval => 7,
+            Self::Nodes => 8,
+            Self::Index => 9,
+            Self::Scale => 10,
+            Self::Modulus => 11,
+            Self::Line => 12,
+            Self::CoefficientBuffer => 21,
+            Self::BoundaryBuffer => 22,
+            Self::StepBuffer => 23,
+            Self::Unwalkable => 24,
             Self::UnknownKind => 43,
         }
     }
@@ -115,7 +115,7 @@ impl Refusal {
     ///
     /// ```
     /// use firrozun::Refusal;
-    /// assert_eq!(Refusal::from_number(12), Some(Refusal::LineForm));
+    /// assert_eq!(Refusal::from_number(12), Some(Refusal::Line));
     /// assert_eq!(Refusal::from_number(0), None);
     /// ```
     pub fn from_number(number: u8) -> Option<Self> {
@@ -134,40 +134,40 @@ impl Refusal {
 
     fn sentence(self) -> &'static str {
         match self {
-            Self::DegreeZero => {
+            Self::NoDegree => {
                 "the degree is 0 (no coefficient or one); a constant needs no plan, but with a 0 behind it, it gets one"
             }
-            Self::DegreeAboveLimit => {
+            Self::Degree => {
                 "the degree is above the limit of the call; remove zeros at the end, or approximate by a lower degree"
             }
-            Self::MagnitudesAboveLimit => {
+            Self::Magnitude => {
                 "the magnitudes of the whole coefficients sum above 2^30; divide all by one number and round"
             }
-            Self::AgainstParity => {
+            Self::Parity => {
                 "where the parity wants 0, a coefficient is not 0; name the right parity, or Full and no folding"
             }
-            Self::FoldOfFull => "folding is asked for with parity Full; fold only what is Even or Odd",
-            Self::FoldOfLowDegree => {
+            Self::FoldFull => "folding is asked for with parity Full; fold only what is Even or Odd",
+            Self::FoldLow => {
                 "folding is asked for, and the degree is below 2 for Even or below 3 for Odd; plan it unfolded"
             }
-            Self::IntervalWithoutRoom => {
+            Self::Interval => {
                 "a < b does not hold for the interval from a to b; give one where it does, without a NaN"
             }
-            Self::NodesAndValues => {
+            Self::Nodes => {
                 "nodes and values differ in number, or there are none, or more than 4,096; give as many values as nodes"
             }
-            Self::IndexOutOfRange => "the index to split is below 2 or above 4,294,967,295; give one in between",
-            Self::ScaleAboveLimit => "a bit scale is above 65,535; give scales up to that",
-            Self::ModulusOutOfRange => "the modulus is below 2 or above 2,147,483,647; give one in between",
-            Self::LineForm => "the line does not have the form of a line of planlines; its README has the form",
-            Self::CoefficientBufferShort => {
+            Self::Index => "the index to split is below 2 or above 4,294,967,295; give one in between",
+            Self::Scale => "a bit scale is above 65,535; give scales up to that",
+            Self::Modulus => "the modulus is below 2 or above 2,147,483,647; give one in between",
+            Self::Line => "the line does not have the form of a line of planlines; its README has the form",
+            Self::CoefficientBuffer => {
                 "the coefficient buffer is too short; 4,096 places are enough for every call"
             }
-            Self::BoundaryBufferShort => "the boundary buffer is too short; 4,096 places are enough for every call",
-            Self::StepBufferShort => {
+            Self::BoundaryBuffer => "the boundary buffer is too short; 4,096 places are enough for every call",
+            Self::StepBuffer => {
                 "the step buffer has fewer than four places for each step; 49,152 places are enough for every plan"
             }
-            Self::PlanUnwalkable => {
+            Self::Unwalkable => {
                 "the plan cannot be walked; hand in its head and its buffers as the plan call left them"
             }
             Self::UnknownKind => "the number of a basis, parity, strategy, transform or fold is unknown",

@@ -23,7 +23,7 @@ fn lengths(plan: &Plan) -> Vec<usize> {
 fn splits() {
     assert_eq!(split_degree(3), Ok((1, 2)));
     assert_eq!(split_degree(5), Ok((3, 2)));
-    assert_eq!(split_degree(1), Err(Refusal::IndexOutOfRange));
+    assert_eq!(split_degree(1), Err(Refusal::Index));
     // Degrees of 1, 2, 3, 4 and 5 binary digits.
     assert_eq!(
         [1, 2, 4, 8, 16].map(min_depth_split),
@@ -159,5 +159,5 @@ fn magnitudes_at_the_limit() {
     let most = 1 << 30;
     assert!(Plan::new(Monomial, &[most, 0], Full, MinDepth, false).is_ok());
     let above = Plan::new(Monomial, &[most, 1], Full, MinDepth, false);
-    assert_eq!(above, Err(Refusal::MagnitudesAboveLimit));
+    assert_eq!(above, Err(Refusal::Magnitude));
 }

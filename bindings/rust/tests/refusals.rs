@@ -266,7 +266,7 @@ fn refusal_11_modulus() {
 #[test]
 fn refusal_12_is_of_planlines_lines() {
     let refusal = Refusal::from_number(12).expect("a refusal");
-    assert_eq!(refusal, Refusal::LineForm);
+    assert_eq!(refusal, Refusal::Line);
     assert!(refusal
         .to_string()
         .starts_with("refusal 12: the line does not have the form"));

@@ -4,7 +4,7 @@ mod common;
 
 use common::{allows, value, Numbers, BASES, PARITIES, STRATEGIES};
 use firrozun::buffers::{plan_into, trial_walk, PlanBuffers};
-use firrozun::buffers::{BOUNDARY_PLACES, COEFFICIENT_PLACES, STEP_PLACES};
+use firrozun::buffers::{BOUNDARY_ROOM, COEFFICIENT_ROOM, STEP_ROOM};
 use firrozun::{Basis, Parity, Plan, Polynomial, Refusal, SplitStrategy, Step};
 
 const POINTS: [i64; 7] = [0, 1, -1, 2, -3, i64::MAX, i64::MIN];
@@ -91,7 +91,7 @@ fn plan_and_walk(
         Parity::Odd => 3,
     };
     if count <= least {
-        assert_eq!(p.plan_folded(strategy), Err(Refusal::FoldOfLowDegree));
+        assert_eq!(p.plan_folded(strategy), Err(Refusal::FoldLow));
         return 1;
     }
     let plan = p.plan_folded(strategy).expect("an accepted polynomial");
@@ -147,9 +147,9 @@ fn degrees_about_powers_of_two_up_to_the_limit() {
 #[test]
 fn lent_buffers_hold_the_same_plans() {
     let numbers = &mut Numbers(4);
-    let mut coefficient_buffer = vec![-7; COEFFICIENT_PLACES];
-    let mut boundary_buffer = vec![7; BOUNDARY_PLACES];
-    let mut step_buffer = vec![7; STEP_PLACES];
+    let mut coefficient_buffer = vec![-7; COEFFICIENT_ROOM];
+    let mut boundary_buffer = vec![7; BOUNDARY_ROOM];
+    let mut step_buffer = vec![7; STEP_ROOM];
     for _ in 0..1000 {
         let (basis, parity) = (numbers.one_of(&BASES), numbers.one_of(&PARITIES));
         let (strategy, fold) = (numbers.one_of(&STRATEGIES), numbers.one_of(&[false, true]));
@@ -191,10 +191,7 @@ fn lent_buffers_hold_the_same_plans() {
             Ok(value(basis, &coeffs, point, 2_147_483_647))
         );
     }
-    assert_eq!(
-        coefficient_buffer[200..],
-        vec![-7; COEFFICIENT_PLACES - 200]
-    );
+    assert_eq!(coefficient_buffer[200..], vec![-7; COEFFICIENT_ROOM - 200]);
 }
 
 #[test]
@@ -241,7 +238,7 @@ fn any_head_and_buffers_are_answered() {
                 walked += 1;
             }
             Err(refusal) => {
-                assert_eq!(refusal, Refusal::PlanUnwalkable);
+                assert_eq!(refusal, Refusal::Unwalkable);
                 refused += 1;
             }
         }

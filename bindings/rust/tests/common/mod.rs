@@ -45,8 +45,8 @@ impl Numbers {
 pub fn allows(parity: Parity, place: usize) -> bool {
     match parity {
         Parity::Full => true,
-        Parity::Even => place % 2 == 0,
-        Parity::Odd => place % 2 == 1,
+        Parity::Even => place & 1 == 0,
+        Parity::Odd => place & 1 == 1,
     }
 }
 
