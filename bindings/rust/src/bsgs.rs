@@ -232,6 +232,30 @@ impl<C> BSGSPolynomial<C> {
         self.interval
     }
 
+    /// The same polynomial with each encoded list mapped.
+    ///
+    /// ```
+    /// # use firrozun::{Basis, Parity, Polynomial, PolynomialInputTransform, Refusal, SplitStrategy};
+    /// # let p = Polynomial::new(Basis::Chebyshev, vec![0, 1, 0, 2, 0, 3]).with_interval(0, 2);
+    /// # let bsgs = p.decompose_bsgs_folded_with(SplitStrategy::MinMult, |list| Ok::<_, Refusal>(list.to_vec()))?;
+    /// let lengths = bsgs.map_baby_steps_ref(|list| list.len());
+    /// assert_eq!((lengths.baby_steps(), lengths.degree()), (&[2, 1][..], 2));
+    /// # Ok::<(), Refusal>(())
+    /// ```
+    pub fn map_baby_steps_ref<D>(&self, f: impl FnMut(&C) -> D) -> BSGSPolynomial<D> {
+        BSGSPolynomial {
+            basis: self.basis,
+            degree: self.degree,
+            base: self.base,
+            depth: self.depth,
+            baby_steps: self.baby_steps.iter().map(f).collect(),
+            parity: self.parity,
+            split_strategy: self.split_strategy,
+            input_transform: self.input_transform,
+            interval: self.interval,
+        }
+    }
+
     /// The pair (u, w) of [`change_of_basis`](crate::change_of_basis) for that interval.
     ///
     /// ```

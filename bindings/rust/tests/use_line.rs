@@ -1,5 +1,8 @@
 //! Code written for poulpy's planner, of which only the `use` line is changed; and the types of the calls, which are poulpy's.
 
+mod common;
+
+use common::{BASES, PARITIES, STRATEGIES};
 use firrozun::poulpy::{
     bsgs_consumed_bits, bsgs_eval_depth, bsgs_op_counts, change_of_basis, evaluate_coeffs,
     split_degree, BSGSPolynomial, Basis, Parity, Polynomial, PolynomialInputTransform,
@@ -124,6 +127,30 @@ fn the_types_are_poulpys() {
     let _: fn(Basis, f64, f64) -> (f64, f64) = change_of_basis;
     let _: fn(Basis, Vec<f64>) -> Polynomial<f64> = Polynomial::new;
     let _: fn(Basis, Vec<f64>, Parity) -> Polynomial<f64> = Polynomial::new_with_parity;
+}
+
+#[test]
+fn bare_answers_are_those_of_the_root() {
+    for degree in 0..300 {
+        for strategy in STRATEGIES {
+            let depth = bsgs_eval_depth(degree, strategy);
+            assert_eq!(firrozun::bsgs_eval_depth(degree, strategy), Ok(depth));
+            for parity in PARITIES {
+                for basis in BASES {
+                    let counts = bsgs_op_counts(degree, strategy, parity, basis);
+                    let same = firrozun::bsgs_op_counts(degree, strategy, parity, basis);
+                    assert_eq!(same, Ok(counts));
+                    let bits = bsgs_consumed_bits(degree, strategy, parity, basis, 40, degree);
+                    let same =
+                        firrozun::bsgs_consumed_bits(degree, strategy, parity, basis, 40, degree);
+                    assert_eq!(same, Ok(bits));
+                }
+            }
+        }
+    }
+    for n in 2..300 {
+        assert_eq!(firrozun::split_degree(n), Ok(split_degree(n)));
+    }
 }
 
 /// Bare answers have no room for a refusal.

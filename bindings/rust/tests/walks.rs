@@ -144,6 +144,34 @@ fn degrees_about_powers_of_two_up_to_the_limit() {
     }
 }
 
+/// The memory that a `Plan` reserves is enough at every degree, and what the README says is enough, too.
+#[test]
+fn every_degree_gets_a_plan() {
+    let zeros = vec![0; COEFFICIENT_ROOM];
+    let mut coefficients = vec![0; COEFFICIENT_ROOM];
+    let mut boundaries = vec![0; BOUNDARY_ROOM];
+    let mut steps = vec![0; STEP_ROOM];
+    for count in 2..=COEFFICIENT_ROOM {
+        let basis = BASES[count & 1];
+        for parity in PARITIES {
+            for strategy in STRATEGIES {
+                let coeffs = &zeros[..count];
+                let plan = Plan::new(basis, coeffs, parity, strategy, false);
+                let buffers = PlanBuffers {
+                    coefficients: &mut coefficients,
+                    boundaries: &mut boundaries,
+                    steps: &mut steps,
+                };
+                let lent = plan_into(strategy, parity, basis, false, coeffs, buffers);
+                assert_eq!(plan.map(|plan| *plan.head()), lent);
+                assert!(lent.is_ok());
+                let fold = parity != Parity::Full && count > 3;
+                assert!(!fold || Plan::new(basis, coeffs, parity, strategy, true).is_ok());
+            }
+        }
+    }
+}
+
 #[test]
 fn lent_buffers_hold_the_same_plans() {
     let numbers = &mut Numbers(4);
