@@ -176,6 +176,7 @@ impl<C> BSGSPolynomial<C> {
     /// assert_eq!(bsgs.baby_step(1), &[6]);
     /// # Ok::<(), Refusal>(())
     /// ```
+    #[allow(clippy::indexing_slicing)]
     pub fn baby_step(&self, i: usize) -> &C {
         &self.baby_steps[i]
     }

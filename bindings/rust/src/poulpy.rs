@@ -93,6 +93,7 @@ pub fn bsgs_consumed_bits(
     ))
 }
 
+#[allow(clippy::panic)]
 fn bare<T>(answer: Result<T, Refusal>) -> T {
     match answer {
         Ok(answer) => answer,
