@@ -1,0 +1,190 @@
+//! Refusal 43. The safe types have no kind that the library does not know, so its number is tested here, below them.
+
+use super::*;
+
+const NO_HEAD: CHead = CHead {
+    basis: 0,
+    parity: 0,
+    strategy: 0,
+    transform: 0,
+    degree: 0,
+    base: 0,
+    ct: 0,
+    pt: 0,
+    depth: 0,
+    coefficients: 0,
+    lists: 0,
+    steps: 0,
+};
+
+/// Every byte that is no kind, of a kind with so many values.
+fn unknown(kinds: u8) -> impl Iterator<Item = u8> {
+    kinds..=u8::MAX
+}
+
+#[test]
+fn unknown_kinds_in_the_calls_on_numbers() {
+    let no_split = CSplit {
+        refusal: 43,
+        split: 0,
+    };
+    let no_counts = CCounts {
+        refusal: 43,
+        ct: 0,
+        pt: 0,
+    };
+    for n in unknown(2) {
+        assert_eq!(min_mult_split(0, n, 7), no_split);
+        assert_eq!(bsgs_op_counts(n, 0, 0, 7), no_counts);
+        assert_eq!(bsgs_op_counts(0, 0, n, 7), no_counts);
+        assert_eq!(
+            bsgs_eval_depth(n, 7),
+            CDepth {
+                refusal: 43,
+                depth: 0
+            }
+        );
+        assert_eq!(
+            bsgs_consumed_bits(n, 7, 1, 1),
+            CBits {
+                refusal: 43,
+                bits: 0
+            }
+        );
+    }
+    for n in unknown(3) {
+        assert_eq!(min_mult_split(n, 0, 7), no_split);
+        assert_eq!(bsgs_op_counts(0, n, 0, 7), no_counts);
+    }
+}
+
+#[test]
+fn unknown_kinds_in_the_calls_on_coefficients() {
+    let no_fold = CFolded {
+        refusal: 43,
+        transform: 0,
+        parity: 0,
+        count: 0,
+    };
+    let no_lists = CListed {
+        refusal: 43,
+        degree: 0,
+        base: 0,
+        coefficients: 0,
+        lists: 0,
+    };
+    let mut out = [9; 4];
+    let mut floats = [9.0; 4];
+    let mut bounds = [9; 4];
+    for n in unknown(2) {
+        assert_eq!(fold_parity(1, n, &[1, 0, 2], &mut out), no_fold);
+        assert_eq!(
+            fold_parity_f64(1, n, &[1.0, 0.0, 2.0], &mut floats),
+            no_fold
+        );
+        let value = evaluate_coeffs(n, &[1.0, 2.0], 3.0);
+        assert_eq!((value.refusal, value.value.to_bits()), (43, 0));
+        let interval = change_of_basis(n, -1.0, 2.0);
+        assert_eq!(interval.refusal, 43);
+        for field in [interval.a, interval.b, interval.u, interval.w] {
+            assert_eq!(field.to_bits(), 0);
+        }
+        assert_eq!(
+            decompose_bsgs(n, 0, 0, &[1, 2, 3], &mut out, &mut bounds),
+            no_lists
+        );
+        assert_eq!(
+            decompose_bsgs(0, 0, n, &[1, 2, 3], &mut out, &mut bounds),
+            no_lists
+        );
+        assert_eq!(
+            decompose_bsgs_f64(n, 0, 0, &[1.0, 2.0], &mut floats, &mut bounds),
+            no_lists
+        );
+        assert_eq!(
+            decompose_bsgs_f64(0, 0, n, &[1.0, 2.0], &mut floats, &mut bounds),
+            no_lists
+        );
+    }
+    for n in unknown(3) {
+        assert_eq!(fold_parity(n, 0, &[1, 0, 2], &mut out), no_fold);
+        assert_eq!(
+            fold_parity_f64(n, 0, &[1.0, 0.0, 2.0], &mut floats),
+            no_fold
+        );
+        assert_eq!(
+            decompose_bsgs(0, n, 0, &[1, 2, 3], &mut out, &mut bounds),
+            no_lists
+        );
+        assert_eq!(
+            decompose_bsgs_f64(0, n, 0, &[1.0, 2.0], &mut floats, &mut bounds),
+            no_lists
+        );
+    }
+    assert_eq!((out, floats, bounds), ([9; 4], [9.0; 4], [9; 4]));
+}
+
+#[test]
+fn unknown_kinds_in_plan_and_walk() {
+    let none = CPlanned {
+        refusal: 43,
+        head: NO_HEAD,
+    };
+    let settings = |strategy, parity, basis, fold| Settings {
+        strategy,
+        parity,
+        basis,
+        fold,
+    };
+    let (mut out, mut bounds, mut steps) = ([9; 8], [9; 8], [9; 64]);
+    let mut planned = |s| plan(s, &[1, 2, 3], &mut out, &mut bounds, &mut steps);
+    for n in unknown(2) {
+        assert_eq!(planned(settings(n, 0, 0, 0)), none);
+        assert_eq!(planned(settings(0, 0, n, 0)), none);
+        assert_eq!(planned(settings(0, 0, 0, n)), none);
+    }
+    for n in unknown(3) {
+        assert_eq!(planned(settings(0, n, 0, 0)), none);
+    }
+    assert_eq!((out, bounds, steps), ([9; 8], [9; 8], [9; 64]));
+
+    let refused = CTrial {
+        refusal: 43,
+        remainder: 0,
+    };
+    let walked = |head| trial_walk(head, &[1], &[1], &[2, 0, 0, 0], 2, 100);
+    for n in unknown(2) {
+        assert_eq!(
+            walked(CHead {
+                basis: n,
+                ..NO_HEAD
+            }),
+            refused
+        );
+        assert_eq!(
+            walked(CHead {
+                strategy: n,
+                ..NO_HEAD
+            }),
+            refused
+        );
+    }
+    for n in unknown(3) {
+        assert_eq!(
+            walked(CHead {
+                parity: n,
+                ..NO_HEAD
+            }),
+            refused
+        );
+    }
+    for n in unknown(5) {
+        assert_eq!(
+            walked(CHead {
+                transform: n,
+                ..NO_HEAD
+            }),
+            refused
+        );
+    }
+}

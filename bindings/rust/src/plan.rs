@@ -1,0 +1,268 @@
+//! A plan with memory of its own, and its steps.
+
+use crate::buffers::{plan_into, trial_walk, Head, PlanBuffers, COEFFICIENT_ROOM};
+use crate::kinds::{Basis, Parity, SplitStrategy};
+use crate::refusal::Refusal;
+
+/// A plan: lists of coefficients, and the steps that make the polynomial's value from them and from x.
+///
+/// ```
+/// use firrozun::{Basis, Parity, Plan, SplitStrategy, Step};
+/// let plan = Plan::new(Basis::Monomial, &[1, 2, 3, 4, 5], Parity::Full, SplitStrategy::MinDepth, false)?;
+/// assert_eq!(plan.lists().collect::<Vec<_>>(), [&[1, 2, 3, 4][..], &[5]]);
+/// assert_eq!(
+///     plan.steps().collect::<Vec<_>>(),
+///     [
+///         Step::Power { n: 2, a: 1, b: 1 },
+///         Step::Power { n: 3, a: 1, b: 2 },
+///         Step::Power { n: 4, a: 2, b: 2 },
+///         Step::Load { list: 0 },
+///         Step::Load { list: 1 },
+///         Step::CombinePlain { power: 4 },
+///     ]
+/// );
+/// assert_eq!(plan.walk(2, 100), Ok(29)); // 129 modulo 100
+/// # Ok::<(), firrozun::Refusal>(())
+/// ```
+#[derive(Clone, Debug, PartialEq, Eq)]
+pub struct Plan {
+    head: Head,
+    coefficients: Vec<i64>,
+    boundaries: Vec<u16>,
+    steps: Vec<u16>,
+}
+
+impl Plan {
+    /// Plans the polynomial with these whole coefficients, folded or not.
+    ///
+    /// Refused: 2, 1, with folding 5, 6, then 4, 3, in this order.
+    ///
+    /// ```
+    /// use firrozun::{Basis, Parity, Plan, Refusal, SplitStrategy};
+    /// let folded = |coeffs: &[i64]| Plan::new(Basis::Chebyshev, coeffs, Parity::Odd, SplitStrategy::MinMult, true);
+    /// assert_eq!(folded(&[0, 1, 0, 2])?.coefficients(), [-1, 4]);
+    /// assert_eq!(folded(&[0, 1]), Err(Refusal::FoldLow));
+    /// # Ok::<(), Refusal>(())
+    /// ```
+    pub fn new(
+        basis: Basis,
+        coeffs: &[i64],
+        parity: Parity,
+        strategy: SplitStrategy,
+        fold: bool,
+    ) -> Result<Self, Refusal> {
+        // n coefficients make at most n lists and n − 1 powers, so fewer than 3n steps of four numbers. More than 4,096 coefficients
+        // are refused before a buffer is looked at.
+        let places = coeffs.len().min(COEFFICIENT_ROOM);
+        let mut coefficients = vec![0; places];
+        let mut boundaries = vec![0; places];
+        let mut steps = vec![0; 12 * places];
+        let buffers = PlanBuffers {
+            coefficients: &mut coefficients,
+            boundaries: &mut boundaries,
+            steps: &mut steps,
+        };
+        let head = plan_into(strategy, parity, basis, fold, coeffs, buffers)?;
+        coefficients.truncate(head.coefficients);
+        boundaries.truncate(head.lists);
+        steps.truncate(head.steps.saturating_mul(4));
+        boundaries.shrink_to_fit();
+        steps.shrink_to_fit();
+        Ok(Self {
+            head,
+            coefficients,
+            boundaries,
+            steps,
+        })
+    }
+
+    /// The plan's settings, cost and sizes.
+    ///
+    /// ```
+    /// # use firrozun::{Basis, Parity, Plan, SplitStrategy};
+    /// # let plan = Plan::new(Basis::Monomial, &[1, 2, 3, 4, 5], Parity::Full, SplitStrategy::MinDepth, false)?;
+    /// assert_eq!((plan.head().degree, plan.head().base, plan.head().depth), (4, 4, 3));
+    /// # Ok::<(), firrozun::Refusal>(())
+    /// ```
+    pub fn head(&self) -> &Head {
+        &self.head
+    }
+
+    /// The coefficients of all lists, one list after another.
+    ///
+    /// ```
+    /// # use firrozun::{Basis, Parity, Plan, SplitStrategy};
+    /// # let plan = Plan::new(Basis::Monomial, &[1, 2, 3, 4, 5], Parity::Full, SplitStrategy::MinDepth, false)?;
+    /// assert_eq!(plan.coefficients(), [1, 2, 3, 4, 5]);
+    /// # Ok::<(), firrozun::Refusal>(())
+    /// ```
+    pub fn coefficients(&self) -> &[i64] {
+        &self.coefficients
+    }
+
+    /// For each list the first place after it.
+    ///
+    /// ```
+    /// # use firrozun::{Basis, Parity, Plan, SplitStrategy};
+    /// # let plan = Plan::new(Basis::Monomial, &[1, 2, 3, 4, 5], Parity::Full, SplitStrategy::MinDepth, false)?;
+    /// assert_eq!(plan.boundaries(), [4, 5]);
+    /// # Ok::<(), firrozun::Refusal>(())
+    /// ```
+    pub fn boundaries(&self) -> &[u16] {
+        &self.boundaries
+    }
+
+    /// The steps as numbers, four for each.
+    ///
+    /// ```
+    /// # use firrozun::{Basis, Parity, Plan, SplitStrategy};
+    /// # let plan = Plan::new(Basis::Monomial, &[1, 2, 3, 4, 5], Parity::Full, SplitStrategy::MinDepth, false)?;
+    /// assert_eq!(plan.step_numbers()[..4], [1, 2, 1, 1]);
+    /// # Ok::<(), firrozun::Refusal>(())
+    /// ```
+    pub fn step_numbers(&self) -> &[u16] {
+        &self.steps
+    }
+
+    /// List `i`, counted from 0, if there is one.
+    ///
+    /// ```
+    /// # use firrozun::{Basis, Parity, Plan, SplitStrategy};
+    /// # let plan = Plan::new(Basis::Monomial, &[1, 2, 3, 4, 5], Parity::Full, SplitStrategy::MinDepth, false)?;
+    /// assert_eq!(plan.list(1), Some(&[5][..]));
+    /// assert_eq!(plan.list(2), None);
+    /// # Ok::<(), firrozun::Refusal>(())
+    /// ```
+    pub fn list(&self, i: usize) -> Option<&[i64]> {
+        part(&self.coefficients, &self.boundaries, i)
+    }
+
+    /// The lists, in the order of their numbers.
+    ///
+    /// ```
+    /// # use firrozun::{Basis, Parity, Plan, SplitStrategy};
+    /// # let plan = Plan::new(Basis::Monomial, &[1, 2, 3, 4, 5], Parity::Full, SplitStrategy::MinDepth, false)?;
+    /// assert_eq!(plan.lists().map(|list| list.len()).collect::<Vec<_>>(), [4, 1]);
+    /// # Ok::<(), firrozun::Refusal>(())
+    /// ```
+    pub fn lists(&self) -> impl Iterator<Item = &[i64]> + '_ {
+        (0..self.boundaries.len()).filter_map(|i| self.list(i))
+    }
+
+    /// The steps, in the order in which they are done.
+    ///
+    /// ```
+    /// # use firrozun::{Basis, Parity, Plan, SplitStrategy, Step};
+    /// # let plan = Plan::new(Basis::Monomial, &[1, 2, 3, 4, 5], Parity::Full, SplitStrategy::MinDepth, false)?;
+    /// let loads = plan.steps().filter(|step| matches!(step, Step::Load { .. }));
+    /// assert_eq!(loads.count(), 2);
+    /// # Ok::<(), firrozun::Refusal>(())
+    /// ```
+    pub fn steps(&self) -> impl Iterator<Item = Step> + '_ {
+        self.steps.chunks_exact(4).filter_map(|numbers| {
+            let numbers = numbers.try_into().ok()?;
+            Step::from_numbers(numbers)
+        })
+    }
+
+    /// Walks the plan at a point, modulo a number: the remainder, from 0 up, of the polynomial's value there.
+    ///
+    /// Refused: 11 for a modulus below 2 or above 2,147,483,647.
+    ///
+    /// ```
+    /// use firrozun::{Basis, Parity, Plan, Refusal, SplitStrategy};
+    /// let plan = Plan::new(Basis::Monomial, &[1, 2], Parity::Full, SplitStrategy::MinDepth, false)?;
+    /// assert_eq!(plan.walk(-3, 7), Ok(2)); // −5
+    /// assert_eq!(plan.walk(-3, 1), Err(Refusal::Modulus));
+    /// # Ok::<(), Refusal>(())
+    /// ```
+    pub fn walk(&self, point: i64, modulus: u64) -> Result<u64, Refusal> {
+        trial_walk(
+            &self.head,
+            &self.coefficients,
+            &self.boundaries,
+            &self.steps,
+            point,
+            modulus,
+        )
+    }
+}
+
+/// The part of list `i` among coefficients that boundaries part.
+pub(crate) fn part<'a, F>(coefficients: &'a [F], boundaries: &[u16], i: usize) -> Option<&'a [F]> {
+    let end = usize::from(*boundaries.get(i)?);
+    let start = match i.checked_sub(1) {
+        None => 0,
+        Some(before) => usize::from(*boundaries.get(before)?),
+    };
+    coefficients.get(start..end)
+}
+
+/// One step of a plan. Values wait on a stack; power 0 is 1 and power 1 is the input.
+///
+/// ```
+/// use firrozun::Step;
+/// assert_eq!(Step::from_numbers([1, 3, 1, 2]), Some(Step::Power { n: 3, a: 1, b: 2 }));
+/// assert_eq!(Step::Combine { power: 4 }.numbers(), [3, 4, 0, 0]);
+/// ```
+#[derive(Clone, Copy, Debug, PartialEq, Eq, Hash)]
+pub enum Step {
+    /// Makes power n: X_a · X_b, and in the Chebyshev basis 2 · T_a · T_b − T_c with c = |a − b|.
+    Power {
+        /// The power that is made.
+        n: u16,
+        /// The first power that makes it.
+        a: u16,
+        /// The second.
+        b: u16,
+    },
+    /// Pushes the value of a list: its coefficients, the first times power 0, the second times power 1, and so on.
+    Load {
+        /// The list's number, from 0.
+        list: u16,
+    },
+    /// Takes high, then low, and pushes high · (power) + low.
+    Combine {
+        /// The power that high is multiplied by.
+        power: u16,
+    },
+    /// The same, where high is plain, so that the multiplication is of an encrypted number and a plain one.
+    CombinePlain {
+        /// The power that high is multiplied by.
+        power: u16,
+    },
+}
+
+impl Step {
+    /// The step of four numbers as they stand in a step buffer, if they are one.
+    ///
+    /// ```
+    /// use firrozun::Step;
+    /// assert_eq!(Step::from_numbers([2, 7, 0, 0]), Some(Step::Load { list: 7 }));
+    /// assert_eq!(Step::from_numbers([2, 7, 0, 1]), None);
+    /// assert_eq!(Step::from_numbers([5, 7, 0, 0]), None);
+    /// ```
+    pub fn from_numbers(numbers: [u16; 4]) -> Option<Self> {
+        match numbers {
+            [1, n, a, b] => Some(Self::Power { n, a, b }),
+            [2, list, 0, 0] => Some(Self::Load { list }),
+            [3, power, 0, 0] => Some(Self::Combine { power }),
+            [4, power, 0, 0] => Some(Self::CombinePlain { power }),
+            _ => None,
+        }
+    }
+
+    /// The step's four numbers.
+    ///
+    /// ```
+    /// assert_eq!(firrozun::Step::CombinePlain { power: 4 }.numbers(), [4, 4, 0, 0]);
+    /// ```
+    pub fn numbers(self) -> [u16; 4] {
+        match self {
+            Self::Power { n, a, b } => [1, n, a, b],
+            Self::Load { list } => [2, list, 0, 0],
+            Self::Combine { power } => [3, power, 0, 0],
+            Self::CombinePlain { power } => [4, power, 0, 0],
+        }
+    }
+}

@@ -1,0 +1,352 @@
+//! The repository's recorded answers of the published Rust (`oracle/README.md` has their form), through this crate: equal to the last
+//! bit, any NaN for any other. `refused` in a recording is a refusal of any number here; the lines written by hand name the number.
+
+mod common;
+
+use common::{BASES, PARITIES, STRATEGIES, TRANSFORMS};
+use firrozun::buffers::{chebyshev_interpolate_into, plan_into, trial_walk, PlanBuffers};
+use firrozun::{
+    bsgs_consumed_bits, bsgs_eval_depth, bsgs_op_counts, change_of_basis, detect_parity,
+    evaluate_coeffs, min_depth_split, min_mult_split, split_degree, Basis, Coefficient, Head,
+    Parity, Plan, Polynomial, PolynomialInputTransform, Refusal, SplitStrategy,
+};
+use std::path::Path;
+use std::str::{FromStr, Split};
+
+/// A number as a recording writes it.
+trait Recorded: Coefficient {
+    fn read(field: &str) -> Self;
+    fn write(self) -> String;
+}
+
+impl Recorded for i64 {
+    fn read(field: &str) -> Self {
+        field.parse().expect("a whole number")
+    }
+
+    fn write(self) -> String {
+        self.to_string()
+    }
+}
+
+impl Recorded for f64 {
+    fn read(field: &str) -> Self {
+        match field {
+            "nan" => f64::NAN,
+            _ => f64::from_bits(u64::from_str_radix(field, 16).expect("the bits of an f64")),
+        }
+    }
+
+    fn write(self) -> String {
+        if self.is_nan() {
+            "nan".to_string()
+        } else {
+            format!("{:016x}", self.to_bits())
+        }
+    }
+}
+
+/// The arguments of a recorded call.
+struct Arguments<'a>(Split<'a, char>);
+
+impl Arguments<'_> {
+    fn field(&mut self) -> &str {
+        self.0.next().expect("one more field")
+    }
+
+    fn number<T: FromStr>(&mut self) -> T {
+        self.field().parse().ok().expect("a number")
+    }
+
+    fn one<F: Recorded>(&mut self) -> F {
+        F::read(self.field())
+    }
+
+    fn take<F: Recorded>(&mut self, count: usize) -> Vec<F> {
+        (0..count).map(|_| self.one()).collect()
+    }
+
+    /// A count, and so many numbers.
+    fn list<F: Recorded>(&mut self) -> Vec<F> {
+        let count = self.number();
+        self.take(count)
+    }
+
+    fn short_list(&mut self) -> Vec<u16> {
+        let count = self.number();
+        (0..count).map(|_| self.number()).collect()
+    }
+
+    fn letter<T: Copy>(&mut self, letters: &str, kinds: &[T]) -> T {
+        let field = self.field();
+        kinds[letters.find(field).expect("a kind's letter")]
+    }
+
+    fn basis(&mut self) -> Basis {
+        self.letter("MC", &BASES)
+    }
+
+    fn parity(&mut self) -> Parity {
+        self.letter("FEO", &PARITIES)
+    }
+
+    fn strategy(&mut self) -> SplitStrategy {
+        self.letter("DM", &STRATEGIES)
+    }
+
+    fn fold(&mut self) -> bool {
+        self.letter("NY", &[false, true])
+    }
+
+    fn polynomial<F: Recorded>(&mut self) -> Polynomial<F> {
+        let (basis, parity) = (self.basis(), self.parity());
+        Polynomial::new_with_parity(basis, self.list(), parity)
+    }
+
+    /// Basis, parity, strategy and coefficients.
+    fn settings<F: Recorded>(&mut self) -> (Polynomial<F>, SplitStrategy) {
+        let (basis, parity, strategy) = (self.basis(), self.parity(), self.strategy());
+        (
+            Polynomial::new_with_parity(basis, self.list(), parity),
+            strategy,
+        )
+    }
+}
+
+/// Fields of an answer.
+type Answer = Result<Vec<String>, Refusal>;
+
+fn parity_letter(parity: Parity) -> String {
+    ["F", "E", "O"][usize::from(parity.number())].to_string()
+}
+
+fn put<F: Recorded>(fields: &mut Vec<String>, list: &[F]) {
+    fields.push(list.len().to_string());
+    fields.extend(list.iter().map(|&c| c.write()));
+}
+
+fn parity<F: Recorded>(arguments: &mut Arguments) -> Answer {
+    let coeffs: Vec<F> = arguments.list();
+    let detected = detect_parity(&coeffs);
+    assert_eq!(Polynomial::new(Basis::Monomial, coeffs).parity, detected);
+    Ok(vec![parity_letter(detected)])
+}
+
+fn fold<F: Recorded>(arguments: &mut Arguments) -> Answer {
+    let (folded, transform) = arguments.polynomial::<F>().fold_parity()?;
+    let mut fields = vec![transform.number().to_string()];
+    put(&mut fields, &folded.coeffs);
+    Ok(fields)
+}
+
+fn decompose<F: Recorded>(arguments: &mut Arguments) -> Answer {
+    let (p, strategy) = arguments.settings::<F>();
+    let bsgs = p.decompose_bsgs_with(strategy, |list| Ok::<_, Refusal>(list.to_vec()))?;
+    assert_eq!(bsgs.input_transform(), PolynomialInputTransform::Identity);
+    assert_eq!(1 << bsgs.log_split(), bsgs.base());
+    let mut fields = [bsgs.degree(), bsgs.base(), bsgs.baby_steps().len()]
+        .map(|n| n.to_string())
+        .to_vec();
+    bsgs.baby_steps()
+        .iter()
+        .for_each(|list| put(&mut fields, list));
+    Ok(fields)
+}
+
+fn decompose_folded(arguments: &mut Arguments) -> Answer {
+    let (p, strategy) = arguments.settings::<f64>();
+    let bsgs = p.decompose_bsgs_folded_with(strategy, |list| Ok::<_, Refusal>(list.to_vec()))?;
+    let transform = usize::from(bsgs.input_transform().number());
+    let numbers = [
+        bsgs.degree(),
+        bsgs.base(),
+        transform,
+        bsgs.baby_steps().len(),
+    ];
+    let mut fields = numbers.map(|n| n.to_string()).to_vec();
+    bsgs.baby_steps()
+        .iter()
+        .for_each(|list| put(&mut fields, list));
+    Ok(fields)
+}
+
+/// By the plan, which takes folds above 2^30 too.
+fn decompose_folded_whole(arguments: &mut Arguments) -> Answer {
+    let (p, strategy) = arguments.settings::<i64>();
+    let plan = p.plan_folded(strategy)?;
+    let head = plan.head();
+    let numbers = [
+        head.degree,
+        head.base,
+        usize::from(head.transform.number()),
+        head.lists,
+    ];
+    let mut fields = numbers.map(|n| n.to_string()).to_vec();
+    plan.lists().for_each(|list| put(&mut fields, list));
+    Ok(fields)
+}
+
+fn interpolate(arguments: &mut Arguments) -> Answer {
+    let (a, b): (f64, f64) = (arguments.one(), arguments.one());
+    let count = arguments.number();
+    let (nodes, values) = (arguments.take(count), arguments.take(count));
+    let mut out = vec![0.0; count];
+    let answer = chebyshev_interpolate_into(&nodes, &values, a, b, &mut out)?;
+    let mut fields = vec![];
+    put(&mut fields, &out[..answer.count]);
+    fields.push(parity_letter(answer.parity));
+    Ok(fields)
+}
+
+fn plan_value(arguments: &mut Arguments) -> Answer {
+    let (basis, parity) = (arguments.basis(), arguments.parity());
+    let (strategy, fold) = (arguments.strategy(), arguments.fold());
+    let (point, modulus) = (arguments.number(), arguments.number());
+    let plan = Plan::new(basis, &arguments.list(), parity, strategy, fold)?;
+    Ok(vec![plan.walk(point, modulus)?.to_string()])
+}
+
+fn plan_refused(arguments: &mut Arguments) -> Answer {
+    let (basis, parity) = (arguments.basis(), arguments.parity());
+    let (strategy, fold) = (arguments.strategy(), arguments.fold());
+    let mut coefficients = vec![9; arguments.number()];
+    let mut boundaries = vec![9; arguments.number()];
+    let mut steps = vec![9; arguments.number()];
+    let buffers = PlanBuffers {
+        coefficients: &mut coefficients,
+        boundaries: &mut boundaries,
+        steps: &mut steps,
+    };
+    let answer = plan_into(
+        strategy,
+        parity,
+        basis,
+        fold,
+        &arguments.list::<i64>(),
+        buffers,
+    );
+    assert!(coefficients.iter().all(|&place| place == 9));
+    assert!(boundaries.iter().chain(&steps).all(|&place| place == 9));
+    Ok(vec![answer.expect_err("a refusal").number().to_string()])
+}
+
+fn walk(arguments: &mut Arguments) -> Answer {
+    let head = Head {
+        basis: arguments.basis(),
+        parity: arguments.parity(),
+        transform: TRANSFORMS[arguments.number::<usize>()],
+        coefficients: arguments.number(),
+        lists: arguments.number(),
+        steps: arguments.number(),
+        strategy: SplitStrategy::MinDepth,
+        degree: 0,
+        base: 0,
+        ct_ct: 0,
+        pt_ct: 0,
+        depth: 0,
+    };
+    let (point, modulus) = (arguments.number(), arguments.number());
+    let coefficients: Vec<i64> = arguments.list();
+    let (boundaries, steps) = (arguments.short_list(), arguments.short_list());
+    let (refusal, remainder) =
+        match trial_walk(&head, &coefficients, &boundaries, &steps, point, modulus) {
+            Ok(remainder) => (0, remainder),
+            Err(refusal) => (refusal.number(), 0),
+        };
+    Ok(vec![refusal.to_string(), remainder.to_string()])
+}
+
+fn pair(answer: Result<(usize, usize), Refusal>) -> Answer {
+    answer.map(|(a, b)| vec![a.to_string(), b.to_string()])
+}
+
+fn single(answer: Result<usize, Refusal>) -> Answer {
+    answer.map(|n| vec![n.to_string()])
+}
+
+fn answer(call: &str, arguments: &mut Arguments) -> Answer {
+    let a = arguments;
+    match call {
+        "split_degree" => pair(split_degree(a.number())),
+        "min_depth_split" => single(min_depth_split(a.number())),
+        "min_mult_split" => single(min_mult_split(a.number(), a.parity(), a.basis())),
+        "bsgs_op_counts" => pair(bsgs_op_counts(
+            a.number(),
+            a.strategy(),
+            a.parity(),
+            a.basis(),
+        )),
+        "bsgs_eval_depth" => single(bsgs_eval_depth(a.number(), a.strategy())),
+        "bsgs_consumed_bits" => {
+            let (degree, strategy, input, coeff) =
+                (a.number(), a.strategy(), a.number(), a.number());
+            single(bsgs_consumed_bits(
+                degree,
+                strategy,
+                Parity::Odd,
+                Basis::Chebyshev,
+                input,
+                coeff,
+            ))
+        }
+        "parity" => parity::<f64>(a),
+        "parity_whole" => parity::<i64>(a),
+        "fold_parity" => fold::<f64>(a),
+        "fold_parity_whole" => fold::<i64>(a),
+        "evaluate" => Ok(vec![
+            evaluate_coeffs(a.basis(), &a.list::<f64>(), a.one()).write()
+        ]),
+        "change_of_basis" => {
+            let (u, w) = change_of_basis(a.basis(), a.one(), a.one());
+            Ok(vec![u.write(), w.write()])
+        }
+        "interpolate" => interpolate(a),
+        "decompose" => decompose::<f64>(a),
+        "decompose_whole" => decompose::<i64>(a),
+        "decompose_folded" => decompose_folded(a),
+        "decompose_folded_whole" => decompose_folded_whole(a),
+        "plan_value" => plan_value(a),
+        "plan_refused" => plan_refused(a),
+        "trial_walk" => walk(a),
+        _ => panic!("no call {call}"),
+    }
+}
+
+/// Replays a recording; answers how many calls it has.
+fn replay(program: &str) -> usize {
+    let path = Path::new(env!("CARGO_MANIFEST_DIR"))
+        .join("../../crates")
+        .join(program)
+        .join("stdin");
+    let recording = std::fs::read_to_string(&path).expect("a recording");
+    for line in recording.lines() {
+        let (called, answered) = line.split_once("\t=\t").expect("an answer");
+        let (call, arguments) = called.split_once('\t').expect("arguments");
+        let mut arguments = Arguments(arguments.split('\t'));
+        let found =
+            answer(call, &mut arguments).map_or("refused".to_string(), |fields| fields.join("\t"));
+        assert_eq!(arguments.0.next(), None, "arguments left over: {line}");
+        assert_eq!(found, answered, "{line}");
+    }
+    recording.lines().count()
+}
+
+#[test]
+fn number() {
+    assert!(replay("replay_number") > 8000);
+}
+
+#[test]
+fn counts() {
+    assert!(replay("replay_counts") > 20_000);
+}
+
+#[test]
+fn lists() {
+    assert!(replay("replay_lists") > 2500);
+}
+
+#[test]
+fn plans() {
+    assert!(replay("replay_plans") > 2600);
+}
