@@ -12,7 +12,7 @@ use Rattle.number.specs.Limits.{planLimit}
 use Rattle.needed.specs.NeededList.{neededList, neededCount}
 use Rattle.needed.specs.inside.Marks.{Marked, markedFrom, countMarks, padded, neededMarks}
 use Rattle.needed.specs.inside.Planned.{Planned}
-use Rattle.needed.proofs.PlaceLaws.{count-none, count-step}
+use Rattle.needed.proofs.PlaceLaws.{count-none, count-take, count-step}
 use Rattle.needed.proofs.NeededList.{marked-count, needed-counted}
 use Rattle.needed.proofs.NeededMarks.{needed-length, greatest-within, marked-needed}
 use Rattle.needed.proofs.Promises.{needed-powers}
@@ -68,12 +68,6 @@ padded-at [] more n none marked =
 padded-at (mark ∷ marks) more zero none marked = marked
 padded-at (mark ∷ marks) more (suc n) none marked = padded-at marks more n none marked
 
-count-take : (n : ℕ) (marks : List Bool) → countMarks (take n marks) ≤ countMarks marks
-unfolding countMarks
-count-take zero marks = omega arith
-count-take (suc n) [] = omega arith
-count-take (suc n) (mark ∷ marks) = omega (arith, count-take n marks)
-
 -- ---- one mark more
 
 -- the steps of the first n marks stand in the buffer
@@ -93,7 +87,7 @@ one-step false n = refl
 pub upto-more : {marks : List Bool} {n step step′ : ℕ} {b₀ b b′ : List ℕ} → Upto marks n step b₀ b → n < length marks
     → PowerPut (getD marks n false) n step b step′ b′ → Upto marks (n + 1) step′ b₀ b′
 upto-more {marks} {n} {step} {step′} {b₀} {b} {b′} upto inside put = record {
-  count = put .next ∙ ap (_+ cond (getD marks n false) 1 0) (upto .count) ∙ sym (count-step marks n inside);
+  count = put .next ∙ ap (_+ cond (getD marks n false) 1 0) (upto .count) ∙ sym (count-step marks n);
   numbers =
       put .numbers
       ∙ ap (λ (l : List ℕ). sets l (4 * step) (markNumbers (getD marks n false) n)) (upto .numbers)
@@ -155,10 +149,10 @@ module _ (parity : Parity) (basis : Basis) (degree split size : ℕ) {marks : Li
       ∙ omega (arith, length-replicate (size - length known) false)
 
   -- the next mark has its places
-  pub next-fits : {n step : ℕ} {b₀ b : List ℕ} → Upto marks n step b₀ b → n < length marks → n ≤ planLimit
-      → 4 * neededCount parity basis degree split ≤ length b → PowerFits (getD marks n false) n step b
-  next-fits {n} upto inside within room =
-      let step = count-step marks n inside in
+  pub next-fits : {n step : ℕ} {b₀ b : List ℕ} → Upto marks n step b₀ b → n ≤ planLimit → 4 * neededCount parity basis degree split ≤ length b
+      → PowerFits (getD marks n false) n step b
+  next-fits {n} upto within room =
+      let step = count-step marks n in
       let most = count-take (n + 1) marks in
       let counted = marks-count in
       record { limit = within; from-two = marked-from-two n; places = omega (arith, upto .count) }

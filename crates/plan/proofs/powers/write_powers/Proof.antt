@@ -43,8 +43,7 @@ put-power-requires c κs =
     let marks = c .before .before .before in
     let start = marks .before .before in
     next-fits (start .args .parity) (start .args .basis) (start .args .degree) (start .args .split) countLimit (marks .needed-marks .ensures)
-    (loop .inv .upto) (omega (arith, c .before .loop-test .taken, marks-all marks)) (omega (arith, c .before .loop-test .taken))
-    (omega (arith, start .pre .1, loop .inv .same))
+    (loop .inv .upto) (omega (arith, c .before .loop-test .taken)) (omega (arith, start .pre .1, loop .inv .same))
 
 add-n : tie.Need-add-n Inv-loop μ-loop
 add-n c = search needs
