@@ -30,15 +30,15 @@ module _ (bits : ℕ) {low high low′ high′ : ℕ} (low-is : low ≡ 2 ^ (bit
   min-depth-same within = rw (le-ltb _ _ (rw (low-is, high-is, low′-is, high′-is) at within))
 
 -- half the bit length, or one more
-half-range : (bits : ℕ) (test : Bool) → Between 2 bits 12 → Between 1 (cond test (bits / 2 + 1) (bits / 2)) 12
-half-range bits true range = record { from = omega arith; to = omega arith }
-half-range bits false range = record { from = omega arith; to = omega arith }
+half-range : (bits : ℕ) (test : Bool) → 2 ≤ bits → Between 1 (cond test (bits / 2 + 1) (bits / 2)) bits
+half-range bits true from-two = record { from = omega arith; to = omega arith }
+half-range bits false from-two = record { from = omega arith; to = omega arith }
 
-pub depth-range : (bits : ℕ) → Between 1 bits 12 → Between 1 (minDepth bits) 12
+pub depth-range : (bits : ℕ) → 1 ≤ bits → Between 1 (minDepth bits) bits
 unfolding minDepth aExceedsB
-depth-range zero range = absurd (omega arith)
-depth-range (suc zero) range = record { from = omega arith; to = omega arith }
-depth-range (suc (suc b)) range = half-range (suc (suc b)) (aExceedsB (suc (suc b))) (record { from = omega arith; to = range .to })
+depth-range zero from = absurd (omega arith)
+depth-range (suc zero) from = record { from = omega arith; to = omega arith }
+depth-range (suc (suc b)) from = half-range (suc (suc b)) (aExceedsB (suc (suc b))) (omega arith)
 
 -- ---- every choice
 
@@ -46,7 +46,9 @@ pub split-range : (strategy : SplitStrategy) (parity : Parity) (basis : Basis) (
     → Between 1 (splitFor strategy parity basis degree) 12
 unfolding splitFor
 split-range MinDepth parity basis degree range =
-    depth-range (bitLen degree) (record { from = some-digit degree (range .from); to = few-digits degree (range .to) })
+    let half = depth-range (bitLen degree) (some-digit degree (range .from)) in
+    let digits = few-digits degree (range .to) in
+    record { from = half .from; to = omega arith }
 split-range MinMult parity basis degree range = mult-range parity basis degree (range .to)
 
 -- from degree 1 on the counts are the pair at the chosen split

@@ -4,6 +4,8 @@ pub mod PlainCount
 pub mod TallyLaws
 pub mod PairLaws
 pub mod MinMultLaws
+pub mod BetterLaws
+pub mod BoundLaws
 pub mod ChoiceLaws
 pub mod DepthLaws
 pub mod ConsumedBits

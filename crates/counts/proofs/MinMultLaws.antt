@@ -3,7 +3,7 @@
 use mathlib.Core.Path.{_≡_, refl, ap, ap₂, sym, subst}
 use mathlib.Core.Bool.{Bool, true, false, cond, _&&_, _||_}
 use mathlib.Core.Logic.{_⊎_, inl, inr, ⊎-elim}
-use Prim.Native.Nat.{ℕ, zero, suc, _+_, _-_, _≤_, _<_}
+use Prim.Native.Nat.{ℕ, zero, suc, _-_, _≤_, _<_}
 use native.Mathlib.Decide.{decLe}
 use native.Mathlib.Nat.{le-antisymm, eq-or-lt-of-le}
 use native.Mathlib.Omega.{arith}
@@ -18,18 +18,15 @@ use Rattle.counts.specs.Pair.{pairAt}
 use Rattle.counts.specs.MinMult.{AtMost, Smallest, lessPair, better, bestOf, minMult}
 use Rattle.counts.specs.declared.pair.Pair.{Pair}
 use Rattle.counts.specs.declared.choice.Best.{Best}
+use Rattle.counts.specs.inside.BetterOf.{Below}
 use Rattle.number.proofs.Bits.{few-digits}
 use Rattle.needed.proofs.Flags.{by-test}
 
 -- ---- the order of pairs
 
--- strictly less
-abbrev Below : Pair → Pair → Type 0
-Below p q = (p .ct < q .ct) ⊎ ((p .ct ≡ q .ct) × (p .pt < q .pt))
-
 module _ (p q : Pair) where
   -- what the test says
-  less-is : lessPair p q ≡ true → Below p q
+  pub less-is : lessPair p q ≡ true → Below p q
   less-is =
       by-test (λ (b : Bool). (b || (eqb (p .ct) (q .ct) && ltb (p .pt) (q .pt))) ≡ true → Below p q) (ltb (p .ct) (q .ct))
       (λ is holds. inl (ltb-true (p .ct) (q .ct) is))
@@ -41,7 +38,7 @@ module _ (p q : Pair) where
           (λ same holds. inr (eqb-true (p .ct) (q .ct) same, ltb-true (p .pt) (q .pt) holds))
           (λ other fails. let clash : _≡_ {A = ℕ} 0 1 = cc in absurd (omega arith))
 
-  less-not : lessPair p q ≡ false → AtMost q p
+  pub less-not : lessPair p q ≡ false → AtMost q p
   less-not =
       by-test (λ (b : Bool). (b || (eqb (p .ct) (q .ct) && ltb (p .pt) (q .pt))) ≡ false → AtMost q p) (ltb (p .ct) (q .ct))
       (λ is fails. let clash : _≡_ {A = ℕ} 0 1 = cc in absurd (omega arith))
@@ -59,21 +56,21 @@ at-most-trans p q r (inl pq) (inr qr) = inl (omega arith)
 at-most-trans p q r (inr pq) (inl qr) = inl (omega arith)
 at-most-trans p q r (inr pq) (inr qr) = inr (omega arith, omega arith)
 
-below-most : (p q : Pair) → Below p q → AtMost p q
+pub below-most : (p q : Pair) → Below p q → AtMost p q
 below-most p q (inl under) = inl under
 below-most p q (inr under) = inr (under .0, omega arith)
 
 -- nothing is both below q and at least q
-below-not : (p q : Pair) → Below p q → AtMost q p → ⊥
+pub below-not : (p q : Pair) → Below p q → AtMost q p → ⊥
 below-not p q (inl under) (inl over) = omega arith
 below-not p q (inl under) (inr over) = omega arith
 below-not p q (inr under) (inl over) = omega arith
 below-not p q (inr under) (inr over) = omega arith
 
-same-most : (p q : Pair) → p ≡ q → AtMost p q
+pub same-most : (p q : Pair) → p ≡ q → AtMost p q
 same-most p q same = inr (ap (λ (x : Pair). x .ct) same, omega (arith, ap (λ (x : Pair). x .pt) same))
 
-at-most-both : (p q : Pair) → AtMost p q → AtMost q p → p ≡ q
+pub at-most-both : (p q : Pair) → AtMost p q → AtMost q p → p ≡ q
 at-most-both p q (inl pq) (inl qp) = absurd (omega arith)
 at-most-both p q (inl pq) (inr qp) = absurd (omega arith)
 at-most-both p q (inr pq) (inl qp) = absurd (omega arith)
@@ -157,20 +154,6 @@ module _ (pairs : ℕ → Pair) where
       let same : pairs s ≡ pairs t = at-most-both (pairs s) (pairs t) (one .least t (two .from) (two .to)) (two .least s (one .from) (one .to)) in
       le-antisymm (one .first t (two .from) (two .to) (sym same)) (two .first s (one .from) (one .to) same)
 
-  -- the loop over the splits from 2
-  pub best-start : {pair : Pair} → pair ≡ pairs 1 → record { split = 1; pair = pair } ≡ bestOf pairs (2 - 2)
-  unfolding bestOf
-  best-start is = rw is
-
-  pub best-step : (split : ℕ) → 2 ≤ split → better (bestOf pairs (split - 2)) split (pairs split) ≡ bestOf pairs (split + 1 - 2)
-  unfolding bestOf
-  best-step zero from = absurd (omega arith)
-  best-step (suc zero) from = absurd (omega arith)
-  best-step (suc (suc k)) from =
-      let above : suc (suc k) + 1 - 2 ≡ suc k = omega arith in
-      let here : suc (suc k) - 2 ≡ k = omega arith in
-      rw (above, here)
-
 -- ---- MinMult's choice
 
 module _ (parity : Parity) (basis : Basis) (degree : ℕ) where
@@ -178,7 +161,7 @@ module _ (parity : Parity) (basis : Basis) (degree : ℕ) where
   unfolding minMult
   mult-low low = rw (le-leb (bitLen degree) 1 low, minMult)
 
-  pub mult-best : 1 < bitLen degree → minMult parity basis degree ≡ bestOf (pairAt parity basis degree) (bitLen degree - 1) .split
+  mult-best : 1 < bitLen degree → minMult parity basis degree ≡ bestOf (pairAt parity basis degree) (bitLen degree - 1) .split
   unfolding minMult
   mult-best two-digits = rw (lt-leb (bitLen degree) 1 two-digits, minMult)
 

@@ -13,7 +13,7 @@ use Rattle.counts.specs.SliceRule.{SliceRule}
 use Rattle.number.proofs.Bits.{some-digit, sides-fall}
 
 -- without digits the degree is 0
-no-digits : (degree : ℕ) {p : ℕ} → bitLen degree ≤ 0 → 0 < p → degree < p
+pub no-digits : (degree : ℕ) {p : ℕ} → bitLen degree ≤ 0 → 0 < p → degree < p
 no-digits zero none positive = positive
 no-digits (suc d) none positive = absurd (omega (arith, some-digit (suc d) (omega arith)))
 

@@ -1,13 +1,16 @@
 // The choice of the split by either strategy, and the pair at the chosen split.
 ghost use mathlib.Core.Path.{_≡_};
-ghost use Prim.Native.Nat.{_-_, _≤_};
+ghost use Prim.Native.Nat.{_≤_};
 ghost use Rattle.number.specs.Limits.{planLimit};
 ghost use Rattle.number.specs.inside.Between.{Between};
+ghost use Rattle.needed.specs.inside.Planned.{Planned};
 ghost use Rattle.counts.specs.Pair.{pairAt};
 ghost use Rattle.counts.specs.MinDepth.{minDepth};
-ghost use Rattle.counts.specs.MinMult.{lessPair, better, bestOf, minMult};
+ghost use Rattle.counts.specs.MinMult.{Smallest, lessPair, minMult};
 ghost use Rattle.counts.specs.Choice.{splitFor};
 ghost use Rattle.counts.specs.Calls.{minDepthCall, minMultCall, countsCall};
+ghost use Rattle.counts.specs.inside.BetterOf.{withPair, BetterOf};
+use super::bound::fewest_ct;
 use super::pair::Pair;
 use super::pair::estimate_op_counts;
 use algebra::Basis;
@@ -66,31 +69,55 @@ fn less_pair(p: Pair, q: Pair) -> bool
     p.pt < q.pt
 }
 
-// The better of the best so far and a greater split.
-fn better_of(best: Best, split: usize, pair: Pair) -> Best
-    ensures { λ r. ⌜ r ≡ better best split pair ⌝ }
+// The better of two splits: that of the lesser pair, and of equal pairs the smaller split.
+fn better_of(best: Best, other: Best) -> Best
+    ensures { λ r. ⌜ BetterOf best other r ⌝ }
 {
     let least = best.pair;
+    let pair = other.pair;
     if less_pair(pair, least) {
-        return Best { split, pair };
+        return other;
     }
-    best
+    if less_pair(least, pair) {
+        return best;
+    }
+    if other.split < best.split {
+        other
+    } else {
+        best
+    }
 }
 
-// The smallest split from 1 to the bit length with the least pair.
+// The better of the best so far and another split, which is passed over if it takes more ct-ct multiplications than the best.
+fn better_at(parity: Parity, basis: Basis, degree: usize, best: Best, split: usize) -> Best
+    requires { ⌜ Planned degree split × (best .pair ≡ pairAt parity basis degree (best .split)) ⌝ }
+    ensures { λ r. ⌜ BetterOf best (withPair (pairAt parity basis degree) split) r ⌝ }
+{
+    if split == best.split {
+        return best;
+    }
+    let least = best.pair;
+    if least.ct < fewest_ct(parity, degree, split) {
+        return best;
+    }
+    let pair = estimate_op_counts(parity, basis, degree, split);
+    better_of(best, Best { split, pair })
+}
+
+// The smallest split from 1 to the bit length with the least pair. It begins with a likely one, MinDepth's.
 fn best_split(parity: Parity, basis: Basis, degree: usize, bits: usize) -> Best
     requires { ⌜ Between 1 degree planLimit × Between 1 bits 12 ⌝ }
-    ensures { λ r. ⌜ r ≡ bestOf (pairAt parity basis degree) (bits - 1) ⌝ }
+    ensures { λ r. ⌜ Smallest (pairAt parity basis degree) bits (r .split) ⌝ }
 {
-    let first = estimate_op_counts(parity, basis, degree, 1);
+    let likely = min_depth(bits);
+    let pair = estimate_op_counts(parity, basis, degree, likely);
     let mut best = Best {
-        split: 1,
-        pair: first,
+        split: likely,
+        pair,
     };
-    let mut split = 2;
+    let mut split = 1;
     while split <= bits {
-        let pair = estimate_op_counts(parity, basis, degree, split);
-        best = better_of(best, split, pair);
+        best = better_at(parity, basis, degree, best, split);
         split += 1;
     }
     best

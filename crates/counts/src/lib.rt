@@ -1,4 +1,5 @@
 // The choice of the split, the counts of multiplications, depth and bits.
+pub mod bound;
 pub mod choice;
 pub mod consumed;
 pub mod depth;

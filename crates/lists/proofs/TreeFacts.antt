@@ -8,7 +8,7 @@ use native.Mathlib.Omega.{arith}
 use lib.Pow.{pow-mono, pow-pos}
 use Rattle.number.specs.Bits.{bitLen, topPower}
 use Rattle.number.specs.Limits.{planLimit}
-use Rattle.number.proofs.Bits.{len-above, some-digit, few-digits, top-power, sides-fall}
+use Rattle.number.proofs.Bits.{len-above, some-digit, top-power, sides-fall}
 use Rattle.counts.specs.Slices.{slicesOf}
 use Rattle.counts.specs.MinDepth.{minDepth}
 use Rattle.counts.proofs.SliceRule.{slices-one, slices-cut}
@@ -56,7 +56,7 @@ trees-sound leading whole = tree-holds whole SoundAt one-list listed-again both-
         → SoundAt leading degree (minDepth (bitLen degree)) tree → SoundAt leading degree split tree
     listed-again leading degree split tree leads again sound most from =
         sound-wider tree (suc degree) (2 ^ minDepth (bitLen degree)) (2 ^ split) (pow-mono (omega (arith, again .smaller)))
-        (sound most (depth-range (bitLen degree) (record { from = some-digit degree (again .positive); to = few-digits degree most }) .from))
+        (sound most (depth-range (bitLen degree) (some-digit degree (again .positive)) .from))
 
     both-parts : (leading : Bool) (degree split : ℕ) (low high : Tree) → 2 ^ split ≤ degree → SoundAt false (topPower degree - 1) split low
         → SoundAt leading (degree - topPower degree) split high → SoundAt leading degree split (cut (topPower degree) low high)

@@ -5,4 +5,5 @@ pub mod SweepLaws
 pub mod PlaceLaws
 pub mod NeededMarks
 pub mod NeededList
+pub mod BaseLaws
 pub mod Promises

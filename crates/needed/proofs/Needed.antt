@@ -70,7 +70,7 @@ one-below : (k : ℕ) → 0 < k → 1 < 2 ^ k
 one-below k positive = pow-lt {i = 0} {j = k} positive
 
 -- 2^k is a part of 2^(k+1)
-half-is-part : (k : ℕ) → 2 ^ k ≡ partsOf (2 ^ suc k) .a
+pub half-is-part : (k : ℕ) → 2 ^ k ≡ partsOf (2 ^ suc k) .a
 unfolding partsOf
 half-is-part k =
     let doubles = two-pow-succ k in

@@ -8,7 +8,7 @@ use native.Mathlib.Numerals.{add-one}
 use native.Mathlib.Omega.{arith}
 use lib.Dec.{ltb}
 use lib.ListN.{length, getD, set, replicate, take, List·getD-append, List·getD-eq-default}
-use lib.Seq.{set-append-left, set-at, take-at, take-suc}
+use lib.Seq.{set-append-left, set-at, take-at, take-nil}
 use Rattle.algebra.specs.declared.Basis.{Basis}
 use Rattle.algebra.specs.declared.Basis.the-variants.{Monomial, Chebyshev}
 use Rattle.number.specs.Split.{partsOf}
@@ -154,19 +154,23 @@ count-most [] = omega arith
 count-most (true ∷ marks) = omega (arith, count-most marks)
 count-most (false ∷ marks) = omega (arith, count-most marks)
 
-count-append : (marks more : List Bool) → countMarks (marks ++ more) ≡ countMarks marks + countMarks more
-unfolding countMarks
-count-append [] more = omega arith
-count-append (mark ∷ marks) more = omega (arith, count-append marks more)
-
 pub count-none : (marks : List Bool) → countMarks (take 0 marks) ≡ 0
 unfolding countMarks
 count-none marks = refl
 
--- one place more
-pub count-step : (marks : List Bool) (n : ℕ) → n < length marks
-    → countMarks (take (n + 1) marks) ≡ countMarks (take n marks) + cond (getD marks n false) 1 0
+-- the first places have no more marks than all
+pub count-take : (n : ℕ) (marks : List Bool) → countMarks (take n marks) ≤ countMarks marks
 unfolding countMarks
-count-step marks n inside =
-    let last = getD marks n false in
-    rw (add-one, take-suc marks n false) (count-append (take n marks) (last ∷ []) ∙ omega arith)
+count-take zero marks = omega arith
+count-take (suc n) [] = omega arith
+count-take (suc n) (mark ∷ marks) = omega (arith, count-take n marks)
+
+-- one place more, past the end too
+pub count-place : (marks : List Bool) (n : ℕ) → countMarks (take (suc n) marks) ≡ countMarks (take n marks) + cond (getD marks n false) 1 0
+unfolding countMarks
+count-place [] n = rw (take-nil {A = Bool} n)
+count-place (mark ∷ marks) zero = omega arith
+count-place (mark ∷ marks) (suc n) = omega (arith, count-place marks n)
+
+pub count-step : (marks : List Bool) (n : ℕ) → countMarks (take (n + 1) marks) ≡ countMarks (take n marks) + cond (getD marks n false) 1 0
+count-step marks n = rw add-one (count-place marks n)

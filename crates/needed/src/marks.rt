@@ -10,6 +10,7 @@ ghost use Rattle.needed.specs.inside.Marks.{padded, isTarget, places, ma
 use algebra::Basis;
 use algebra::Parity;
 use number::PLAN_LIMIT;
+use number::bit_len;
 use number::distance;
 use number::is_allowed;
 use number::power_of_two;
@@ -138,11 +139,24 @@ fn count_marks(marks: [bool; MARKS], places: usize) -> usize
     count
 }
 
-// How many powers are needed.
-pub fn count_needed(parity: Parity, basis: Basis, degree: usize, split: usize) -> usize
+// How many powers are needed, by the marks of all of them.
+fn count_swept(parity: Parity, basis: Basis, degree: usize, split: usize) -> usize
     requires { ⌜ Planned degree split ⌝ }
     ensures { λ r. ⌜ r ≡ neededCount parity basis degree split ⌝ }
 {
     let marks = needed_marks(parity, basis, degree, split);
     count_marks(marks, greatest_target(degree, split) + 1)
+}
+
+// How many powers are needed: from the base on those of base - 1, and the powers of two from the base on.
+pub fn count_needed(parity: Parity, basis: Basis, degree: usize, split: usize) -> usize
+    requires { ⌜ Planned degree split ⌝ }
+    ensures { λ r. ⌜ r ≡ neededCount parity basis degree split ⌝ }
+{
+    let base = power_of_two(split);
+    if degree < base {
+        return count_swept(parity, basis, degree, split);
+    }
+    let below = count_swept(parity, basis, base - 1, split);
+    below + (bit_len(degree) - split)
 }

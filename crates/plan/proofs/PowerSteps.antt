@@ -5,14 +5,14 @@ use mathlib.Core.List.{List, [], _∷_, _++_, map, map-append, append-nil}
 use Prim.Native.Nat.{ℕ, zero, suc, _+_, _-_, _*_, _≤_, _<_}
 use native.Mathlib.Omega.{arith}
 use lib.ListN.{length, take, getD, replicate, length-append, length-map, length-replicate}
-use lib.Seq.{sets, take-suc, take-all, length-take-le}
+use lib.Seq.{sets, take-suc, length-take-le}
 use Rattle.algebra.specs.declared.Basis.{Basis}
 use Rattle.algebra.specs.declared.Parity.{Parity}
 use Rattle.number.specs.Limits.{planLimit}
 use Rattle.needed.specs.NeededList.{neededList, neededCount}
 use Rattle.needed.specs.inside.Marks.{Marked, markedFrom, countMarks, padded, neededMarks}
 use Rattle.needed.specs.inside.Planned.{Planned}
-use Rattle.needed.proofs.PlaceLaws.{count-none, count-step}
+use Rattle.needed.proofs.PlaceLaws.{count-none, count-take, count-step}
 use Rattle.needed.proofs.NeededList.{marked-count, needed-counted}
 use Rattle.needed.proofs.NeededMarks.{needed-length, greatest-within, marked-needed}
 use Rattle.needed.proofs.Promises.{needed-powers}
@@ -38,6 +38,20 @@ none-marked : (i k : ℕ) → markedFrom i (replicate k false) ≡ []
 unfolding markedFrom
 none-marked i zero = refl
 none-marked i (suc k) = none-marked (suc i) k
+
+none-taken : (i n k : ℕ) → markedFrom i (take n (replicate k false)) ≡ []
+unfolding markedFrom
+none-taken i zero k = refl
+none-taken i (suc n) zero = refl
+none-taken i (suc n) (suc k) = none-taken (suc i) n k
+
+-- the first places hold all marks if they reach past the last
+marked-past : (i n : ℕ) (marks : List Bool) (k : ℕ) → length marks ≤ n → markedFrom i (take n (marks ++ replicate k false)) ≡ markedFrom i marks
+unfolding markedFrom
+marked-past i n [] k past = none-taken i n k
+marked-past i zero (mark ∷ marks) k past = absurd (omega arith)
+marked-past i (suc n) (true ∷ marks) k past = ap (i ∷_) (marked-past (suc i) n marks k (omega arith))
+marked-past i (suc n) (false ∷ marks) k past = marked-past (suc i) n marks k (omega arith)
 
 one-marked : (n : ℕ) (mark : Bool) → markedFrom n (mark ∷ []) ≡ cond mark (n ∷ []) []
 unfolding markedFrom
@@ -68,12 +82,6 @@ padded-at [] more n none marked =
 padded-at (mark ∷ marks) more zero none marked = marked
 padded-at (mark ∷ marks) more (suc n) none marked = padded-at marks more n none marked
 
-count-take : (n : ℕ) (marks : List Bool) → countMarks (take n marks) ≤ countMarks marks
-unfolding countMarks
-count-take zero marks = omega arith
-count-take (suc n) [] = omega arith
-count-take (suc n) (mark ∷ marks) = omega (arith, count-take n marks)
-
 -- ---- one mark more
 
 -- the steps of the first n marks stand in the buffer
@@ -93,7 +101,7 @@ one-step false n = refl
 pub upto-more : {marks : List Bool} {n step step′ : ℕ} {b₀ b b′ : List ℕ} → Upto marks n step b₀ b → n < length marks
     → PowerPut (getD marks n false) n step b step′ b′ → Upto marks (n + 1) step′ b₀ b′
 upto-more {marks} {n} {step} {step′} {b₀} {b} {b′} upto inside put = record {
-  count = put .next ∙ ap (_+ cond (getD marks n false) 1 0) (upto .count) ∙ sym (count-step marks n inside);
+  count = put .next ∙ ap (_+ cond (getD marks n false) 1 0) (upto .count) ∙ sym (count-step marks n);
   numbers =
       put .numbers
       ∙ ap (λ (l : List ℕ). sets l (4 * step) (markNumbers (getD marks n false) n)) (upto .numbers)
@@ -155,21 +163,28 @@ module _ (parity : Parity) (basis : Basis) (degree split size : ℕ) {marks : Li
       ∙ omega (arith, length-replicate (size - length known) false)
 
   -- the next mark has its places
-  pub next-fits : {n step : ℕ} {b₀ b : List ℕ} → Upto marks n step b₀ b → n < length marks → n ≤ planLimit
-      → 4 * neededCount parity basis degree split ≤ length b → PowerFits (getD marks n false) n step b
-  next-fits {n} upto inside within room =
-      let step = count-step marks n inside in
+  pub next-fits : {n step : ℕ} {b₀ b : List ℕ} → Upto marks n step b₀ b → n ≤ planLimit → 4 * neededCount parity basis degree split ≤ length b
+      → PowerFits (getD marks n false) n step b
+  next-fits {n} upto within room =
+      let step = count-step marks n in
       let most = count-take (n + 1) marks in
       let counted = marks-count in
       record { limit = within; from-two = marked-from-two n; places = omega (arith, upto .count) }
 
-  -- all marks are passed
-  pub upto-all : {n step : ℕ} {b₀ b : List ℕ} → Upto marks n step b₀ b → length marks ≤ n → PowersPut parity basis degree split b₀ step b
-  unfolding powerSteps neededList
-  upto-all {n} {step} {b₀} {b} upto past =
-      let all : take n marks ≡ marks = take-all n marks past in
+  -- past the degree all marks are passed
+  all-passed : {n : ℕ} → 0 < degree → degree < n → markedFrom 0 (take n marks) ≡ neededList parity basis degree split
+  unfolding neededList padded
+  all-passed {n} positive past =
+      let known = neededMarks parity basis degree split in
+      let counted = needed-length parity basis degree split in
+      let most = greatest-within degree split positive in
+      ap (λ (l : List Bool). markedFrom 0 (take n l)) marks-are ∙ marked-past 0 n known (size - length known) (omega arith)
+
+  pub upto-all : {n step : ℕ} {b₀ b : List ℕ} → Upto marks n step b₀ b → 0 < degree → degree < n → PowersPut parity basis degree split b₀ step b
+  unfolding powerSteps neededCount
+  upto-all {n} {step} {b₀} {b} upto positive past =
+      let all = all-passed positive past in
       record {
-        numbers = upto .numbers ∙ ap (λ (l : List ℕ). sets b₀ 0 (flat (map makeStep l)))
-            (ap (markedFrom 0) (all ∙ marks-are) ∙ padded-marked size (neededMarks parity basis degree split));
-        next = upto .count ∙ ap countMarks all ∙ marks-count;
+        numbers = upto .numbers ∙ ap (λ (l : List ℕ). sets b₀ 0 (flat (map makeStep l))) all;
+        next = upto .count ∙ marked-count 0 (take n marks) ∙ ap length all;
       }

@@ -1,6 +1,5 @@
 // The power steps: one for each needed power, rising.
 use super::step::put_step;
-use needed::MARKS;
 use needed::needed_marks;
 use number::Basis;
 use number::Parity;
@@ -38,7 +37,7 @@ pub fn write_powers(
     let marks = needed_marks(parity, basis, degree, split);
     let mut step = 0;
     let mut n = 0;
-    while n < MARKS {
+    while n <= degree {
         let marked = marks[n];
         step = put_power(marked, n, step, steps);
         n += 1;

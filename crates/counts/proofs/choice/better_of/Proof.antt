@@ -1,8 +1,7 @@
--- `counts::choice::better_of` meets its contract. Its one test is the definition's: the new split is taken only if its pair is less.
--- So of two equal pairs the earlier split stays.
+-- `counts::choice::better_of` meets its contract. The lesser pair wins. Where neither pair is less they are equal, and the smaller split wins.
 use mathlib.Core.Path.{sym, _∙_}
 use borrow.Author.Needs.{needs}
-use Rattle.counts.specs.MinMult.{better}
+use Rattle.counts.proofs.BetterLaws.{second-less, first-less, second-smaller, first-smaller}
 use Rattle.counts.proofs.choice.better_of.Statement.{statement}
 use Rattle.counts.proofs.choice.better_of.Tie as tie
 
@@ -10,12 +9,35 @@ less-pair-requires : tie.Need-less-pair-requires
 less-pair-requires c κs = search needs
 
 returns : tie.Need-returns
-unfolding better
-returns c = let test = sym (c .before .less-pair .ensures) ∙ c .if1 .taken in rw test
+returns c =
+    let args = c .before .before .before .before .args in
+    second-less (args .best) (args .other) (sym (c .before .less-pair .ensures) ∙ c .if1 .taken)
+
+less-pair-requires-2 : tie.Need-less-pair-requires-2
+less-pair-requires-2 c κs = search needs
 
 returns-2 : tie.Need-returns-2
-unfolding better
-returns-2 c = let test = sym (c .before .less-pair .ensures) ∙ c .if1 .left in rw test
+returns-2 c =
+    let args = c .before .before .before .before .before .before .args in
+    first-less (args .best) (args .other) (sym (c .before .less-pair2 .ensures) ∙ c .if2 .taken)
+
+returns-3 : tie.Need-returns-3
+returns-3 c =
+    let second = c .before .before .before in
+    let first = second .before .before in
+    let args = first .before .before .before .before .args in
+    second-smaller (args .best) (args .other) (sym (first .before .less-pair .ensures) ∙ first .if1 .left)
+    (sym (second .before .less-pair2 .ensures) ∙ second .if2 .left) (c .if3 .taken)
+
+returns-4 : tie.Need-returns-4
+returns-4 c =
+    let second = c .before .before .before in
+    let first = second .before .before in
+    let args = first .before .before .before .before .args in
+    first-smaller (args .best) (args .other) (sym (first .before .less-pair .ensures) ∙ first .if1 .left)
+    (sym (second .before .less-pair2 .ensures) ∙ second .if2 .left) (c .if3 .left)
 
 pub better-of-spec : {M : Type 1} → statement M
-better-of-spec = tie.close (tie.spec less-pair-requires returns returns-2)
+better-of-spec =
+    tie.close
+    (tie.spec less-pair-requires returns less-pair-requires-2 returns-2 returns-3 returns-4)

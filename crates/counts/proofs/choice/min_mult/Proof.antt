@@ -1,15 +1,12 @@
 -- `counts::choice::min_mult` meets its contract. Up to one binary digit the split is 1, by definition.
--- Otherwise the degree is not 0 and has 2 to 12 digits, which is what the search for the best split asks.
-use mathlib.Core.Path.{sym, ap, _∙_}
-use Prim.Native.Nat.{ℕ, _-_, _<_}
+-- Otherwise the degree is not 0 and has 2 to 12 digits, which is what the search for the best split asks, and there is only one such split.
+use mathlib.Core.Path.{sym}
+use Prim.Native.Nat.{_<_}
 use native.Mathlib.Omega.{arith}
 use borrow.Author.Needs.{needs}
 use Rattle.number.specs.Bits.{bitLen}
-use Rattle.counts.specs.Pair.{pairAt}
-use Rattle.counts.specs.MinMult.{bestOf}
-use Rattle.counts.specs.declared.choice.Best.{Best}
 use Rattle.number.proofs.Bits.{few-digits, digit-some}
-use Rattle.counts.proofs.MinMultLaws.{mult-low, mult-best}
+use Rattle.counts.proofs.MinMultLaws.{mult-low, mult-only}
 use Rattle.counts.proofs.choice.min_mult.Statement.{statement}
 use Rattle.counts.proofs.choice.min_mult.Tie as tie
 
@@ -38,9 +35,8 @@ returns-2 c =
     let digits = test .before in
     let args = digits .before .args in
     let two-digits : 1 < bitLen (args .degree) = omega (arith, digits .bit-len .ensures, test .if1 .left) in
-    ap (λ (best : Best). best .split) (c .best-split .ensures)
-    ∙ ap (λ (l : ℕ). bestOf (pairAt (args .parity) (args .basis) (args .degree)) (l - 1) .split) (digits .bit-len .ensures)
-    ∙ sym (mult-best (args .parity) (args .basis) (args .degree) two-digits)
+    let smallest = rw (digits .bit-len .ensures) at (c .best-split .ensures) in
+    mult-only (args .parity) (args .basis) (args .degree) two-digits _ smallest
 
 pub min-mult-spec : {M : Type 1} → statement M
 min-mult-spec = tie.close (tie.spec bit-len-requires returns best-split-requires returns-2)

@@ -6,8 +6,7 @@ use mathlib.Core.Bool.{Bool, false, cond}
 use Prim.Native.Nat.{ℕ, _-_, _≤_}
 use native.Mathlib.Omega.{arith}
 use borrow.Author.Needs.{needs}
-use lib.ListN.{length, take, getD}
-use Rattle.number.specs.Limits.{countLimit}
+use lib.ListN.{take, getD}
 use Rattle.needed.specs.inside.Marks.{countMarks}
 use Rattle.needed.proofs.PlaceLaws.{count-none, count-step}
 use Rattle.needed.proofs.marks.count_marks.Statement.{statement}
@@ -39,9 +38,7 @@ loop-again c =
     let start = c .before .before .before in
     let n = c .before .before .loop .n in
     let marks = start .args .t1 in
-    let good = start .good in
-    let size : length marks ≡ countLimit = search needs in
-    let step = count-step marks n (omega (arith, start .pre)) in
+    let step = count-step marks n in
     ⊎-elim
     (λ came.
     let mark : cond {A = ℕ} (getD marks n false) 1 0 ≡ 1 = ap (λ (b : Bool). cond {A = ℕ} b 1 0) (came .0 .taken) in

@@ -1,53 +1,73 @@
--- `needed::marks::count_needed` meets its contract. No mark stands beyond the greatest target, so the first places hold them all.
--- There are at most 4,096 of these.
-use mathlib.Core.Path.{_∙_, ap}
-use Prim.Native.Nat.{_+_}
+-- `needed::marks::count_needed` meets its contract. Below the base all marks are counted. From the base on base − 1 is such a degree, and the
+-- degree needs besides its powers the powers of two from the base on, one for each binary digit above the split.
+use Prim.Native.Nat.{_-_, _^_, _≤_}
 use native.Mathlib.Omega.{arith}
 use borrow.Author.Needs.{needs}
-use Rattle.number.specs.Limits.{countLimit}
-use Rattle.needed.specs.inside.Marks.{greatestTarget, countMarks, neededMarks}
-use Rattle.needed.proofs.PlaceLaws.{take-padded}
-use Rattle.needed.proofs.NeededMarks.{greatest-within, needed-length}
-use Rattle.needed.proofs.NeededList.{needed-counted}
+use Rattle.number.proofs.Bits.{few-digits}
+use Rattle.needed.proofs.NeededList.{count-needed-small}
+use Rattle.needed.proofs.BaseLaws.{split-under, small-planned, needed-from-base}
 use Rattle.needed.proofs.marks.count_needed.Statement.{statement}
 use Rattle.needed.proofs.marks.count_needed.Tie as tie
 
-needed-marks-requires : tie.Need-needed-marks-requires
-needed-marks-requires c κs = search needs
+power-of-two-requires : tie.Need-power-of-two-requires
+power-of-two-requires c κs = search needs
 
-greatest-target-requires : tie.Need-greatest-target-requires
-greatest-target-requires c κs = search needs
-
-add-count-marks : tie.Need-add-count-marks
-add-count-marks c =
-    let start = c .before .before in
-    let within = greatest-within (start .args .degree) (start .args .split) (start .pre .degrees .from) in
-    omega (arith, c .greatest-target .ensures, start .pre .degrees .to)
-
-count-marks-requires : tie.Need-count-marks-requires
-count-marks-requires c κs =
-    let start = c .before .before in
-    let within = greatest-within (start .args .degree) (start .args .split) (start .pre .degrees .from) in
-    omega (arith, c .greatest-target .ensures, start .pre .degrees .to)
+count-swept-requires : tie.Need-count-swept-requires
+count-swept-requires c κs = search needs
 
 returns : tie.Need-returns
-returns c =
-    let last = c .before in
-    let marks = last .before in
-    let args = marks .before .args in
-    let whole = neededMarks (args .parity) (args .basis) (args .degree) (args .split) in
-    let size = greatestTarget (args .degree) (args .split) + 1 in
-    c .count-marks .ensures
-    ∙ rw (marks .needed-marks .ensures, last .greatest-target .ensures)
-    (ap countMarks (take-padded countLimit size whole (needed-length (args .parity) (args .basis) (args .degree) (args .split)))
-    ∙ needed-counted (args .parity) (args .basis) (args .degree) (args .split))
+returns c = search needs
+
+sub-count-swept : tie.Need-sub-count-swept
+sub-count-swept c =
+    let base = c .before in
+    let planned = small-planned (base .before .pre .splits) (base .power-of-two .ensures) in
+    omega arith
+
+count-swept-requires-2 : tie.Need-count-swept-requires-2
+count-swept-requires-2 c κs =
+    let base = c .before in
+    small-planned (base .before .pre .splits) (base .power-of-two .ensures)
+
+bit-len-requires : tie.Need-bit-len-requires
+bit-len-requires c κs = search needs
+
+sub-result : tie.Need-sub-result
+sub-result c =
+    let base = c .before .before .before in
+    let args = base .before .args in
+    let reached : 2 ^ args .split ≤ args .degree = omega arith in
+    omega (arith, c .bit-len .ensures, split-under (args .degree) (args .split) reached)
+
+add-result : tie.Need-add-result
+add-result c =
+    let base = c .before .before .before in
+    let start = base .before in
+    let args = start .args in
+    let planned = small-planned (start .pre .splits) (base .power-of-two .ensures) in
+    let below = count-needed-small (args .parity) (args .basis) (base .power-of-two .result - 1) (args .split) (planned .degrees) in
+    omega (arith, c .before .count-swept2 .ensures, c .bit-len .ensures, few-digits (args .degree) (start .pre .degrees .to))
+
+returns-2 : tie.Need-returns-2
+returns-2 c =
+    let base = c .before .before .before in
+    let start = base .before in
+    let args = start .args in
+    let reached : 2 ^ args .split ≤ args .degree = omega arith in
+    let law = needed-from-base (args .parity) (args .basis) (args .degree) (args .split) (start .pre .splits .from) reached in
+    let below = rw (base .power-of-two .ensures) at (c .before .count-swept2 .ensures) in
+    omega (arith, c .bit-len .ensures)
 
 pub count-needed-spec : {M : Type 1} → statement M
 count-needed-spec =
     tie.close
     (tie.spec
-    needed-marks-requires
-    greatest-target-requires
-    add-count-marks
-    count-marks-requires
-    returns)
+    power-of-two-requires
+    count-swept-requires
+    returns
+    sub-count-swept
+    count-swept-requires-2
+    bit-len-requires
+    sub-result
+    add-result
+    returns-2)

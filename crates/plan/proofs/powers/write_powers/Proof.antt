@@ -1,7 +1,7 @@
--- `plan::powers::write_powers` meets its contract. The invariant: the steps of the marks passed stand in the buffer. The measure is the number of
--- marks that are left.
+-- `plan::powers::write_powers` meets its contract. The invariant: the steps of the marks passed stand in the buffer. No power above the degree is
+-- needed, so the loop ends there. The measure is the number of places that are left.
 use mathlib.Core.Path.{_≡_, refl, _∙_}
-use Prim.Native.Nat.{_-_, _≤_, _<_}
+use Prim.Native.Nat.{_+_, _-_, _≤_, _<_}
 use native.Mathlib.Omega.{arith}
 use borrow.Author.Needs.{needs}
 use lib.ListN.{length}
@@ -12,14 +12,14 @@ use Rattle.plan.proofs.powers.write_powers.Tie as tie
 
 abbrev Inv-loop : tie.InvT-loop
 Inv-loop degree split steps₀ marks step₀ n₀ steps step n = record {
-  within : n ≤ countLimit;
+  within : n ≤ degree + 1;
   same : length steps
       ≡ length steps₀;
   upto : Upto marks n step steps₀ steps;
 }
 
 abbrev μ-loop : tie.MeasureT-loop
-μ-loop degree split steps₀ marks step₀ n₀ steps step n = countLimit - n
+μ-loop degree split steps₀ marks step₀ n₀ steps step n = degree + 1 - n
 
 -- there are as many marks as places
 marks-all : (c : tie.After-needed-marks Inv-loop μ-loop) → length (c .needed-marks .result) ≡ countLimit
@@ -43,8 +43,7 @@ put-power-requires c κs =
     let marks = c .before .before .before in
     let start = marks .before .before in
     next-fits (start .args .parity) (start .args .basis) (start .args .degree) (start .args .split) countLimit (marks .needed-marks .ensures)
-    (loop .inv .upto) (omega (arith, c .before .loop-test .taken, marks-all marks)) (omega (arith, c .before .loop-test .taken))
-    (omega (arith, start .pre .1, loop .inv .same))
+    (loop .inv .upto) (omega (arith, c .before .loop-test .taken, start .pre .0 .degrees .to)) (omega (arith, start .pre .1, loop .inv .same))
 
 add-n : tie.Need-add-n Inv-loop μ-loop
 add-n c = search needs
@@ -57,7 +56,8 @@ loop-again c =
     let put = c .before .before in
     let loop = put .before .before .before .loop in
     let marks = put .before .before .before .before in
-    let inside : loop .n < length (marks .needed-marks .result) = omega (arith, put .before .before .loop-test .taken, marks-all marks) in
+    let range = marks .before .before .pre .0 .degrees in
+    let inside : loop .n < length (marks .needed-marks .result) = omega (arith, put .before .before .loop-test .taken, marks-all marks, range .to) in
     record {
       within = omega (arith, put .before .before .loop-test .taken);
       same = put .put-power .kept .1 .1 .1 .0 ∙ loop .inv .same;
@@ -73,7 +73,7 @@ returns c =
     let marks = c .before .before in
     let start = marks .before .before in
     upto-all (start .args .parity) (start .args .basis) (start .args .degree) (start .args .split) countLimit (marks .needed-marks .ensures)
-    (loop .inv .upto) (omega (arith, marks-all marks, c .loop-test .left))
+    (loop .inv .upto) (start .pre .0 .degrees .from) (c .loop-test .left)
 
 pub write-powers-spec : {M : Type 1} → statement M
 write-powers-spec =
