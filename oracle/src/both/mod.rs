@@ -46,41 +46,63 @@ pub fn differs(call: &Call) -> bool {
     theirs::answer(call) != ours::answer(call)
 }
 
+/// What the threads share.
+struct Run {
+    count: u64,
+    seed: u64,
+    next: AtomicUsize,
+    total: Mutex<Tally>,
+    /// The part of the first difference, and its call.
+    found: Mutex<Option<(usize, Call)>>,
+}
+
 /// Compares the sweeps and `count` random calls. At the first difference it says the smallest input and ends with status 1.
 pub fn compare(count: u64, seed: u64) {
-    let parts = MAX_DEGREE + 1 + count.div_ceil(PART) as usize;
-    let next = AtomicUsize::new(0);
-    let total = Mutex::new([[0; 4]; ROWS]);
-    // The part of the first difference, and its call.
-    let found: Mutex<Option<(usize, Call)>> = Mutex::new(None);
-    let work = || {
-        let mut tally: Tally = [[0; 4]; ROWS];
-        loop {
-            let k = next.fetch_add(1, Ordering::Relaxed);
-            // Parts are taken in order, so those before a found one are all worked through.
-            if k >= parts || found.lock().unwrap().is_some() {
-                break;
-            }
-            for call in part(k, count, seed) {
-                if differs(&call) {
-                    let mut found = found.lock().unwrap();
-                    if found.as_ref().is_none_or(|f| k < f.0) {
-                        *found = Some((k, call));
-                    }
-                    break;
-                }
-                count_in(&mut tally[call.row()], &call, k > MAX_DEGREE);
-            }
-        }
-        add(&mut total.lock().unwrap(), &tally);
+    let run = Run {
+        count,
+        seed,
+        next: AtomicUsize::new(0),
+        total: Mutex::new([[0; 4]; ROWS]),
+        found: Mutex::new(None),
     };
     scope(|s| {
         let threads = available_parallelism().map_or(1, |n| n.get());
-        (0..threads).for_each(|_| drop(s.spawn(work)));
+        (0..threads).for_each(|_| drop(s.spawn(|| run.work())));
     });
-    match found.into_inner().unwrap() {
+    match run.found.into_inner().unwrap() {
         Some((_, call)) => stop(call, seed),
-        None => summary(&total.into_inner().unwrap(), seed),
+        None => summary(&run.total.into_inner().unwrap(), seed),
+    }
+}
+
+impl Run {
+    /// Takes parts in order. Each before the one with a difference is worked through, so the same difference is found
+    /// whatever the threads do.
+    fn work(&self) {
+        let mut tally: Tally = [[0; 4]; ROWS];
+        let parts = MAX_DEGREE + 1 + self.count.div_ceil(PART) as usize;
+        loop {
+            let k = self.next.fetch_add(1, Ordering::Relaxed);
+            let late = self.found.lock().unwrap().as_ref().is_some_and(|f| f.0 < k);
+            if k >= parts || late {
+                break;
+            }
+            self.part(k, &mut tally);
+        }
+        add(&mut self.total.lock().unwrap(), &tally);
+    }
+
+    fn part(&self, k: usize, tally: &mut Tally) {
+        for call in part(k, self.count, self.seed) {
+            if differs(&call) {
+                let mut found = self.found.lock().unwrap();
+                if found.as_ref().is_none_or(|f| k < f.0) {
+                    *found = Some((k, call));
+                }
+                return;
+            }
+            count_in(&mut tally[call.row()], &call, k > MAX_DEGREE);
+        }
     }
 }
 
