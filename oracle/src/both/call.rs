@@ -162,12 +162,17 @@ impl Display for Call {
     }
 }
 
-/// A float with its bits.
+/// A float, with its bits if it is no small whole number.
 struct Float(f64);
 
 impl Display for Float {
     fn fmt(&self, f: &mut Formatter) -> Result {
-        write!(f, "{:?}({:016x})", self.0, self.0.to_bits())
+        let x = self.0;
+        if x.fract() == 0.0 && x.abs() < 1e6 {
+            write!(f, "{x}")
+        } else {
+            write!(f, "{x:?}({:016x})", x.to_bits())
+        }
     }
 }
 
