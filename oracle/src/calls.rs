@@ -5,7 +5,6 @@ use std::fmt::Display;
 use std::fmt::Write as _;
 use std::io::Write;
 use std::panic::{AssertUnwindSafe, catch_unwind, set_hook, take_hook};
-use std::sync::atomic::{AtomicBool, Ordering};
 
 use anyhow::Result;
 
@@ -23,38 +22,40 @@ pub enum Form {
     Whole,
 }
 
-/// Set while a published function runs: its panics are answers and print nothing.
-static ASKING: AtomicBool = AtomicBool::new(false);
+thread_local! {
+    /// Set while a published function runs: its panics are answers and print nothing.
+    static ASKING: Cell<bool> = const { Cell::new(false) };
+}
 
 pub fn quiet_while_asking() {
     let loud = take_hook();
     set_hook(Box::new(move |info| {
-        if !ASKING.load(Ordering::Relaxed) {
+        if !ASKING.get() {
             loud(info)
         }
     }));
 }
 
 /// The published function's answer; none if it panics or returns an error.
-fn ask<T>(call: impl FnOnce() -> Result<T>) -> Option<T> {
-    ASKING.store(true, Ordering::Relaxed);
+pub fn ask<T>(call: impl FnOnce() -> Result<T>) -> Option<T> {
+    ASKING.set(true);
     let answer = catch_unwind(AssertUnwindSafe(call));
-    ASKING.store(false, Ordering::Relaxed);
+    ASKING.set(false);
     answer.ok()?.ok()
 }
 
-fn bit_len(n: usize) -> usize {
+pub fn bit_len(n: usize) -> usize {
     (usize::BITS - n.leading_zeros()) as usize
 }
 
-fn basis_letter(b: Basis) -> char {
+pub fn basis_letter(b: Basis) -> char {
     match b {
         Basis::Monomial => 'M',
         Basis::Chebyshev => 'C',
     }
 }
 
-fn parity_letter(p: Parity) -> char {
+pub fn parity_letter(p: Parity) -> char {
     match p {
         Parity::Full => 'F',
         Parity::Even => 'E',
@@ -62,7 +63,7 @@ fn parity_letter(p: Parity) -> char {
     }
 }
 
-fn strategy_letter(s: SplitStrategy) -> char {
+pub fn strategy_letter(s: SplitStrategy) -> char {
     match s {
         SplitStrategy::MinDepth => 'D',
         SplitStrategy::MinMult => 'M',

@@ -168,7 +168,7 @@ pub fn shape_whole(parity: Parity, mut c: Vec<f64>) -> Vec<f64> {
     c
 }
 
-fn wrong(parity: Parity, i: usize) -> bool {
+pub fn wrong(parity: Parity, i: usize) -> bool {
     match parity {
         Parity::Full => false,
         Parity::Even => i % 2 == 1,

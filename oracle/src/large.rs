@@ -130,7 +130,7 @@ fn plan(r: &mut Rec, g: &mut Rng) {
 }
 
 /// A fold refuses `Full` unseen, so it is rare.
-fn foldable(g: &mut Rng) -> Parity {
+pub fn foldable(g: &mut Rng) -> Parity {
     if g.one_in(20) {
         Parity::Full
     } else {
@@ -138,7 +138,7 @@ fn foldable(g: &mut Rng) -> Parity {
     }
 }
 
-fn symmetric(g: &mut Rng, parity: Parity, n: usize) -> Vec<f64> {
+pub fn symmetric(g: &mut Rng, parity: Parity, n: usize) -> Vec<f64> {
     let c = floats(g, n);
     let mut c = shape(g, parity, c);
     let x = float(g, 3);
@@ -146,7 +146,7 @@ fn symmetric(g: &mut Rng, parity: Parity, n: usize) -> Vec<f64> {
     c
 }
 
-fn symmetric_whole(g: &mut Rng, parity: Parity, n: usize) -> Vec<f64> {
+pub fn symmetric_whole(g: &mut Rng, parity: Parity, n: usize) -> Vec<f64> {
     let mut c = whole(g, parity, n);
     // Only where the limit on the sum leaves room for one more.
     if c.iter().map(|x| x.abs()).sum::<f64>() < MAX_SUM as f64 {

@@ -1,6 +1,8 @@
 //! Records what the published planner answers, one call a line, and answers lines as `planlines` does; README.md has
-//! the formats.
+//! the formats. With the feature `both` it also compares the published planner with the proved library.
 
+#[cfg(feature = "both")]
+mod both;
 mod calls;
 mod curves;
 mod damaged;
@@ -41,6 +43,8 @@ fn main() {
         ["curves", count, seed] => {
             curves::write(number(count), number(seed), stdout().lock()).expect("lines")
         }
+        #[cfg(feature = "both")]
+        ["both", count, seed] => both::compare(number(count), number(seed)),
         ["walks"] => walked::check(stdin().lock()).expect("lines"),
         _ => usage(),
     }
@@ -54,5 +58,6 @@ fn folder(dir: &str) -> PathBuf {
 fn usage() -> ! {
     eprintln!("usage: oracle gate DIR | oracle large DIR COUNT SEED");
     eprintln!("       oracle lines < LINES | oracle curves COUNT SEED | oracle walks < LINES");
+    eprintln!("       oracle both COUNT SEED (with the feature both)");
     std::process::exit(2)
 }

@@ -289,7 +289,7 @@ impl Plan {
 }
 
 /// The number of slices of a degree at a base.
-fn slices(degree: usize, base: usize) -> usize {
+pub fn slices(degree: usize, base: usize) -> usize {
     if degree < base {
         return 1;
     }
