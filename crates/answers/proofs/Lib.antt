@@ -1,6 +1,6 @@
 mod InputLaws
 mod HeldLaws
-mod PieceLaws
+pub mod PieceLaws
 mod AnswerCases
 mod Rooms
 mod AnswerLaws

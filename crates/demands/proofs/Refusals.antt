@@ -3,7 +3,7 @@
 use mathlib.Core.Path.{_≡_, refl, sym, _∙_}
 use mathlib.Core.Bool.{Bool, true, false}
 use mathlib.Core.List.{List, [], _∷_, _++_}
-use Prim.Native.Nat.{ℕ, zero, suc, _*_, _<_}
+use Prim.Native.Nat.{ℕ, zero, suc, _*_}
 use native.Mathlib.Omega.{arith}
 use borrow.Author.Tests.{ltb-false, le-ltb}
 use lib.IntN.{ℤ}
@@ -12,7 +12,7 @@ use Rattle.algebra.specs.declared.Basis.{Basis}
 use Rattle.algebra.specs.declared.Parity.{Parity}
 use Rattle.number.specs.Refusal.{Test, firstRefusal, unlessRefused, Numbered}
 use Rattle.number.specs.Tests.{noRoom, noBoundaries, noSteps}
-use Rattle.number.proofs.Refusal.{none-holds}
+use Rattle.number.proofs.Refusal.{none-holds, first-of-more}
 use Rattle.counts.specs.declared.choice.SplitStrategy.{SplitStrategy}
 use Rattle.walk.specs.declared.plan.Head.{Head}
 use Rattle.plan.specs.PlanCall.{inputTests, Accepted, headFor, planRefusal}
@@ -20,18 +20,7 @@ use Rattle.demands.specs.Accepts.{LongEnough}
 
 -- ---- tests, and then others
 
--- if none of the first holds, the others decide
-pub after : (tests later : List Test) → Numbered tests → firstRefusal tests ≡ 0 → firstRefusal (tests ++ later) ≡ firstRefusal later
-after [] later numbers passed = refl
-after ((true, k) ∷ tests) later numbers passed = absurd (omega (arith, numbers .0))
-after ((false, k) ∷ tests) later numbers passed = after tests later (numbers .1) passed
-
--- if one of the first holds, it decides
-pub ahead : (tests later : List Test) → Numbered tests → 0 < firstRefusal tests → firstRefusal (tests ++ later) ≡ firstRefusal tests
-ahead [] later numbers refused = absurd (omega arith)
-ahead ((true, k) ∷ tests) later numbers refused = refl
-ahead ((false, k) ∷ tests) later numbers refused = ahead tests later (numbers .1) refused
-
+-- what passes all, passes the first of them
 pub first-passed : (tests later : List Test) → Numbered tests → firstRefusal (tests ++ later) ≡ 0 → firstRefusal tests ≡ 0
 first-passed [] later numbers passed = refl
 first-passed ((true, k) ∷ tests) later numbers passed = passed
@@ -60,7 +49,7 @@ module _ (strategy : SplitStrategy) (parity : Parity) (basis : Basis) (folded : 
 
   pub late-refusal : Accepted folded parity c → planRefusal strategy parity basis folded c out bounds steps ≡ firstRefusal bufferTests
   unfolding planRefusal
-  late-refusal accepted = after (inputTests folded parity c) bufferTests (inputs-numbered folded parity c) accepted
+  late-refusal accepted = first-of-more (inputTests folded parity c) bufferTests (inputs-numbered folded parity c) accepted
 
   buffers-pass : LongEnough strategy parity basis folded c out bounds steps → firstRefusal bufferTests ≡ 0
   buffers-pass long = rw (

@@ -1,5 +1,5 @@
 -- What is held while a block is taken part by part stands for the bytes taken so far: before the first part, one part more, and in the end for all.
-use mathlib.Core.Path.{_≡_, refl, ap, sym, _∙_}
+use mathlib.Core.Path.{_≡_, ap, sym, _∙_}
 use mathlib.Core.Bool.{Bool, true, false}
 use mathlib.Core.List.{List, [], append-nil}
 use Prim.Native.Nat.{ℕ, _+_, _-_, _≤_}
@@ -9,15 +9,11 @@ use lib.ListN.{length, take, length-take}
 use lib.Seq.{take-all, take-add}
 use Rattle.texts.specs.Put.{Put}
 use Rattle.answers.specs.Limits.{lineRoom, coefficientRoom, listRoom, stepRoom, textLimit, textRoom}
-use Rattle.answers.specs.InputLines.{noFeed}
 use Rattle.answers.specs.Turns.{heldOf, turnHeld}
 use Rattle.answers.specs.TakeTurn.{TurnRoom, partTaken}
 use Rattle.answers.specs.declared.turn.Turn.{Turn}
+use Rattle.answers.proofs.PieceLaws.{no-bytes}
 use Rattle.answers.proofs.Turns.{turn-held-append, turn-none}
-
-no-bytes : noFeed [] ≡ true
-unfolding noFeed
-no-bytes = refl
 
 -- nothing is said of what was not written
 pub unwritten : {X : Type 0} {written : Bool} → written ≡ false → written ≡ true → X

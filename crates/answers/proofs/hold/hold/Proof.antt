@@ -1,3 +1,5 @@
+-- `answers::hold::hold` meets its contract. The loop's invariant: behind the bytes that were held stand the first i of the new ones. In the end these are
+-- all of them, or as many as the buffer has places for.
 use mathlib.Core.Path.{_≡_, refl, ap, sym, _∙_}
 use mathlib.Core.List.{_++_}
 use Prim.Native.Nat.{ℕ, _+_, _-_, _≤_}
