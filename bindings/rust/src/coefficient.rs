@@ -51,66 +51,51 @@ impl Coefficient for f64 {
     }
 }
 
-impl Calls for i64 {
-    const ZERO: Self = 0;
-    const ONE: Self = 1;
-    const MINUS_ONE: Self = -1;
+// The calls of both types are the same, under two names each.
+macro_rules! calls {
+    ($type:ty, $zero:expr, $one:expr, $detect:path, $fold:path, $list:path) => {
+        impl Calls for $type {
+            const ZERO: Self = $zero;
+            const ONE: Self = $one;
+            const MINUS_ONE: Self = -$one;
 
-    fn detect(coeffs: &[Self]) -> Parity {
-        Parity::of(ffi::detect_parity(coeffs))
-    }
+            fn detect(coeffs: &[Self]) -> Parity {
+                Parity::of($detect(coeffs))
+            }
 
-    fn fold(parity: Parity, basis: Basis, coeffs: &[Self], out: &mut [Self]) -> CFolded {
-        ffi::fold_parity(parity.number(), basis.number(), coeffs, out)
-    }
+            fn fold(parity: Parity, basis: Basis, coeffs: &[Self], out: &mut [Self]) -> CFolded {
+                $fold(parity.number(), basis.number(), coeffs, out)
+            }
 
-    fn list(
-        strategy: SplitStrategy,
-        parity: Parity,
-        basis: Basis,
-        coeffs: &[Self],
-        out: &mut [Self],
-        boundaries: &mut [u16],
-    ) -> CListed {
-        ffi::decompose_bsgs(
-            strategy.number(),
-            parity.number(),
-            basis.number(),
-            coeffs,
-            out,
-            boundaries,
-        )
-    }
+            fn list(
+                strategy: SplitStrategy,
+                parity: Parity,
+                basis: Basis,
+                coeffs: &[Self],
+                out: &mut [Self],
+                boundaries: &mut [u16],
+            ) -> CListed {
+                let (strategy, parity, basis) =
+                    (strategy.number(), parity.number(), basis.number());
+                $list(strategy, parity, basis, coeffs, out, boundaries)
+            }
+        }
+    };
 }
 
-impl Calls for f64 {
-    const ZERO: Self = 0.0;
-    const ONE: Self = 1.0;
-    const MINUS_ONE: Self = -1.0;
-
-    fn detect(coeffs: &[Self]) -> Parity {
-        Parity::of(ffi::detect_parity_f64(coeffs))
-    }
-
-    fn fold(parity: Parity, basis: Basis, coeffs: &[Self], out: &mut [Self]) -> CFolded {
-        ffi::fold_parity_f64(parity.number(), basis.number(), coeffs, out)
-    }
-
-    fn list(
-        strategy: SplitStrategy,
-        parity: Parity,
-        basis: Basis,
-        coeffs: &[Self],
-        out: &mut [Self],
-        boundaries: &mut [u16],
-    ) -> CListed {
-        ffi::decompose_bsgs_f64(
-            strategy.number(),
-            parity.number(),
-            basis.number(),
-            coeffs,
-            out,
-            boundaries,
-        )
-    }
-}
+calls!(
+    i64,
+    0,
+    1,
+    ffi::detect_parity,
+    ffi::fold_parity,
+    ffi::decompose_bsgs
+);
+calls!(
+    f64,
+    0.0,
+    1.0,
+    ffi::detect_parity_f64,
+    ffi::fold_parity_f64,
+    ffi::decompose_bsgs_f64
+);

@@ -241,47 +241,9 @@ pub fn bsgs_consumed_bits(strategy: u8, degree: usize, input: usize, coeff: usiz
     unsafe { firrozun_bsgs_consumed_bits(strategy, degree, input, coeff) }
 }
 
-pub fn fold_parity(parity: u8, basis: u8, c: &[i64], out: &mut [i64]) -> CFolded {
-    // SAFETY: pointers and lengths are those of two slices that live through the call; `out` is borrowed alone.
-    unsafe {
-        firrozun_fold_parity(
-            parity,
-            basis,
-            c.as_ptr(),
-            c.len(),
-            out.as_mut_ptr(),
-            out.len(),
-        )
-    }
-}
-
-pub fn fold_parity_f64(parity: u8, basis: u8, c: &[f64], out: &mut [f64]) -> CFolded {
-    // SAFETY: pointers and lengths are those of two slices that live through the call; `out` is borrowed alone.
-    unsafe {
-        firrozun_fold_parity_f64(
-            parity,
-            basis,
-            c.as_ptr(),
-            c.len(),
-            out.as_mut_ptr(),
-            out.len(),
-        )
-    }
-}
-
 pub fn evaluate_coeffs(basis: u8, coeffs: &[f64], x: f64) -> CValue {
     // SAFETY: pointer and length are those of a slice that lives through the call, which only reads it.
     unsafe { firrozun_evaluate_coeffs(basis, coeffs.as_ptr(), coeffs.len(), x) }
-}
-
-pub fn detect_parity(c: &[i64]) -> u8 {
-    // SAFETY: pointer and length are those of a slice that lives through the call, which only reads it.
-    unsafe { firrozun_detect_parity(c.as_ptr(), c.len()) }
-}
-
-pub fn detect_parity_f64(c: &[f64]) -> u8 {
-    // SAFETY: pointer and length are those of a slice that lives through the call, which only reads it.
-    unsafe { firrozun_detect_parity_f64(c.as_ptr(), c.len()) }
 }
 
 pub fn change_of_basis(basis: u8, a: f64, b: f64) -> CInterval {
@@ -311,53 +273,49 @@ pub fn chebyshev_interpolate(
     }
 }
 
-pub fn decompose_bsgs(
-    strategy: u8,
-    parity: u8,
-    basis: u8,
-    c: &[i64],
-    out: &mut [i64],
-    bounds: &mut [u16],
-) -> CListed {
-    // SAFETY: pointers and lengths are those of three slices that live through the call; what is written is borrowed alone.
-    unsafe {
-        firrozun_decompose_bsgs(
-            strategy,
-            parity,
-            basis,
-            c.as_ptr(),
-            c.len(),
-            out.as_mut_ptr(),
-            out.len(),
-            bounds.as_mut_ptr(),
-            bounds.len(),
-        )
-    }
+// The calls that there are for whole numbers and for f64, under two names each.
+macro_rules! calls_on {
+    ($type:ty, $detect:ident $c_detect:ident, $fold:ident $c_fold:ident, $list:ident $c_list:ident) => {
+        pub fn $detect(c: &[$type]) -> u8 {
+            // SAFETY: pointer and length are those of a slice that lives through the call, which only reads it.
+            unsafe { $c_detect(c.as_ptr(), c.len()) }
+        }
+
+        pub fn $fold(parity: u8, basis: u8, c: &[$type], out: &mut [$type]) -> CFolded {
+            let (to, room) = (out.as_mut_ptr(), out.len());
+            // SAFETY: pointers and lengths are those of two slices that live through the call; `out` is borrowed alone.
+            unsafe { $c_fold(parity, basis, c.as_ptr(), c.len(), to, room) }
+        }
+
+        pub fn $list(
+            strategy: u8,
+            parity: u8,
+            basis: u8,
+            c: &[$type],
+            out: &mut [$type],
+            bounds: &mut [u16],
+        ) -> CListed {
+            let (from, count) = (c.as_ptr(), c.len());
+            let (to, room) = (out.as_mut_ptr(), out.len());
+            let (ends, places) = (bounds.as_mut_ptr(), bounds.len());
+            // SAFETY: pointers and lengths are those of three slices that live through the call; what is written is borrowed alone.
+            unsafe { $c_list(strategy, parity, basis, from, count, to, room, ends, places) }
+        }
+    };
 }
 
-pub fn decompose_bsgs_f64(
-    strategy: u8,
-    parity: u8,
-    basis: u8,
-    c: &[f64],
-    out: &mut [f64],
-    bounds: &mut [u16],
-) -> CListed {
-    // SAFETY: pointers and lengths are those of three slices that live through the call; what is written is borrowed alone.
-    unsafe {
-        firrozun_decompose_bsgs_f64(
-            strategy,
-            parity,
-            basis,
-            c.as_ptr(),
-            c.len(),
-            out.as_mut_ptr(),
-            out.len(),
-            bounds.as_mut_ptr(),
-            bounds.len(),
-        )
-    }
-}
+calls_on!(
+    i64,
+    detect_parity firrozun_detect_parity,
+    fold_parity firrozun_fold_parity,
+    decompose_bsgs firrozun_decompose_bsgs
+);
+calls_on!(
+    f64,
+    detect_parity_f64 firrozun_detect_parity_f64,
+    fold_parity_f64 firrozun_fold_parity_f64,
+    decompose_bsgs_f64 firrozun_decompose_bsgs_f64
+);
 
 /// The plan call's settings as the library takes them.
 #[derive(Clone, Copy)]
