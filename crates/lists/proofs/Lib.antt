@@ -2,6 +2,7 @@ pub mod TreeRule
 pub mod TreeFacts
 pub mod SumByLength
 pub mod Arranging
+pub mod FullTrees
 mod Counting
 mod ListedAgain
 pub mod Shape

@@ -6,7 +6,7 @@ use number::power_of_two;
 use number::top_power;
 ghost use mathlib.Core.Path.{_≡_};
 ghost use mathlib.Core.Bool.{_&&_};
-ghost use Prim.Native.Nat.{_<_, _^_};
+ghost use Prim.Native.Nat.{_-_, _≤_, _<_, _^_};
 ghost use Rattle.number.specs.Bits.{bitLen};
 ghost use Rattle.number.specs.Limits.{planLimit};
 ghost use Rattle.number.specs.inside.Between.{Between};
@@ -49,6 +49,14 @@ pub fn listed_again(leading: bool, whole: usize, degree: usize, split: usize) ->
     power_of_two(bit_len(whole)) < whole + power_of_two(split - 1)
 }
 
+// The number of lists of the low part of a degree from the base on: each is as long as the base.
+pub fn low_lists(degree: usize, split: usize) -> usize
+    requires { ⌜ (2 ^ split ≤ degree) × (degree ≤ planLimit) ⌝ }
+    ensures { λ r. ⌜ r ≡ 2 ^ (bitLen degree - 1 - split) ⌝ }
+{
+    power_of_two(bit_len(degree) - 1 - split)
+}
+
 // The number of lists of a part of a degree, at a split.
 pub fn count_lists(leading: bool, whole: usize, degree: usize, split: usize) -> usize
     requires { ⌜ Ranges whole degree split ⌝ }
@@ -59,7 +67,7 @@ pub fn count_lists(leading: bool, whole: usize, degree: usize, split: usize) -> 
         return count_slice(leading, whole, degree, split);
     }
     let p = top_power(degree);
-    let low = count_lists(false, whole, p - 1, split);
+    let low = low_lists(degree, split);
     let high = count_lists(leading, whole, degree - p, split);
     low + high
 }

@@ -13,6 +13,7 @@ pub use whole::decompose_bsgs;
 // What serves planning, which calls it within its ranges.
 pub use count::count_lists;
 pub use count::listed_again;
+pub use count::low_lists;
 pub use count::relists;
 pub use count::smaller_split;
 pub use whole::copy_coeffs;

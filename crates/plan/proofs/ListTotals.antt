@@ -1,24 +1,27 @@
 -- The totals of the lists of a tree: of one list, of a slice listed again, and of a cut from its parts'. Lists and allowed powers together are at
 -- most the coefficients.
-use mathlib.Core.Path.{_≡_, _∙_}
+use mathlib.Core.Path.{_≡_, refl, ap, sym, _∙_}
 use mathlib.Core.Bool.{Bool, true, false, _&&_}
 use mathlib.Core.List.{List, [], _∷_, _++_}
-use Prim.Native.Nat.{ℕ, suc, _+_, _-_, _^_, _≤_, _<_}
+use Prim.Native.Nat.{ℕ, zero, suc, _+_, _-_, _*_, _^_, _≤_, _<_}
+use native.Mathlib.Nat.{add-mul, two-pow-succ}
 use native.Mathlib.Omega.{arith}
 use lib.Pow.{pow-pos}
 use Rattle.algebra.specs.declared.Parity.{Parity}
 use Rattle.number.specs.Bits.{bitLen, topPower}
 use Rattle.number.proofs.Bits.{top-power}
+use Rattle.needed.proofs.BaseLaws.{split-under}
 use Rattle.counts.specs.MinDepth.{minDepth}
 use Rattle.counts.specs.PlainCount.{allowedTo}
 use Rattle.counts.proofs.PlainCount.{allowed-at-most}
 use Rattle.lists.specs.Tree.{Tree, leaf, cut, listedAgain, treeOf}
 use Rattle.lists.specs.Arrange.{leavesOf, lengthsOf}
 use Rattle.lists.proofs.TreeRule.{Again, tree-leaf, tree-again, tree-cut, tree-holds}
+use Rattle.lists.proofs.FullTrees.{full, full-one, full-halves, low-leaves}
 use Rattle.lists.proofs.Arranging.{some-leaves}
 use Rattle.plan.specs.PlanSteps.{lastLength}
 use Rattle.plan.specs.Reported.{allowedIn}
-use Rattle.plan.specs.inside.Outlines.{totalsOf}
+use Rattle.plan.specs.inside.Outlines.{totalsOf, lowTotals}
 use Rattle.plan.specs.declared.outline.Totals.{Totals}
 
 allowed-append : (parity : Parity) (low high : List ℕ) → allowedIn parity (low ++ high) ≡ allowedIn parity low + allowedIn parity high
@@ -64,6 +67,49 @@ pub totals-range : {totals : Totals} (leading : Bool) (parity : Parity) (whole d
 unfolding totalsOf
 totals-range leading parity whole degree split is =
     rw is (record { nonempty = some-leaves (treeOf leading whole degree split); at-most = totals-most parity leading whole degree split })
+
+-- ---- the totals of a low part
+
+module _ (whole split : ℕ) where
+  -- half of the coefficients
+  half : (j : ℕ) → 2 ^ (suc j + split) - 2 ^ (j + split) ≡ 2 ^ (j + split)
+  half j =
+      let exponent : suc j + split ≡ suc (j + split) = omega arith in
+      rw exponent (omega (arith, two-pow-succ (j + split)))
+
+  full-allowed : (parity : Parity) (j : ℕ)
+      → 2 ^ j * allowedTo parity (2 ^ split - 1) ≡ allowedIn parity (lengthsOf (full whole split j) (2 ^ (j + split)))
+  unfolding lengthsOf allowedIn
+  full-allowed parity zero =
+      let base : 0 + split ≡ split = omega arith in
+      rw (full-one whole split, base) (omega arith)
+  full-allowed parity (suc j) =
+      let lengths = lengthsOf (full whole split j) (2 ^ (j + split)) in
+      let doubles : 2 ^ suc j ≡ 2 ^ j + 2 ^ j = omega (arith, two-pow-succ j) in
+      let each = full-allowed parity j in
+      rw (full-halves whole split j, half j, allowed-append parity lengths lengths, doubles, add-mul (2 ^ j) (2 ^ j) (allowedTo parity (2 ^ split - 1)))
+      (omega arith)
+
+  full-last : (j : ℕ) → 2 ^ split ≡ lastLength (full whole split j) (2 ^ (j + split))
+  unfolding lastLength
+  full-last zero =
+      let base : 0 + split ≡ split = omega arith in
+      rw (full-one whole split, base)
+  full-last (suc j) =
+      full-last j
+      ∙ ap (lastLength (full whole split j)) (sym (half j))
+      ∙ ap (λ (tree : Tree). lastLength tree (2 ^ (suc j + split))) (sym (full-halves whole split j))
+
+pub low-totals : {p : ℕ} {low : Totals} (parity : Parity) (whole degree split : ℕ) → 2 ^ split ≤ degree → p ≡ topPower degree
+    → low ≡ lowTotals parity degree split → low ≡ totalsOf parity (treeOf false whole (p - 1) split) (suc (p - 1))
+unfolding totalsOf lowTotals topPower
+low-totals {p} parity whole degree split from p-is low-is =
+    let j = bitLen degree - 1 - split in
+    let exponent : bitLen degree - 1 ≡ j + split = omega (arith, split-under degree split from) in
+    let power : p ≡ 2 ^ (j + split) = p-is ∙ ap (λ (k : ℕ). 2 ^ k) exponent in
+    let leaves = low-leaves {p = p} {lists = 2 ^ j} whole degree split from p-is refl in
+    let size : suc (2 ^ (j + split) - 1) ≡ 2 ^ (j + split) = omega (arith, pow-pos (j + split)) in
+    rw (← leaves, power, size, ← full-allowed whole split parity j, ← full-last whole split j) low-is
 
 -- ---- totals
 

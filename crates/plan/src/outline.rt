@@ -3,6 +3,7 @@ use counts::SplitStrategy;
 use counts::allowed_to;
 use counts::split_for_strategy;
 use lists::listed_again;
+use lists::low_lists;
 use lists::relists;
 use lists::smaller_split;
 use needed::count_needed;
@@ -12,14 +13,14 @@ use number::power_of_two;
 use number::top_power;
 ghost use mathlib.Core.Path.{_≡_};
 ghost use mathlib.Core.Bool.{_&&_};
-ghost use Prim.Native.Nat.{suc, _<_, _^_};
+ghost use Prim.Native.Nat.{suc, _≤_, _<_, _^_};
 ghost use lib.Dec.{eqb};
 ghost use Rattle.number.specs.Bits.{isPowerOfTwo};
 ghost use Rattle.number.specs.Limits.{planLimit};
 ghost use Rattle.number.specs.inside.Between.{Between};
 ghost use Rattle.lists.specs.Tree.{treeOf};
 ghost use Rattle.lists.specs.inside.Listing.{Ranges};
-ghost use Rattle.plan.specs.inside.Outlines.{totalsOf, outlineFor};
+ghost use Rattle.plan.specs.inside.Outlines.{totalsOf, lowTotals, outlineFor};
 
 // How many lists, the allowed powers from 1 up over all of them, and the length of the last.
 pub struct Totals {
@@ -35,6 +36,21 @@ pub struct Outline {
     pub powers: usize,
     pub lists: usize,
     pub pt: usize,
+}
+
+// The totals of the low part of a degree from the base on.
+fn total_low(parity: Parity, degree: usize, split: usize) -> Totals
+    requires { ⌜ (2 ^ split ≤ degree) × (degree ≤ planLimit) ⌝ }
+    ensures { λ r. ⌜ r ≡ lowTotals parity degree split ⌝ }
+{
+    let base = power_of_two(split);
+    let lists = low_lists(degree, split);
+    let each = allowed_to(parity, base - 1);
+    Totals {
+        lists,
+        pt: lists * each,
+        last: base,
+    }
 }
 
 // The totals of a part of a degree, at a split.
@@ -53,7 +69,7 @@ pub fn total_lists(
         return total_slice(leading, parity, whole, degree, split);
     }
     let p = top_power(degree);
-    let low = total_lists(false, parity, whole, p - 1, split);
+    let low = total_low(parity, degree, split);
     let high = total_lists(leading, parity, whole, degree - p, split);
     Totals {
         lists: low.lists + high.lists,

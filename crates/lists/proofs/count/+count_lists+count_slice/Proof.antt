@@ -1,5 +1,5 @@
--- `lists::count::count_lists` and `count_slice` meet their contracts: the number of lists of a cut is the sum of its parts', and a slice has one, or those
--- at the smaller split. Degree and split in one weighted number fall at each call.
+-- `lists::count::count_lists` and `count_slice` meet their contracts: the number of lists of a cut is the sum of its parts', where the low part is
+-- cut in halves down to the base; and a slice has one, or those at the smaller split. Degree and split in one weighted number fall at each call.
 use mathlib.Core.Path.{_≡_, sym, _∙_}
 use mathlib.Core.Bool.{true, false}
 use Prim.Native.Nat.{ℕ, _+_, _-_, _*_, _^_, _<_, _≤_}
@@ -10,8 +10,11 @@ use borrow.Fn.PlainCycle.{Measures, is, falls, and}
 use lib.Pow.{pow-pos}
 use Rattle.number.specs.Bits.{topPower}
 use Rattle.number.proofs.Bits.{Top, top-power}
+use Rattle.lists.specs.Tree.{treeOf}
+use Rattle.lists.specs.Arrange.{leavesOf}
 use Rattle.lists.proofs.TreeRule.{Again, leading-again}
 use Rattle.lists.proofs.Arranging.{leaves-most}
+use Rattle.lists.proofs.FullTrees.{low-leaves}
 use Rattle.lists.proofs.Counting.{counted-cut, counted-again, counted-one}
 use Rattle.lists.proofs.count.count_lists.Reads as counter-reads
 use Rattle.lists.proofs.count.count_lists.Kinds as counter-kinds
@@ -21,6 +24,7 @@ use Rattle.lists.proofs.count.count_slice.Kinds as slicer-kinds
 use Rattle.lists.proofs.count.+count_lists+count_slice.Lts-count_slice as slicer
 use Rattle.number.proofs.power_of_two.Reads as power-of-two-reads
 use Rattle.number.proofs.top_power.Reads as top-power-reads
+use Rattle.lists.proofs.count.low_lists.Reads as low-lists-reads
 use Rattle.lists.proofs.count.listed_again.Reads as listed-again-reads
 use Rattle.lists.proofs.count.smaller_split.Reads as smaller-split-reads
 use Rattle.lists.proofs.count.+count_lists+count_slice.{statement}
@@ -57,6 +61,8 @@ counter-calls t = (
   slicer-reads.Post,
   top-power-reads.Asked,
   top-power-reads.Learnt,
+  low-lists-reads.Asked,
+  low-lists-reads.Learnt,
   counter-below t,
   counter-reads.Post,
 )
@@ -96,38 +102,43 @@ module _ (t : ℕ) where
       let start = c .before .before in
       omega (arith, pow-pos (start .args .split))
 
+  counter-low-lists-requires : counter.Need-low-lists-requires (counter-calls t) (counter-at t) counter-reads.Post
+  counter-low-lists-requires c κs = (from-base (c .before), c .before .before .before .pre .1 .part-limit)
+
   counter-sub-count-lists : counter.Need-sub-count-lists (counter-calls t) (counter-at t) counter-reads.Post
-  counter-sub-count-lists c =
-      omega (arith, bounds (c .before))
+  counter-sub-count-lists c = omega (arith, bounds (c .before .before))
 
   counter-count-lists-requires : counter.Need-count-lists-requires (counter-calls t) (counter-at t) counter-reads.Post
   counter-count-lists-requires c κs =
-      let below = bounds (c .before) in
-      (omega arith, record { positive = omega arith; whole-limit = omega arith; part-limit = omega arith; split-limit = omega arith })
-
-  counter-sub-count-lists-2 : counter.Need-sub-count-lists-2 (counter-calls t) (counter-at t) counter-reads.Post
-  counter-sub-count-lists-2 c =
-      omega (arith, bounds (c .before .before))
-
-  counter-count-lists-requires-2 : counter.Need-count-lists-requires-2 (counter-calls t) (counter-at t) counter-reads.Post
-  counter-count-lists-requires-2 c κs =
       let below = bounds (c .before .before) in
       (omega arith, record { positive = omega arith; whole-limit = omega arith; part-limit = omega arith; split-limit = omega arith })
+
+  -- the lists of the low part
+  low-part : (c : counter.After-count-lists (counter-calls t) (counter-at t) counter-reads.Post)
+      → c .before .low-lists .result
+      ≡ leavesOf (treeOf false (c .before .before .before .before .before .args .whole) (c .before .before .top-power .result - 1)
+      (c .before .before .before .before .before .args .split))
+  low-part c =
+      let test = c .before .before .before in
+      let start = test .before .before in
+      low-leaves (start .args .whole) (start .args .degree) (start .args .split) (from-base test) (c .before .before .top-power .ensures)
+      (c .before .low-lists .ensures)
 
   counter-add-result : counter.Need-add-result (counter-calls t) (counter-at t) counter-reads.Post
   counter-add-result c =
       let test = c .before .before .before in
       let start = test .before .before in
-      let low = leaves-most false (start .args .whole) (c .before .before .top-power .result - 1) (start .args .split) in
-      let high = leaves-most (start .args .leading) (start .args .whole) (start .args .degree - c .before .before .top-power .result) (start .args .split) in
-      omega (arith, bounds test)
+      let p = c .before .before .top-power .result in
+      let low = leaves-most false (start .args .whole) (p - 1) (start .args .split) in
+      let high = leaves-most (start .args .leading) (start .args .whole) (start .args .degree - p) (start .args .split) in
+      omega (arith, bounds test, low-part c)
 
   counter-returns-2 : counter.Need-returns-2 (counter-calls t) (counter-at t) counter-reads.Post
   counter-returns-2 c =
       let test = c .before .before .before in
       let start = test .before .before in
       counted-cut (start .args .leading) (start .args .whole) (start .args .degree) (start .args .split) (c .before .before .top-power .result)
-      (from-base test) (c .before .before .top-power .ensures) (c .before .count-lists .ensures) (c .count-lists2 .ensures)
+      (from-base test) (c .before .before .top-power .ensures) (low-part c) (c .count-lists .ensures)
 
   slicer-listed-again-requires : slicer.Need-listed-again-requires (slicer-calls t) (slicer-at t) slicer-reads.Post
   slicer-listed-again-requires c κs = search needs
@@ -164,8 +175,8 @@ pub +count-lists+count-slice-spec : {M : Type 1} → statement M
     (λ t.
     counter.spec
     (counter-calls t) (counter-at t) counter-reads.Post (counter-power-of-two-requires t) (counter-count-slice-requires t) (counter-returns t)
-    (counter-top-power-requires t) (counter-sub-count-lists t) (counter-count-lists-requires t) (counter-sub-count-lists-2 t)
-    (counter-count-lists-requires-2 t) (counter-add-result t) (counter-returns-2 t))
+    (counter-top-power-requires t) (counter-low-lists-requires t) (counter-sub-count-lists t) (counter-count-lists-requires t) (counter-add-result t)
+    (counter-returns-2 t))
     (λ t.
     slicer.spec
     (slicer-calls t) (slicer-at t) slicer-reads.Post (slicer-listed-again-requires t) (slicer-smaller-split-requires t)

@@ -1,5 +1,6 @@
--- `plan::outline::total_lists` and `total_slice` meet their contracts: a cut has the sums of its parts' totals and the last list of high; a slice has
--- the totals of one list, or those at the smaller split. Degree and split in one weighted number fall at each call.
+-- `plan::outline::total_lists` and `total_slice` meet their contracts: a cut has the sums of its parts' totals and the last list of high, where the low
+-- part is cut in halves down to the base; a slice has the totals of one list, or those at the smaller split. Degree and split in one weighted
+-- number fall at each call.
 use mathlib.Core.Bool.{true, false}
 use mathlib.Core.Path.{_≡_, sym, _∙_}
 use Prim.Native.Nat.{ℕ, suc, _+_, _-_, _*_, _^_, _≤_, _<_}
@@ -10,8 +11,10 @@ use borrow.Fn.PlainCycle.{Measures, is, falls, and}
 use lib.Pow.{pow-pos}
 use Rattle.number.proofs.Bits.{Top, top-power}
 use Rattle.number.specs.Bits.{topPower}
+use Rattle.lists.specs.Tree.{treeOf}
 use Rattle.lists.proofs.TreeRule.{Again, leading-again}
-use Rattle.plan.proofs.ListTotals.{totals-cut, totals-again, totals-one, totals-range}
+use Rattle.plan.specs.inside.Outlines.{totalsOf}
+use Rattle.plan.proofs.ListTotals.{totals-cut, totals-again, totals-one, totals-range, low-totals}
 use Rattle.plan.proofs.outline.+total_lists+total_slice.{statement}
 use Rattle.plan.proofs.outline.+total_lists+total_slice.Tie.{close}
 use Rattle.number.proofs.power_of_two.Reads as power-of-two-reads
@@ -19,6 +22,7 @@ use Rattle.number.proofs.top_power.Reads as top-power-reads
 use Rattle.counts.proofs.allowed_to.Reads as allowed-to-reads
 use Rattle.lists.proofs.listed_again.Reads as listed-again-reads
 use Rattle.lists.proofs.smaller_split.Reads as smaller-split-reads
+use Rattle.plan.proofs.outline.total_low.Reads as total-low-reads
 use Rattle.plan.proofs.outline.total_lists.Reads as total-lists
 use Rattle.plan.proofs.outline.total_lists.Kinds as total-lists-kinds
 use Rattle.plan.proofs.outline.+total_lists+total_slice.Lts-total_lists as total-lists-lts
@@ -57,6 +61,8 @@ total-lists-calls t = (
   total-slice.Post,
   top-power-reads.Asked,
   top-power-reads.Learnt,
+  total-low-reads.Asked,
+  total-low-reads.Learnt,
   total-lists-below t,
   total-lists.Post,
 )
@@ -104,33 +110,41 @@ module _ (t : ℕ) where
       let start = c .before .before in
       omega (arith, from-base c, pow-pos (start .args .split))
 
+  total-lists-total-low-requires : total-lists-lts.Need-total-low-requires (total-lists-calls t) (total-lists-at t) total-lists.Post
+  total-lists-total-low-requires c κs = (from-base (c .before), c .before .before .before .pre .1 .part-limit)
+
   total-lists-sub-total-lists : total-lists-lts.Need-sub-total-lists (total-lists-calls t) (total-lists-at t) total-lists.Post
-  total-lists-sub-total-lists c = omega (arith, bounds (c .before))
+  total-lists-sub-total-lists c = omega (arith, bounds (c .before .before))
 
   total-lists-total-lists-requires : total-lists-lts.Need-total-lists-requires (total-lists-calls t) (total-lists-at t) total-lists.Post
   total-lists-total-lists-requires c κs =
-      let below = bounds (c .before) in
-      (omega arith, record { positive = omega arith; whole-limit = omega arith; part-limit = omega arith; split-limit = omega arith })
-
-  total-lists-sub-total-lists-2 : total-lists-lts.Need-sub-total-lists-2 (total-lists-calls t) (total-lists-at t) total-lists.Post
-  total-lists-sub-total-lists-2 c = omega (arith, bounds (c .before .before))
-
-  total-lists-total-lists-requires-2 : total-lists-lts.Need-total-lists-requires-2 (total-lists-calls t) (total-lists-at t) total-lists.Post
-  total-lists-total-lists-requires-2 c κs =
       let below = bounds (c .before .before) in
       (omega arith, record { positive = omega arith; whole-limit = omega arith; part-limit = omega arith; split-limit = omega arith })
 
+  -- the totals of the low part
+  low-part : (c : total-lists-lts.After-total-lists (total-lists-calls t) (total-lists-at t) total-lists.Post)
+      → c .before .total-low .result
+      ≡ totalsOf (c .before .before .before .before .before .args .parity)
+      (treeOf false (c .before .before .before .before .before .args .whole) (c .before .before .top-power .result - 1)
+      (c .before .before .before .before .before .args .split))
+      (suc (c .before .before .top-power .result - 1))
+  low-part c =
+      let at-if1 = c .before .before .before in
+      let entry = at-if1 .before .before in
+      low-totals (entry .args .parity) (entry .args .whole) (entry .args .degree) (entry .args .split) (from-base at-if1)
+      (c .before .before .top-power .ensures) (c .before .total-low .ensures)
+
   -- lists and allowed powers of both parts together are at most the coefficients
-  both-most : (c : total-lists-lts.After-total-lists2 (total-lists-calls t) (total-lists-at t) total-lists.Post)
-      → c .before .total-lists .result .lists + c .before .total-lists .result .pt + c .total-lists2 .result .lists + c .total-lists2 .result .pt
+  both-most : (c : total-lists-lts.After-total-lists (total-lists-calls t) (total-lists-at t) total-lists.Post)
+      → c .before .total-low .result .lists + c .before .total-low .result .pt + c .total-lists .result .lists + c .total-lists .result .pt
       ≤ suc (c .before .before .before .before .before .args .degree)
   both-most c =
       let p = c .before .before .top-power .result in
       let at-if1 = c .before .before .before in
       let entry = at-if1 .before .before in
-      let low = totals-range false (entry .args .parity) (entry .args .whole) (p - 1) (entry .args .split) (c .before .total-lists .ensures) in
+      let low = totals-range false (entry .args .parity) (entry .args .whole) (p - 1) (entry .args .split) (low-part c) in
       let high = totals-range (entry .args .leading) (entry .args .parity) (entry .args .whole) (entry .args .degree - p) (entry .args .split)
-      (c .total-lists2 .ensures) in
+      (c .total-lists .ensures) in
       omega (arith, bounds at-if1, c .before .before .top-power .ensures, low .at-most, high .at-most)
 
   total-lists-add-t11 : total-lists-lts.Need-add-t11 (total-lists-calls t) (total-lists-at t) total-lists.Post
@@ -140,19 +154,18 @@ module _ (t : ℕ) where
 
   total-lists-add-t12 : total-lists-lts.Need-add-t12 (total-lists-calls t) (total-lists-at t) total-lists.Post
   total-lists-add-t12 c =
-      let at-total-lists2 = c .before .before .before .before in
-      let entry = at-total-lists2 .before .before .before .before .before in
-      omega (arith, both-most at-total-lists2, entry .pre .1 .part-limit)
+      let at-total-lists = c .before .before .before .before in
+      let entry = at-total-lists .before .before .before .before .before in
+      omega (arith, both-most at-total-lists, entry .pre .1 .part-limit)
 
   total-lists-returns-2 : total-lists-lts.Need-returns-2 (total-lists-calls t) (total-lists-at t) total-lists.Post
   total-lists-returns-2 c =
-      let at-total-lists2 = c .before .before .before .before in
-      let at-total-lists = at-total-lists2 .before in
-      let at-top-power = at-total-lists .before in
+      let at-total-lists = c .before .before .before .before in
+      let at-top-power = at-total-lists .before .before in
       let at-if1 = at-top-power .before in
       let entry = at-if1 .before .before in
       totals-cut (entry .args .leading) (entry .args .parity) (entry .args .whole) (entry .args .degree) (entry .args .split) (from-base at-if1)
-      (at-top-power .top-power .ensures) (at-total-lists .total-lists .ensures) (at-total-lists2 .total-lists2 .ensures)
+      (at-top-power .top-power .ensures) (low-part at-total-lists) (at-total-lists .total-lists .ensures)
 
   total-slice-listed-again-requires : total-slice-lts.Need-listed-again-requires (total-slice-calls t) (total-slice-at t) total-slice.Post
   total-slice-listed-again-requires c κs = search needs
@@ -193,9 +206,9 @@ pub +total-lists+total-slice-spec : {M : Type 1} → statement M
     μ-total-lists
     μ-total-slice
     (λ t. total-lists-lts.spec (total-lists-calls t) (total-lists-at t) total-lists.Post (total-lists-power-of-two-requires t)
-    (total-lists-total-slice-requires t) (total-lists-returns t) (total-lists-top-power-requires t) (total-lists-sub-total-lists t)
-    (total-lists-total-lists-requires t) (total-lists-sub-total-lists-2 t) (total-lists-total-lists-requires-2 t) (total-lists-add-t11 t)
-    (total-lists-add-t12 t) (total-lists-returns-2 t))
+    (total-lists-total-slice-requires t) (total-lists-returns t) (total-lists-top-power-requires t) (total-lists-total-low-requires t)
+    (total-lists-sub-total-lists t) (total-lists-total-lists-requires t) (total-lists-add-t11 t) (total-lists-add-t12 t)
+    (total-lists-returns-2 t))
     (λ t. total-slice-lts.spec (total-slice-calls t) (total-slice-at t) total-slice.Post (total-slice-listed-again-requires t)
     (total-slice-smaller-split-requires t) (total-slice-total-lists-requires t) (total-slice-returns t) (total-slice-allowed-to-requires t)
     (total-slice-add-t9 t) (total-slice-returns-2 t))
