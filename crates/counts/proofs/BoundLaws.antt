@@ -25,8 +25,8 @@ use Rattle.needed.proofs.Flags.{by-test}
 use Rattle.needed.proofs.Needed.{allowed-needed}
 use Rattle.needed.proofs.NeededMarks.{marked-needed}
 use Rattle.needed.proofs.NeededList.{needed-counted}
-use Rattle.needed.proofs.PlaceLaws.{count-take, count-place}
-use Rattle.needed.proofs.BaseLaws.{count-marked, needed-from-base}
+use Rattle.needed.proofs.PlaceLaws.{count-take, count-place, count-marked}
+use Rattle.needed.proofs.BaseLaws.{needed-from-base}
 use Rattle.counts.proofs.SliceRule.{no-digits, slices-one, slices-cut}
 use Rattle.counts.proofs.PairLaws.{plain-two, plain-power}
 

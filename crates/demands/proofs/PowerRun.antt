@@ -22,25 +22,14 @@ use Rattle.number.specs.Limits.{planLimit}
 use Rattle.number.specs.Split.{partsOf}
 use Rattle.number.proofs.SplitParts.{parted, split-accepted}
 use Rattle.needed.specs.Needed.{partsDistance, first, second, apart, Closed}
-use Rattle.needed.specs.Promises.{Rising, empty, next}
+use Rattle.needed.specs.Promises.{Rising}
+use Rattle.needed.proofs.RisingLists.{rising-from, rising-rest}
 use Rattle.walk.specs.Rules.{exactRules}
 use Rattle.walk.specs.State.{Powers, Lists}
 use Rattle.walk.specs.Make.{isMakeable, withPower, firstPowers, powerFrom, makeOf}
 use Rattle.walk.specs.Walk.{actOf, stepOf, runOf}
 use Rattle.walk.specs.declared.plan.Step.{Step}
 use Rattle.plan.specs.PlanSteps.{makeStep}
-
--- ---- rising lists
-
-rising-from : (n m : ℕ) (ns : List ℕ) → Rising (n ∷ ns) → List·Memᴰ m ns → n < m
-rising-from n m [] rising member = absurd (List·Memᴰ·not-nil member)
-rising-from n m (k ∷ ns) (next less rising) member =
-    ⊎-elim (λ (here : m ≡ k). omega arith) (λ (later : List·Memᴰ m ns). let more = rising-from k m ns rising later in omega arith)
-    (List·Memᴰ·cases-cons member)
-
-rising-rest : (n : ℕ) (ns : List ℕ) → Rising (n ∷ ns) → Rising ns
-rising-rest n [] rising = empty
-rising-rest n (k ∷ ns) (next less rising) = rising
 
 -- ---- the values of powers
 

@@ -1,68 +1,28 @@
 -- A degree from the base on needs what base − 1 needs, and the powers of two from the base on. Above the base only the top power is needed at
 -- once, and the only part of a power of two is its half.
 use mathlib.Core.Path.{_≡_, refl, sym, ap, _∙_, subst}
-use mathlib.Core.Bool.{Bool, true, false, cond}
-use mathlib.Core.Logic.{_⊎_, inl, inr}
-use mathlib.Core.List.{List}
+use mathlib.Core.Logic.{_⊎_, inl, inr, ⊎-elim}
+use mathlib.Core.List.{List, _∷_, _++_, List·Memᴰ, List·Memᴰ·head, List·Memᴰ·tail, List·Memᴰ·not-nil, List·Memᴰ·cases-cons}
+use mathlib.Core.List.{List·Memᴰ·append-cases, Memᴰ·cast, Memᴰ·append-left, Memᴰ·append-right}
 use Prim.Native.Nat.{ℕ, zero, suc, _+_, _-_, _/_, _^_, _≤_, _<_}
 use native.Mathlib.Nat.{two-pow-succ, eq-or-lt-of-le, lt-of-not-le}
-use native.Mathlib.Decide.{decLe}
 use native.Mathlib.Omega.{arith}
-use lib.ListN.{length, getD, take}
-use lib.Pow.{pow-mono, pow-lt, pow-pos}
-use lib.Seq.{take-all}
+use lib.ListN.{length, length-append}
+use lib.Pow.{pow-mono, pow-lt}
 use Rattle.algebra.specs.declared.Basis.{Basis}
 use Rattle.algebra.specs.declared.Parity.{Parity}
 use Rattle.number.specs.Bits.{bitLen, topPower}
 use Rattle.number.specs.Split.{partsOf}
 use Rattle.number.specs.inside.Between.{Between}
 use Rattle.needed.specs.Needed.{Part, first, second, apart, target, part, Target, top, small, NeededPower}
-use Rattle.needed.specs.NeededList.{neededCount}
+use Rattle.needed.specs.NeededList.{neededList, neededCount}
+use Rattle.needed.specs.Promises.{Rising, empty, single, next}
 use Rattle.needed.specs.inside.Planned.{Planned}
-use Rattle.needed.specs.inside.Marks.{Marked, neededMarks, countMarks}
-use Rattle.number.proofs.Bits.{len-above, len-unique, is-power, top-power}
-use Rattle.needed.proofs.Needed.{needed-least, part-less, half-is-part, two-powers-needed}
-use Rattle.needed.proofs.PlaceLaws.{count-place}
-use Rattle.needed.proofs.NeededMarks.{marked-needed, needed-length}
-use Rattle.needed.proofs.NeededList.{needed-counted}
-
--- ---- counts of the first places
-
--- a marked place, and one without a mark
-pub count-marked : (marks : List Bool) (n : ℕ) → Marked marks n → countMarks (take (suc n) marks) ≡ countMarks (take n marks) + 1
-count-marked marks n marked = count-place marks n ∙ ap (λ (b : Bool). countMarks (take n marks) + cond b 1 0) marked
-
-count-unmarked : (marks : List Bool) (n : ℕ) → getD marks n false ≡ false → countMarks (take (suc n) marks) ≡ countMarks (take n marks)
-count-unmarked marks n unmarked =
-    let place : countMarks (take (suc n) marks) ≡ countMarks (take n marks) + 0 =
-    count-place marks n ∙ ap (λ (b : Bool). countMarks (take n marks) + cond b 1 0) unmarked in
-    omega arith
-
--- places without marks count nothing
-count-flat : (marks : List Bool) (n more : ℕ) → ((i : ℕ) → n ≤ i → i < more + n → getD marks i false ≡ false)
-    → countMarks (take (more + n) marks) ≡ countMarks (take n marks)
-count-flat marks n zero none = let same : 0 + n ≡ n = omega arith in rw same
-count-flat marks n (suc more) none =
-    let same : suc more + n ≡ suc (more + n) = omega arith in
-    rw same (count-unmarked marks (more + n) (none (more + n) (omega arith) (omega arith)) ∙ count-flat marks n more (λ i from to. none i from (omega arith)))
-
--- the same marks count the same
-count-same : (marks others : List Bool) (n : ℕ) → ((i : ℕ) → i < n → getD marks i false ≡ getD others i false)
-    → countMarks (take n marks) ≡ countMarks (take n others)
-count-same marks others zero same = refl
-count-same marks others (suc n) same =
-    let before = count-same marks others n (λ i under. same i (omega arith)) in
-    let here : cond {A = ℕ} (getD marks n false) 1 0 ≡ cond (getD others n false) 1 0 = ap (λ (b : Bool). cond {A = ℕ} b 1 0) (same n (omega arith)) in
-    omega (arith, count-place marks n, count-place others n)
-
-same-test : (x y : Bool) → (x ≡ true → y ≡ true) → (y ≡ true → x ≡ true) → x ≡ y
-same-test true y forth back = sym (forth refl)
-same-test false true forth back = back refl
-same-test false false forth back = refl
-
-not-marked : (x : Bool) → (x ≡ true → ⊥) → x ≡ false
-not-marked true never = absurd (never refl)
-not-marked false never = refl
+use Rattle.needed.specs.inside.Marks.{twoPowers}
+use Rattle.number.proofs.Bits.{len-above, len-unique, is-power}
+use Rattle.needed.proofs.Needed.{needed-least, needed-within, part-less, half-is-part, two-powers-needed}
+use Rattle.needed.proofs.NeededList.{needed-listed, needed-rising}
+use Rattle.needed.proofs.RisingLists.{rising-append, rising-same}
 
 -- ---- powers of two
 
@@ -79,14 +39,6 @@ half-part basis j m (first above is) = (above, is ∙ sym (half-is-part j))
 half-part basis j m (second above is) = (above, is ∙ sym (half-is-second j))
 half-part basis j m (apart in-chebyshev above is) = absurd (omega (arith, half-is-part j, half-is-second j))
 
--- between two powers of two there is none
-none-between : (j k n : ℕ) → 2 ^ j < n → n < 2 ^ suc j → n ≡ 2 ^ k → ⊥
-none-between j k n above under is = by-size (decLe k j)
-  where
-    by-size : Dec (k ≤ j) → ⊥
-    by-size (yes low) = let grows : 2 ^ k ≤ 2 ^ j = pow-mono low in omega arith
-    by-size (no high) = let grows : 2 ^ suc j ≤ 2 ^ k = pow-mono (omega arith) in omega arith
-
 pub split-under : (degree split : ℕ) → 2 ^ split ≤ degree → split < bitLen degree
 split-under degree split reached =
     lt-of-not-le (λ (few : bitLen degree ≤ split).
@@ -100,6 +52,36 @@ small-planned {split} splits is =
     let least : 2 ^ 1 ≤ 2 ^ split = pow-mono (splits .from) in
     let most : 2 ^ split ≤ 2 ^ 12 = pow-mono (splits .to) in
     record { degrees = record { from = omega arith; to = omega arith }; splits = splits }
+
+-- ---- the powers of two in a list
+
+pub powers-count : (k count : ℕ) → length (twoPowers k count) ≡ count
+unfolding twoPowers
+powers-count k zero = refl
+powers-count k (suc count) = ap suc (powers-count (suc k) count)
+
+-- what is in the list
+powers-in : (k count n : ℕ) → List·Memᴰ n (twoPowers k count) → (j : ℕ) × (k ≤ j) × (j < k + count) × (n ≡ 2 ^ j)
+unfolding twoPowers
+powers-in k zero n member = absurd (List·Memᴰ·not-nil member)
+powers-in k (suc count) n member =
+    ⊎-elim (λ here. (k, omega arith, omega arith, here))
+    (λ later. let rest = powers-in (suc k) count n later in (rest .0, omega (arith, rest .1), omega (arith, rest .2), rest .3))
+    (List·Memᴰ·cases-cons member)
+
+in-powers : (k count j : ℕ) → k ≤ j → j < k + count → List·Memᴰ (2 ^ j) (twoPowers k count)
+unfolding twoPowers
+in-powers k zero j from to = absurd (omega arith)
+in-powers k (suc count) j from to =
+    ⊎-elim (λ (same : k ≡ j). List·Memᴰ·head (ap (λ (x : ℕ). 2 ^ x) (sym same)))
+    (λ (more : k < j). List·Memᴰ·tail (in-powers (suc k) count j (omega arith) (omega arith)))
+    (eq-or-lt-of-le from)
+
+powers-rising : (k count : ℕ) → Rising (twoPowers k count)
+unfolding twoPowers
+powers-rising k zero = empty
+powers-rising k (suc zero) = single
+powers-rising k (suc (suc count)) = next (pow-lt {i = k} {j = suc k} (omega arith)) (powers-rising (suc k) (suc count))
 
 -- ---- a degree from the base on
 
@@ -122,11 +104,11 @@ module _ (parity : Parity) (basis : Basis) (degree split : ℕ) (some : 0 < spli
   -- a needed power is one of base − 1, or a power of two from the base on
   data Side (n : ℕ) : Type 0 where
     under : n < 2 ^ split → Small n → Side n
-    power : (k : ℕ) → split ≤ k → n ≡ 2 ^ k → Side n
+    power : (k : ℕ) → split ≤ k → k < bitLen degree → n ≡ 2 ^ k → Side n
 
-  halved : (k n m : ℕ) → split ≤ k → n ≡ 2 ^ k → Part basis n m → Side m
-  halved zero n m from is is-part = absurd (omega (arith, some))
-  halved (suc j) n m from is is-part = by-size (eq-or-lt-of-le from)
+  halved : (k n m : ℕ) → split ≤ k → k < bitLen degree → n ≡ 2 ^ k → Part basis n m → Side m
+  halved zero n m from to is is-part = absurd (omega (arith, some))
+  halved (suc j) n m from to is is-part = by-size (eq-or-lt-of-le from)
     where
       half : (1 < m) × (m ≡ 2 ^ j)
       half = half-part basis j m (subst (λ (x : ℕ). Part basis x m) is is-part)
@@ -136,17 +118,19 @@ module _ (parity : Parity) (basis : Basis) (degree split : ℕ) (some : 0 < spli
           let lower : j ≡ split - 1 = omega arith in
           let less : 2 ^ j < 2 ^ split = pow-lt (omega arith) in
           under (omega (arith, half)) (target (top (half .0) (half .1 ∙ ap (λ (x : ℕ). 2 ^ x) lower ∙ sym small-top)))
-      by-size (inr more) = power j (omega arith) (half .1)
+      by-size (inr more) = power j (omega arith) (omega arith) (half .1)
 
   side : (n : ℕ) → NeededPower parity basis degree split n → Side n
   unfolding topPower
-  side n (target (top from is)) = power (bitLen degree - 1) (omega (arith, split-under degree split reached)) is
+  side n (target (top from is)) =
+      let longer = split-under degree split reached in
+      power (bitLen degree - 1) (omega arith) (omega arith) is
   side n (target (small from below allowed)) = under (omega arith) (target (small from (omega arith) allowed))
   side n (part {n = whole} above needed is-part) = by-side (side whole needed)
     where
       by-side : Side whole → Side n
       by-side (under inside in-small) = under (omega (arith, part-less basis whole n above is-part)) (part above in-small is-part)
-      by-side (power k from is) = halved k whole n from is is-part
+      by-side (power k from to is) = halved k whole n from to is is-part
 
   -- and all of these are needed
   small-needed : (n : ℕ) → Small n → NeededPower parity basis degree split n
@@ -166,77 +150,56 @@ module _ (parity : Parity) (basis : Basis) (degree split : ℕ) (some : 0 < spli
           (two-powers-needed parity basis degree split (split - 1) above (omega (arith, split-under degree split reached)))
       at-once n (small from below allowed) = target (small from (omega arith) allowed)
 
-  -- ---- the marks of both
+  -- ---- the lists
 
-  abbrev all : List Bool
-  all = neededMarks parity basis degree split
+  abbrev low : List ℕ
+  low = neededList parity basis (2 ^ split - 1) split
 
-  abbrev low : List Bool
-  low = neededMarks parity basis (2 ^ split - 1) split
+  abbrev high : List ℕ
+  high = twoPowers split (bitLen degree - split)
 
-  same-below : (n : ℕ) → n < 2 ^ split → getD all n false ≡ getD low n false
-  same-below n inside = same-test (getD all n false) (getD low n false) forth back
+  -- all that base − 1 needs is below the base
+  low-below : (n : ℕ) → List·Memᴰ n low → n < 2 ^ split
+  low-below n member =
+      let two = two-below in
+      omega (arith, needed-within parity basis (2 ^ split - 1) split (omega arith) n (needed-listed parity basis (2 ^ split - 1) split n .0 member))
+
+  joined-rising : Rising (low ++ high)
+  joined-rising =
+      rising-append low high (needed-rising parity basis (2 ^ split - 1) split) (powers-rising split (bitLen degree - split)) apart-from
     where
-      by-side : Side n → Marked low n
-      by-side (under less in-small) = marked-needed parity basis (2 ^ split - 1) split n .1 in-small
-      by-side (power k from is) = let grows : 2 ^ split ≤ 2 ^ k = pow-mono from in absurd (omega arith)
+      apart-from : (m n : ℕ) → List·Memᴰ m low → List·Memᴰ n high → m < n
+      apart-from m n in-low in-high =
+          let is-power = powers-in split (bitLen degree - split) n in-high in
+          let grows : 2 ^ split ≤ 2 ^ (is-power .0) = pow-mono (is-power .1) in
+          omega (arith, low-below m in-low, is-power .3)
 
-      forth : Marked all n → Marked low n
-      forth marked = by-side (side n (marked-needed parity basis degree split n .0 marked))
-
-      back : Marked low n → Marked all n
-      back marked = marked-needed parity basis degree split n .1 (small-needed n (marked-needed parity basis (2 ^ split - 1) split n .0 marked))
-
-  none-apart : (j n : ℕ) → split ≤ j → 2 ^ j < n → n < 2 ^ suc j → getD all n false ≡ false
-  none-apart j n from above below =
-      not-marked (getD all n false) (λ marked. by-side (side n (marked-needed parity basis degree split n .0 marked)))
+  forth : (n : ℕ) → List·Memᴰ n (neededList parity basis degree split) → List·Memᴰ n (low ++ high)
+  forth n member = by-side (side n (needed-listed parity basis degree split n .0 member))
     where
-      by-side : Side n → ⊥
-      by-side (under less in-small) = let grows : 2 ^ split ≤ 2 ^ j = pow-mono from in omega arith
-      by-side (power k high is) = none-between j k n above below is
+      by-side : Side n → List·Memᴰ n (low ++ high)
+      by-side (under less in-small) = Memᴰ·append-left high (needed-listed parity basis (2 ^ split - 1) split n .1 in-small)
+      by-side (power k from to is) =
+          Memᴰ·append-right low (Memᴰ·cast is (in-powers split (bitLen degree - split) k from (omega (arith, split-under degree split reached))))
 
-  marked-power : (k : ℕ) → split ≤ k → k < bitLen degree → Marked all (2 ^ k)
-  marked-power k from to = marked-needed parity basis degree split (2 ^ k) .1 (two-powers-needed parity basis degree split k (omega (arith, some)) to)
-
-  -- up to a power of two from the base on: one mark for each of these
-  count-powers : (j : ℕ) → j + split < bitLen degree → countMarks (take (suc (2 ^ (j + split))) all) ≡ countMarks (take (2 ^ split) all) + suc j
-  count-powers zero within =
-      let same : 0 + split ≡ split = omega arith in
-      rw same (count-marked all (2 ^ split) (marked-power split (omega arith) (omega arith)))
-  count-powers (suc j) within =
-      let same : suc j + split ≡ suc (j + split) = omega arith in
-      let k = j + split in
-      let doubles = two-pow-succ k in
-      let positive = pow-pos k in
-      let gap : (2 ^ k - 1) + suc (2 ^ k) ≡ 2 ^ suc k = omega arith in
-      let flat : countMarks (take ((2 ^ k - 1) + suc (2 ^ k)) all) ≡ countMarks (take (suc (2 ^ k)) all) =
-      count-flat all (suc (2 ^ k)) (2 ^ k - 1) (λ i from to. none-apart k i (omega arith) (omega arith) (omega arith)) in
-      let last = count-marked all (2 ^ suc k) (marked-power (suc k) (omega arith) (omega arith)) in
-      let before = count-powers j (omega arith) in
-      rw same (last ∙ ap (λ (x : ℕ). countMarks (take x all) + 1) (sym gap) ∙ omega arith)
-
-  marks-from-base : countMarks all ≡ countMarks low + (bitLen degree - split)
-  unfolding topPower
-  marks-from-base =
-      let long = split-under degree split reached in
-      let j = bitLen degree - suc split in
-      let last : j + split ≡ bitLen degree - 1 = omega arith in
-      let grows : 2 ^ split ≤ 2 ^ (bitLen degree - 1) = pow-mono (omega arith) in
-      let powers = rw last at (count-powers j (omega arith)) in
-      let whole : take (suc (2 ^ (bitLen degree - 1))) all ≡ all =
-      take-all (suc (2 ^ (bitLen degree - 1))) all (omega (arith, needed-length parity basis degree split)) in
-      let below = count-same all low (2 ^ split) same-below in
-      let whole-low : take (2 ^ split) low ≡ low = take-all (2 ^ split) low whole-length in
-      ap countMarks (sym whole) ∙ powers ∙ ap (λ (x : ℕ). x + suc j) (below ∙ ap countMarks whole-low) ∙ omega arith
+  back : (n : ℕ) → List·Memᴰ n (low ++ high) → List·Memᴰ n (neededList parity basis degree split)
+  back n member = needed-listed parity basis degree split n .1 (⊎-elim from-low from-high (List·Memᴰ·append-cases low member))
     where
-      whole-length : length low ≤ 2 ^ split
-      whole-length =
-          let positive = two-below in
-          let bounds = top-power (2 ^ split - 1) (omega arith) in
-          omega (arith, needed-length parity basis (2 ^ split - 1) split)
+      from-low : List·Memᴰ n low → NeededPower parity basis degree split n
+      from-low in-low = small-needed n (needed-listed parity basis (2 ^ split - 1) split n .0 in-low)
+
+      from-high : List·Memᴰ n high → NeededPower parity basis degree split n
+      from-high in-high =
+          let is-power = powers-in split (bitLen degree - split) n in-high in
+          let j = is-power .0 in
+          let above : 0 < j = omega (arith, some, is-power .1) in
+          let inside : j < bitLen degree = omega (arith, is-power .2, split-under degree split reached) in
+          subst (NeededPower parity basis degree split) (sym (is-power .3)) (two-powers-needed parity basis degree split j above inside)
+
+  pub listed-from-base : neededList parity basis degree split ≡ low ++ high
+  listed-from-base = rising-same (neededList parity basis degree split) (low ++ high) (needed-rising parity basis degree split) joined-rising forth back
 
   pub needed-from-base : neededCount parity basis degree split ≡ neededCount parity basis (2 ^ split - 1) split + (bitLen degree - split)
+  unfolding neededCount
   needed-from-base =
-      let whole = needed-counted parity basis degree split in
-      let below = needed-counted parity basis (2 ^ split - 1) split in
-      omega (arith, marks-from-base)
+      ap length listed-from-base ∙ length-append low high ∙ ap (λ (k : ℕ). length low + k) (powers-count split (bitLen degree - split))

@@ -5,5 +5,6 @@ pub mod SweepLaws
 pub mod PlaceLaws
 pub mod NeededMarks
 pub mod NeededList
+pub mod RisingLists
 pub mod BaseLaws
 pub mod Promises

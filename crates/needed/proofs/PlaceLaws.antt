@@ -13,7 +13,7 @@ use Rattle.algebra.specs.declared.Basis.{Basis}
 use Rattle.algebra.specs.declared.Basis.the-variants.{Monomial, Chebyshev}
 use Rattle.number.specs.Split.{partsOf}
 use Rattle.needed.specs.Needed.{partsDistance}
-use Rattle.needed.specs.inside.Marks.{places, padded, markAt, markApart, markParts, sweepAt, sweepFrom, countMarks}
+use Rattle.needed.specs.inside.Marks.{Marked, places, padded, markAt, markApart, markParts, sweepAt, sweepFrom, countMarks}
 use Rattle.number.proofs.SplitParts.{parted}
 use Rattle.needed.proofs.Flags.{by-test}
 use Rattle.needed.proofs.MarkLaws.{mark-length, apart-length, place-marked, place-unmarked}
@@ -171,6 +171,9 @@ unfolding countMarks
 count-place [] n = rw (take-nil {A = Bool} n)
 count-place (mark ∷ marks) zero = omega arith
 count-place (mark ∷ marks) (suc n) = omega (arith, count-place marks n)
+
+pub count-marked : (marks : List Bool) (n : ℕ) → Marked marks n → countMarks (take (suc n) marks) ≡ countMarks (take n marks) + 1
+count-marked marks n marked = count-place marks n ∙ ap (λ (b : Bool). countMarks (take n marks) + cond b 1 0) marked
 
 pub count-step : (marks : List Bool) (n : ℕ) → countMarks (take (n + 1) marks) ≡ countMarks (take n marks) + cond (getD marks n false) 1 0
 count-step marks n = rw add-one (count-place marks n)

@@ -1,5 +1,6 @@
 pub mod StepNumbers
 mod PowerSteps
+mod TwoPowerSteps
 pub mod StepCounts
 mod TreeSteps
 pub mod ListTotals

@@ -2,7 +2,7 @@
 use mathlib.Core.Path.{_≡_}
 use mathlib.Core.Bool.{Bool, true, false, cond, _&&_, _||_}
 use mathlib.Core.List.{List, [], _∷_, _++_}
-use Prim.Native.Nat.{ℕ, zero, suc, _+_, _-_, max}
+use Prim.Native.Nat.{ℕ, zero, suc, _+_, _-_, _^_, max}
 use lib.Dec.{ltb, leb, eqb}
 use lib.ListN.{length, getD, set, replicate}
 use Rattle.algebra.specs.Allowed.{allows}
@@ -66,6 +66,11 @@ unfoldable pub markedFrom : (first : ℕ) → List Bool → List ℕ
 markedFrom first [] = []
 markedFrom first (true ∷ marks) = first ∷ markedFrom (suc first) marks
 markedFrom first (false ∷ marks) = markedFrom (suc first) marks
+
+-- 2^k, 2^(k+1), .., as many as the last argument says
+unfoldable pub twoPowers : (k count : ℕ) → List ℕ
+twoPowers k zero = []
+twoPowers k (suc count) = 2 ^ k ∷ twoPowers (suc k) count
 
 -- how many are marked
 unfoldable pub countMarks : List Bool → ℕ

@@ -1,8 +1,8 @@
 -- What the writers of steps ask for and leave (docs/RULES.md, "Steps and the walk"): four numbers a step.
 use mathlib.Core.Path.{_≡_}
 use mathlib.Core.Bool.{Bool, true, cond}
-use mathlib.Core.List.{List, [], _∷_}
-use Prim.Native.Nat.{ℕ, _+_, _*_, _≤_}
+use mathlib.Core.List.{List, [], _∷_, map}
+use Prim.Native.Nat.{ℕ, _+_, _-_, _*_, _≤_, _<_}
 use lib.ListN.{length}
 use lib.Seq.{sets}
 use Rattle.algebra.specs.declared.Basis.{Basis}
@@ -10,6 +10,7 @@ use Rattle.algebra.specs.declared.Parity.{Parity}
 use Rattle.number.specs.Limits.{planLimit, countLimit}
 use Rattle.needed.specs.NeededList.{neededCount}
 use Rattle.needed.specs.inside.Planned.{Planned}
+use Rattle.needed.specs.inside.Marks.{twoPowers}
 use Rattle.lists.specs.Tree.{Tree, treeOf}
 use Rattle.lists.specs.Arrange.{leavesOf}
 use Rattle.lists.specs.inside.Listing.{Ranges}
@@ -46,6 +47,17 @@ pub record PowerPut (marked : Bool) (n step : ℕ) (steps : List ℕ) (r : ℕ) 
 pub record PowersPut (parity : Parity) (basis : Basis) (degree split : ℕ) (steps : List ℕ) (r : ℕ) (steps′ : List ℕ) : Type 0 where
   pub numbers : steps′ ≡ sets steps 0 (flat (powerSteps parity basis degree split))
   pub next : r ≡ neededCount parity basis degree split
+
+-- the powers of two from 2^split on, of at most so many binary digits: their steps have their places
+pub record TwoPowersFit (split digits step : ℕ) (steps : List ℕ) : Type 0 where
+  pub positive : 0 < split
+  pub limit : digits ≤ 12
+  pub places : 4 * (step + (digits - split)) ≤ length steps
+
+-- they stand from step `step` on, and r is the next step
+pub record TwoPowersPut (split digits step : ℕ) (steps : List ℕ) (r : ℕ) (steps′ : List ℕ) : Type 0 where
+  pub numbers : steps′ ≡ sets steps (4 * step) (flat (map makeStep (twoPowers split (digits - split))))
+  pub next : r ≡ step + (digits - split)
 
 -- ---- the loads and combines
 
