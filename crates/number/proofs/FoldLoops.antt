@@ -17,6 +17,7 @@ use Rattle.algebra.proofs.FoldPlaces.{length-everySecond, fold-length, getD-sum
 use Rattle.algebra.proofs.FoldMagnitudes.{sumAbs-everySecond}
 use Rattle.algebra.proofs.Magnitudes.{sumAbs-drop}
 use Rattle.number.specs.Numbers.{floatOps}
+use Rattle.number.specs.inside.Folding.{oddPlace}
 use Rattle.number.proofs.EverySecond.{everySecond-step, everySecond-end, length-odd-places, getD-everySecond-from, drop-everySecond-from}
 use Rattle.number.proofs.FillFromEnd.{filledFrom, filled-length, filled-none, filled-step}
 use Rattle.number.proofs.Rows.{next-coeff, add-more, add-end, alternating, alternating-end, alternating-more, alternating-small, column-is}
@@ -67,7 +68,7 @@ module _ {A : Type 0} (𝓞 : Operations A) (c : List A) where
   unfolding foldedLength
   length-odd = fold-length 𝓞 Odd Chebyshev c
 
-  odd-place : (i : ℕ) (d : A) → i < length c / 2 → getD (fold 𝓞 Odd Chebyshev c) i d ≡ addR 𝓞 i i (𝓞 .zero) (everySecond (drop (2 * i + 1) c))
+  odd-place : (i : ℕ) (d : A) → i < length c / 2 → getD (fold 𝓞 Odd Chebyshev c) i d ≡ oddPlace 𝓞 c i
   unfolding fold
   odd-place i d h =
       let place : 0 + i ≡ i = omega arith in
@@ -143,15 +144,15 @@ pub record Adding (c : List Float) (i : ℕ) (sum w : Float) (j : ℕ) : Type 0 
   pub from : i ≤ row
   pub place : j ≡ 2 * row + 1
   pub weight : w ≡ coeffR floatOps row i
-  pub rest : addR floatOps i row sum (everySecond (drop j c)) ≡ addR floatOps i i (floatOps .zero) (everySecond (drop (2 * i + 1) c))
+  pub rest : addR floatOps i row sum (everySecond (drop j c)) ≡ oddPlace floatOps c i
 
-pub adding-start : (c : List Float) (i : ℕ) {sum w : Float} → sum ≡ floatOps .zero → w ≡ coeffR floatOps i i → Adding c i sum w (2 * i + 1)
-adding-start c i {sum} es ew = record {
+pub adding-start : (c : List Float) (i : ℕ) {sum w : Float} {j : ℕ} → sum ≡ floatOps .zero → w ≡ coeffR floatOps i i → j ≡ 2 * i + 1 → Adding c i sum w j
+adding-start c i {sum} es ew ej = record {
   row = i;
   from = omega arith;
-  place = refl;
+  place = ej;
   weight = ew;
-  rest = ap (λ (x : Float). addR floatOps i i x (everySecond (drop (2 * i + 1) c))) es;
+  rest = ap₂ (λ (x : Float) (k : ℕ). addR floatOps i i x (everySecond (drop k c))) es ej;
 }
 
 module _ {c : List Float} {i : ℕ} {sum w : Float} {j : ℕ} (t : Adding c i sum w j) where
@@ -168,7 +169,7 @@ module _ {c : List Float} {i : ℕ} {sum w : Float} {j : ℕ} (t : Adding c i su
         ∙ t .rest;
   }
 
-  pub adding-end : length c ≤ j → sum ≡ addR floatOps i i (floatOps .zero) (everySecond (drop (2 * i + 1) c))
+  pub adding-end : length c ≤ j → sum ≡ oddPlace floatOps c i
   adding-end h = sym (ap (addR floatOps i (t .row) sum) (everySecond-end c j h) ∙ add-end floatOps i (t .row) sum) ∙ t .rest
 
 -- ---- the odd Chebyshev fold from the front: the first i places are written
@@ -187,8 +188,7 @@ module _ {A : Type 0} {𝓞 : Operations A} {c start out : List A} {i : ℕ} (ro
   pub placing-length : length out ≡ length start
   placing-length = ap length (t .so-far) ∙ filling.copy-length (fold 𝓞 Odd Chebyshev c) start i (omega (arith, length-odd 𝓞 c, t .within)) long
 
-  pub placing-step : {v : A} (d : A) → i < length c / 2 → v ≡ addR 𝓞 i i (𝓞 .zero) (everySecond (drop (2 * i + 1) c))
-      → Placing 𝓞 c start (set out i v) (i + 1)
+  pub placing-step : {v : A} (d : A) → i < length c / 2 → v ≡ oddPlace 𝓞 c i → Placing 𝓞 c start (set out i v) (i + 1)
   placing-step {v} d h e =
       let F = fold 𝓞 Odd Chebyshev c in
       let place : i < length F = omega (arith, length-odd 𝓞 c) in
@@ -199,3 +199,12 @@ module _ {A : Type 0} {𝓞 : Operations A} {c start out : List A} {i : ℕ} (ro
 
   pub placing-end : length c / 2 ≤ i → out ≡ sets start 0 (fold 𝓞 Odd Chebyshev c)
   placing-end h = t .so-far ∙ filling.copy-end (fold 𝓞 Odd Chebyshev c) start i (omega (arith, length-odd 𝓞 c, t .within)) long
+
+-- two places at once
+pub placing-two : {A : Type 0} {𝓞 : Operations A} {c start out : List A} {i : ℕ} {first second : A} → length c / 2 ≤ length start
+    → Placing 𝓞 c start out i → (d : A) → i + 1 < length c / 2 → first ≡ oddPlace 𝓞 c i → second ≡ oddPlace 𝓞 c (i + 1)
+    → Placing 𝓞 c start (set (set out i first) (i + 1) second) (i + 2)
+placing-two {c = c} {i = i} room t d h e₁ e₂ =
+    let after : i + 2 ≡ i + 1 + 1 = omega arith in
+    let more : i < length c / 2 = omega arith in
+    rw after (placing-step room (placing-step room t d more e₁) d h e₂)

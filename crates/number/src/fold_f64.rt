@@ -10,12 +10,12 @@ ghost use mathlib.Core.Path.{_≡_};
 ghost use Prim.Native.Nat.{_+_, _*_, _≤_, _<_};
 ghost use lib.ListN.{length, drop};
 ghost use lib.Seq.{sets};
-ghost use Rattle.algebra.specs.Fold.{everySecond, coeffR, addR, fold};
+ghost use Rattle.algebra.specs.Fold.{everySecond, coeffR, fold};
 ghost use Rattle.algebra.specs.declared.Basis.the-variants.{Chebyshev};
 ghost use Rattle.algebra.specs.declared.Parity.the-variants.{Odd};
 ghost use Rattle.number.specs.Numbers.{floatOps, floatNumbers};
 ghost use Rattle.number.specs.FoldCall.{FoldCall};
-ghost use Rattle.number.specs.inside.Folding.{Foldable};
+ghost use Rattle.number.specs.inside.Folding.{Foldable, oddPlace};
 
 // Coefficient i of R_i.
 fn lead_f64(i: usize) -> f64
@@ -27,7 +27,7 @@ fn lead_f64(i: usize) -> f64
 // Place i of the fold of an odd Chebyshev polynomial: the sum from +0 of c[2k+1] times coefficient i of R_k, k rising from i.
 fn odd_place_f64(c: &[f64], i: usize) -> f64
     requires { ⌜ 2 * i + 1 < length (now c) ⌝ }
-    ensures { λ r. ⌜ r ≡ addR floatOps i i (floatOps .zero) (everySecond (drop (2 * i + 1) (now (c .entry)))) ⌝ }
+    ensures { λ r. ⌜ r ≡ oddPlace floatOps (now (c .entry)) i ⌝ }
 {
     let mut sum = 0.0f64;
     let mut w = lead_f64(i);
@@ -38,6 +38,35 @@ fn odd_place_f64(c: &[f64], i: usize) -> f64
         j += 2;
     }
     sum
+}
+
+// Two neighbouring places of the fold.
+struct TwoPlaces {
+    first: f64,
+    second: f64,
+}
+
+// Places i and i + 1, each summed as `odd_place_f64` does, in one loop: neither sum waits for the other, so the loop takes the time of one.
+fn odd_places_f64(c: &[f64], i: usize) -> TwoPlaces
+    requires { ⌜ 2 * i + 3 < length (now c) ⌝ }
+    ensures { λ r. ⌜ (r .first ≡ oddPlace floatOps (now (c .entry)) i) × (r .second ≡ oddPlace floatOps (now (c .entry)) (i + 1)) ⌝ }
+{
+    let from = 2 * i + 1;
+    let lead = lead_f64(i);
+    let mut first = 0.0 + c[from] * lead;
+    let mut w = -lead;
+    let mut second = 0.0f64;
+    let mut v = lead_f64(i + 1);
+    let mut j = from + 2;
+    while j < c.len() {
+        let x = c[j];
+        first = first + x * w;
+        second = second + x * v;
+        w = -w;
+        v = -v;
+        j += 2;
+    }
+    TwoPlaces { first, second }
 }
 
 // Writes every second coefficient from place `from` on.
@@ -61,9 +90,14 @@ fn fold_odd_f64(c: &[f64], out: &mut [f64])
 {
     let n = c.len() / 2;
     let mut i = 0;
-    while i < n {
+    while i + 1 < n {
+        let two = odd_places_f64(c, i);
+        out[i] = two.first;
+        out[i + 1] = two.second;
+        i += 2;
+    }
+    if i < n {
         out[i] = odd_place_f64(c, i);
-        i += 1;
     }
 }
 

@@ -1,42 +1,37 @@
 // Magnitudes of whole coefficients.
 use crate::limits::SUM_LIMIT;
 ghost use mathlib.Core.Path.{_≡_};
-ghost use Prim.Native.Nat.{_+_, min};
+ghost use Prim.Native.Nat.{_-_};
 ghost use lib.IntN.{natAbs};
-ghost use Rattle.number.specs.Limits.{sumLimit};
 ghost use Rattle.number.specs.Numbers.{wholeNumbers};
 
-// The limit and its opposite as coefficients.
-const GREATEST: i64 = SUM_LIMIT as i64;
-
-const LEAST: i64 = -GREATEST;
-
-// The magnitude of x, or the limit + 1 where it is above the limit.
+// The magnitude of x. Below zero 1 is added ahead of the sign change, since the least i64 has no opposite.
 fn magnitude(x: i64) -> usize
-    ensures { λ r. ⌜ r ≡ min (natAbs x) (sumLimit + 1) ⌝ }
+    ensures { λ r. ⌜ r ≡ natAbs x ⌝ }
 {
-    if x < LEAST {
-        return SUM_LIMIT + 1;
+    if x < 0 {
+        (0 - (x + 1)) as usize + 1
+    } else {
+        x as usize
     }
-    if GREATEST < x {
-        return SUM_LIMIT + 1;
-    }
-    if x < 0 { (0 - x) as usize } else { x as usize }
 }
 
-// Whether the magnitudes sum to at most the limit.
+// What is left after m is taken off, down to 0.
+fn less(left: usize, m: usize) -> usize
+    ensures { λ r. ⌜ r ≡ left - m ⌝ }
+{
+    if left < m { 0 } else { left - m }
+}
+
+// Whether the magnitudes sum to at most the limit. No early return: a turn without branches is faster.
 pub fn sum_fits(c: &[i64]) -> bool
     ensures { λ r. ⌜ r ≡ wholeNumbers .small (now (c .entry)) ⌝ }
 {
-    let mut left: usize = SUM_LIMIT;
+    let mut left: usize = SUM_LIMIT + 1;
     let mut i: usize = 0;
     while i < c.len() {
-        let m = magnitude(c[i]);
-        if left < m {
-            return false;
-        }
-        left -= m;
+        left = less(left, magnitude(c[i]));
         i += 1;
     }
-    true
+    0 < left
 }

@@ -1,6 +1,5 @@
 pub mod PutLaws
 pub mod DecimalLaws
-mod SignLaws
 mod TextLaws
 pub mod PartLaws
 mod LineLaws

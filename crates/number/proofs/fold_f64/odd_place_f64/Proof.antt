@@ -1,6 +1,7 @@
 -- `number::fold_f64::odd_place_f64` meets its contract. The loop's invariant: for some k from i on, j is 2k + 1, w is coefficient i of R_k,
 -- and the sum so far goes on with the coefficients from place j to the sum that is asked for. Down a column each coefficient is the
 -- opposite of the one before, so w = -w keeps it.
+use mathlib.Core.Path.{refl}
 use Prim.Native.Nat.{_-_}
 use borrow.Author.Needs.{needs}
 use lib.ListN.{length}
@@ -25,7 +26,7 @@ add-j : tie.Need-add-j Inv-loop μ-loop
 add-j c = search needs
 
 loop-holds : tie.Need-loop-holds Inv-loop μ-loop
-loop-holds c = let st = c .before .before in adding-start (st .args .c .now) (st .args .i) zero-is (c .lead-f64 .ensures)
+loop-holds c = let st = c .before .before in adding-start (st .args .c .now) (st .args .i) zero-is (c .lead-f64 .ensures) refl
 
 mul-sum : tie.Need-mul-sum Inv-loop μ-loop
 mul-sum c = search needs

@@ -1,66 +1,58 @@
--- `number::magnitude::magnitude` meets its contract. Past the first two tests the magnitude is at most 2^30, so that x, or 0 - x where x is
--- below zero, is it and fits.
-use mathlib.Core.Path.{_≡_}
-use Prim.Native.Nat.{_≤_}
+-- `number::magnitude::magnitude` meets its contract. A number below zero plus 1 has an opposite that fits even for the least i64, and 1 more than
+-- that opposite is the magnitude. Any other number is its own magnitude.
+use mathlib.Core.Path.{_≡_, ap}
+use mathlib.Core.Bool.{true}
+use Prim.Native.Nat.{_<_, _^_}
 use native.Mathlib.Omega.{arith}
-use borrow.Author.Needs.{needs}
-use lib.IntN.{pos, negℤ, natAbs, _-ℤ_}
+use lib.IntN.{pos, natAbs, _+ℤ_, _-ℤ_}
+use lib.Signed.{ltZ, natAbs-le}
 use mir.Syntax.{w64}
 use mir.Val.{toZ, ofZ}
 use mir.Facts.{toZ-ofZ}
-use Rattle.algebra.proofs.Fits.{fits-abs}
-use Rattle.algebra.proofs.Magnitudes.{abs-neg}
-use Rattle.number.proofs.Signed.{under-least, over-most, within-both, negative, nonnegative, minus-from-zero}
+use Rattle.number.proofs.Signed.{nonnegative}
+use Rattle.number.proofs.SignLaws.{under, next-fits, taken-fits, size-less, under-small, size-is}
 use Rattle.number.proofs.magnitude.magnitude.Statement.{statement}
 use Rattle.number.proofs.magnitude.magnitude.Tie as tie
 use Rattle.number.proofs.magnitude.magnitude.Reads as reads
 use Rattle.number.proofs.magnitude.magnitude.Lts as lts
 
--- x as the machine reads it, and what is known past the first two tests
-read : (k : lts.Start reads.Pre reads.Post) → toZ w64 (ofZ w64 (k .args .x)) ≡ k .args .x
-read k = toZ-ofZ (k .fits .x)
+-- below zero; the test is made on x as the machine reads it
+below : (k : lts.Then1 reads.Pre reads.Post) → ltZ (k .before .args .x) (pos 0) ≡ true
+below k = rw (toZ-ofZ (k .before .fits .x)) at (k .if1 .taken)
 
-small : (k : lts.Else2 reads.Pre reads.Post) → natAbs (k .before .before .args .x) ≤ 1073741824
-small k = within-both (read (k .before .before)) 1073741823 1073741824 (k .before .if1 .left) (k .if2 .left)
+-- the opposite of x + 1
+opposite : (k : lts.Then1 reads.Pre reads.Post) → let x = k .before .args .x in
+    toZ w64 (ofZ w64 (pos 0 -ℤ toZ w64 (ofZ w64 (toZ w64 (ofZ w64 x) +ℤ pos 1)))) ≡ pos (under x)
+opposite k = size-less (k .before .args .x) (k .before .fits .x) (below k)
 
-opposite : (k : lts.Then3 reads.Pre reads.Post) → let x = k .before .before .before .args .x in
-    toZ w64 (ofZ w64 (pos 0 -ℤ toZ w64 (ofZ w64 x))) ≡ negℤ x
-opposite k =
-    let start = k .before .before .before in
-    rw (minus-from-zero (read start)) (toZ-ofZ (fits-abs _ (omega (arith, abs-neg (start .args .x), small (k .before)))))
+small : (k : lts.Then1 reads.Pre reads.Post) → under (k .before .args .x) < 2 ^ 63
+small k = under-small (k .before .args .x) (k .before .fits .x) (below k)
 
 add-result : tie.Need-add-result
-add-result c = search needs
-
-returns : tie.Need-returns
-returns c = omega (arith, under-least (read (c .before)) 1073741823 (c .if1 .taken))
-
-add-result-2 : tie.Need-add-result-2
-add-result-2 c = search needs
-
-returns-2 : tie.Need-returns-2
-returns-2 c = omega (arith, over-most (read (c .before .before)) 1073741824 (c .if2 .taken))
+add-result c = next-fits (c .before .args .x) (c .before .fits .x) (below c)
 
 sub-result : tie.Need-sub-result
-sub-result c =
-    let start = c .before .before .before in
-    rw (minus-from-zero (read start)) (fits-abs _ (omega (arith, abs-neg (start .args .x), small (c .before))))
+sub-result c = taken-fits (c .before .args .x) (c .before .fits .x) (below c)
 
 cast-result : tie.Need-cast-result
-cast-result c =
-    let start = c .before .before .before in
-    rw (opposite c) (negative (read start) (c .if3 .taken) .0, record { fits = omega (arith, abs-neg (start .args .x), small (c .before)) })
+cast-result c = rw (opposite c) (tt, record { fits = omega (arith, small c) })
+
+add-result-2 : tie.Need-add-result-2
+add-result-2 c = rw (opposite c) (record { fits = omega (arith, small c) })
 
 cast-result-2 : tie.Need-cast-result-2
 cast-result-2 c =
-    let start = c .before .before .before in
-    rw (read start) (nonnegative (read start) (c .if3 .left), record { fits = omega (arith, small (c .before)) })
+    let x = c .before .args .x in
+    let read : toZ w64 (ofZ w64 x) ≡ x = toZ-ofZ (c .before .fits .x) in
+    rw read (nonnegative read (c .if1 .left), record { fits = omega (arith, natAbs-le x (c .before .fits .x .sfits)) })
 
-returns-3 : tie.Need-returns-3
-returns-3 c = rw (opposite c) (omega (arith, abs-neg (c .before .before .before .args .x), small (c .before)))
+returns : tie.Need-returns
+returns c = rw (opposite c) (size-is (c .before .args .x) (below c))
 
-returns-4 : tie.Need-returns-4
-returns-4 c = rw (read (c .before .before .before)) (omega (arith, small (c .before)))
+returns-2 : tie.Need-returns-2
+returns-2 c = ap natAbs (toZ-ofZ (c .before .fits .x))
 
 pub magnitude-spec : {M : Type 1} → statement M
-magnitude-spec = tie.close (tie.spec add-result returns add-result-2 returns-2 sub-result cast-result cast-result-2 returns-3 returns-4)
+magnitude-spec =
+    tie.close
+    (tie.spec add-result sub-result cast-result add-result-2 cast-result-2 returns returns-2)

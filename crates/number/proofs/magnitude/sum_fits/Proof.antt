@@ -1,41 +1,51 @@
--- `number::magnitude::sum_fits` meets its contract. The loop's invariant: what is left and the magnitudes passed make 2^30. A magnitude above
--- what is left, or one that `magnitude` cuts to 2^30 + 1, takes the sum above 2^30.
-use mathlib.Core.Path.{_≡_, refl, ap, sym, _∙_}
-use Prim.Native.Nat.{ℕ, _+_, _-_, _≤_, _<_, _^_, min}
+-- `number::magnitude::sum_fits` meets its contract. The loop's invariant: `left` is 2^30 + 1 less the magnitudes passed, or 0 where they are more.
+-- So at the end something is left exactly if all magnitudes sum to at most 2^30.
+use mathlib.Core.Path.{_≡_, refl, ap, sym}
+use mathlib.Core.Bool.{Bool, true, false}
+use Prim.Native.Nat.{ℕ, _+_, _-_, _≤_, _<_, _^_}
 use native.Mathlib.Numerals.{add-one}
 use native.Mathlib.Omega.{arith}
-use borrow.Author.Tests.{le-leb, lt-leb}
+use borrow.Author.Tests.{ltb-true, ltb-false, le-leb, lt-leb}
 use borrow.Author.Needs.{needs}
+use lib.Dec.{leb, ltb}
 use lib.ListN.{length, take, getD}
 use lib.Seq.{take-all}
-use lib.IntN.{ℤ, pos, natAbs}
+use lib.IntN.{pos, natAbs}
 use lib.Signed.{mag}
 use mir.Syntax.{w64}
 use mir.Val.{toZ, ofZ}
 use Rattle.algebra.specs.Magnitude.{sumAbs}
-use Rattle.algebra.proofs.Magnitudes.{sumAbs-take, sumAbs-take-suc}
+use Rattle.algebra.proofs.Magnitudes.{sumAbs-take-suc}
 use Rattle.number.proofs.Signed.{back}
 use Rattle.number.proofs.magnitude.sum_fits.Statement.{statement}
 use Rattle.number.proofs.magnitude.sum_fits.Tie as tie
 
 abbrev Inv-loop : tie.InvT-loop
-Inv-loop c left₀ i₀ left i = record { within : i ≤ length c; kept : left + sumAbs (take i c) ≡ 1073741824 }
+Inv-loop c left₀ i₀ left i = record { within : i ≤ length c; kept : left ≡ 1073741825 - sumAbs (take i c) }
 
 abbrev μ-loop : tie.MeasureT-loop
 μ-loop c left₀ i₀ left i = length c - i
 
--- one coefficient more: m is what `magnitude` says of it
+-- one coefficient more
 next : (b : tie.In-loop Inv-loop μ-loop) → let xs = b .before .before .args .c .now in let i = b .before .loop .i in let x = getD xs i (pos 0) in
-    mag x < 2 ^ 63 → (m : ℕ) → m ≡ min (natAbs (toZ w64 (ofZ w64 x))) 1073741825
-    → (m ≤ sumAbs (take (i + 1) xs) - sumAbs (take i xs)) × ((m ≤ 1073741824) → sumAbs (take (i + 1) xs) ≡ sumAbs (take i xs) + m)
-next b fits m e =
+    mag x < 2 ^ 63 → sumAbs (take (i + 1) xs) ≡ sumAbs (take i xs) + natAbs (toZ w64 (ofZ w64 x))
+next b fits =
     let xs = b .before .before .args .c .now in
     let i = b .before .loop .i in
     let x = getD xs i (pos 0) in
     let read : toZ w64 (ofZ w64 x) ≡ x = back fits refl in
-    let m-is : m ≡ min (natAbs x) 1073741825 = e ∙ ap (λ (z : ℤ). min (natAbs z) 1073741825) read in
-    let more : sumAbs (take (i + 1) xs) ≡ sumAbs (take i xs) + natAbs x = rw add-one (sumAbs-take-suc xs i (omega arith)) in
-    (omega arith, λ h. omega arith)
+    rw (add-one, read) (sumAbs-take-suc xs i (omega arith))
+
+-- something is left of limit + 1 exactly if the sum is at most the limit
+some-left : (limit sum left : ℕ) → left ≡ limit + 1 - sum → ltb 0 left ≡ leb sum limit
+some-left limit sum left e = by-test (ltb 0 left) refl
+  where
+    by-test : (b : Bool) → ltb 0 left ≡ b → b ≡ leb sum limit
+    by-test true h = sym (le-leb sum limit (omega (arith, ltb-true 0 left h, e)))
+    by-test false h = sym (lt-leb sum limit (omega (arith, ltb-false 0 left h, e)))
+
+add-left : tie.Need-add-left Inv-loop μ-loop
+add-left c = search needs
 
 loop-holds : tie.Need-loop-holds Inv-loop μ-loop
 unfolding sumAbs
@@ -50,14 +60,8 @@ shared-slice-copy-out-magnitude c = search needs
 magnitude-requires : tie.Need-magnitude-requires Inv-loop μ-loop
 magnitude-requires c κs = search needs
 
-returns : tie.Need-returns Inv-loop μ-loop
-returns c =
-    let m = c .before in
-    let b = m .before .before in
-    let xs = b .before .before .args .c .now in
-    let more = next b (m .before .magnitude-arg .given) (m .magnitude .result) (m .magnitude .ensures) in
-    let large : 1073741824 < sumAbs xs = omega (arith, more .0, sumAbs-take (b .before .loop .i + 1) xs) in
-    sym (lt-leb (sumAbs xs) 1073741824 large)
+less-requires : tie.Need-less-requires Inv-loop μ-loop
+less-requires c κs = search needs
 
 add-i : tie.Need-add-i Inv-loop μ-loop
 add-i c = search needs
@@ -69,14 +73,14 @@ loop-again : tie.Need-loop-again Inv-loop μ-loop
 loop-again c =
     let m = c .before in
     let b = m .before .before in
-    let more = next b (m .before .magnitude-arg .given) (m .magnitude .result) (m .magnitude .ensures) in
-    omega (arith, more .1 (omega arith))
+    omega (arith, next b (m .before .magnitude-arg .given), m .magnitude .ensures, c .less .ensures)
 
-returns-2 : tie.Need-returns-2 Inv-loop μ-loop
-returns-2 c =
+returns : tie.Need-returns Inv-loop μ-loop
+returns c =
     let xs = c .before .before .args .c .now in
-    let all : take (c .before .loop .i) xs ≡ xs = take-all (c .before .loop .i) xs (omega arith) in
-    sym (le-leb (sumAbs xs) 1073741824 (omega (arith, ap sumAbs all)))
+    let l = c .before .loop in
+    let all : take (l .i) xs ≡ xs = take-all (l .i) xs (omega arith) in
+    some-left 1073741824 (sumAbs xs) (l .left) (omega (arith, ap sumAbs all))
 
 pub sum-fits-spec : {M : Type 1} → statement M
 sum-fits-spec =
@@ -84,12 +88,13 @@ sum-fits-spec =
     (tie.spec
     Inv-loop
     μ-loop
+    add-left
     loop-holds
     mul-magnitude
     shared-slice-copy-out-magnitude
     magnitude-requires
-    returns
+    less-requires
     add-i
     loop-less
     loop-again
-    returns-2)
+    returns)

@@ -33,9 +33,10 @@ write-marked-requires-2 c κs =
     let test = c .before in
     let start = test .before .before .before in
     let power = test .before .power-of-two .ensures in
-    let splits = start .pre .0 .splits in
-    (small-planned splits power,
-    room-below (start .args .parity) (start .args .basis) (start .args .degree) (start .args .split) (splits .from) (from-base test) power (start .pre .1))
+    let splits = start .pre .0 .splits in (
+      small-planned splits power,
+      room-below (start .args .parity) (start .args .basis) (start .args .degree) (start .args .split) (splits .from) (from-base test) power (start .pre .1),
+    )
 
 bit-len-requires : tie.Need-bit-len-requires
 bit-len-requires c κs = search needs

@@ -1,7 +1,7 @@
 -- `texts::decimal::magnitude_below` meets its contract. The number plus 1 has an opposite that fits even for the least i64, and 1 more than that
 -- opposite is the magnitude.
 use native.Mathlib.Omega.{arith}
-use Rattle.texts.proofs.SignLaws.{next-fits, taken-fits, size-less, under-small, size-is}
+use Rattle.number.proofs.SignLaws.{next-fits, taken-fits, size-less, under-small, size-is}
 use Rattle.texts.proofs.decimal.magnitude_below.Statement.{statement}
 use Rattle.texts.proofs.decimal.magnitude_below.Tie as tie
 
