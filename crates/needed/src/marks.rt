@@ -1,7 +1,8 @@
 // The powers that a plan needs, as marks: place n is true where power n is needed.
 ghost use mathlib.Core.Path.{_≡_};
 ghost use Prim.Native.Nat.{_<_, _≤_, _+_};
-ghost use lib.ListN.{take};
+ghost use mathlib.Core.Bool.{false};
+ghost use lib.ListN.{take, replicate};
 ghost use Rattle.number.specs.Limits.{countLimit};
 ghost use Rattle.needed.specs.Needed.{babyLimit};
 ghost use Rattle.needed.specs.NeededList.{neededCount};
@@ -55,18 +56,16 @@ fn is_target(parity: Parity, top: usize, limit: usize, n: usize) -> bool
     is_allowed(parity, n)
 }
 
-// The marks of the powers that are needed at once, none of them above the last.
-fn target_marks(parity: Parity, top: usize, limit: usize, last: usize) -> [bool; MARKS]
-    requires { ⌜ last < countLimit ⌝ }
-    ensures { λ r. ⌜ r ≡ padded countLimit (places (isTarget parity top limit) 0 (last + 1)) ⌝ }
+// Marks at the powers that are needed at once, none of them above the last.
+fn mark_targets(parity: Parity, top: usize, limit: usize, last: usize, marks: &mut [bool; MARKS])
+    requires { ⌜ (last < countLimit) × (now marks ≡ replicate countLimit false) ⌝ }
+    ensures { λ _. ⌜ now (marks .exit) ≡ padded countLimit (places (isTarget parity top limit) 0 (last + 1)) ⌝ }
 {
-    let mut marks = [false; MARKS];
     let mut n = 0;
     while n <= last {
         marks[n] = is_target(parity, top, limit, n);
         n += 1;
     }
-    marks
 }
 
 // A mark at n, if n is above 1.
@@ -96,19 +95,17 @@ fn mark_parts(basis: Basis, n: usize, marks: &mut [bool; MARKS])
 }
 
 // All that the marked powers need, swept from the last place down.
-fn sweep(basis: Basis, last: usize, targets: [bool; MARKS]) -> [bool; MARKS]
+fn sweep(basis: Basis, last: usize, marks: &mut [bool; MARKS])
     requires { ⌜ last < countLimit ⌝ }
-    ensures { λ r. ⌜ r ≡ sweepFrom basis last targets ⌝ }
+    ensures { λ _. ⌜ now (marks .exit) ≡ sweepFrom basis last (now (marks .entry)) ⌝ }
 {
-    let mut marks = targets;
     let mut n = last;
     while 1 < n {
         if marks[n] {
-            mark_parts(basis, n, &mut marks);
+            mark_parts(basis, n, marks);
         }
         n -= 1;
     }
-    marks
 }
 
 // The marks of all needed powers.
@@ -119,8 +116,10 @@ pub fn needed_marks(parity: Parity, basis: Basis, degree: usize, split: usize) -
     let top = top_power(degree);
     let limit = baby_limit(degree, split);
     let last = greatest_target(degree, split);
-    let targets = target_marks(parity, top, limit, last);
-    sweep(basis, last, targets)
+    let mut marks = [false; MARKS];
+    mark_targets(parity, top, limit, last, &mut marks);
+    sweep(basis, last, &mut marks);
+    marks
 }
 
 // How many of the first places are marked.

@@ -21,8 +21,8 @@ abbrev μ-loop : tie.MeasureT-loop
 loop-holds : tie.Need-loop-holds Inv-loop μ-loop
 loop-holds c = (omega arith, refl)
 
-array-read-if1 : tie.Need-array-read-if1 Inv-loop μ-loop
-array-read-if1 c = search needs
+element-copy-out-if1 : tie.Need-element-copy-out-if1 Inv-loop μ-loop
+element-copy-out-if1 c = search needs
 
 mark-parts-requires : tie.Need-mark-parts-requires Inv-loop μ-loop
 mark-parts-requires c κs = search needs
@@ -35,15 +35,16 @@ loop-less c = omega arith
 
 loop-again : tie.Need-loop-again Inv-loop μ-loop
 loop-again c =
-    let loop = c .before .before .loop in
-    let basis = c .before .before .before .args .basis in
+    let test = c .before .before in
+    let loop = test .before .loop in
+    let basis = test .before .before .args .basis in
     let n = loop .n in (
       omega arith,
       ⊎-elim
           (λ came. ap (sweepFrom basis (n - 1)) (came .3 ∙ came .2 .ensures ∙ sym (place-marked basis n (loop .marks) (came .0 .taken))))
           (λ came. ap (sweepFrom basis (n - 1)) (came .1 ∙ sym (place-unmarked basis n (loop .marks) (came .0 .left))))
           (c .if1 .came)
-          ∙ sym (sweep-place basis n (loop .marks) (c .before .loop-test .taken))
+          ∙ sym (sweep-place basis n (loop .marks) (test .loop-test .taken))
           ∙ loop .inv .1,
     )
 
@@ -60,7 +61,7 @@ sweep-spec =
     Inv-loop
     μ-loop
     loop-holds
-    array-read-if1
+    element-copy-out-if1
     mark-parts-requires
     sub-n
     loop-less

@@ -1,4 +1,4 @@
--- `needed::marks::target_marks` meets its contract. The invariant: the places passed are filled, and no place beyond has a mark.
+-- `needed::marks::mark_targets` meets its contract. The invariant: the places passed are filled, and no place beyond has a mark.
 -- It ends as the places up to the last, with places without marks behind them.
 use mathlib.Core.Path.{_≡_, ap, _∙_}
 use mathlib.Core.Bool.{Bool}
@@ -10,8 +10,8 @@ use lib.ListN.{set}
 use Rattle.number.specs.Limits.{countLimit}
 use Rattle.needed.specs.inside.Marks.{isTarget}
 use Rattle.needed.proofs.PlaceLaws.{filled, fill-start, fill-step, fill-end}
-use Rattle.needed.proofs.marks.target_marks.Statement.{statement}
-use Rattle.needed.proofs.marks.target_marks.Tie as tie
+use Rattle.needed.proofs.marks.mark_targets.Statement.{statement}
+use Rattle.needed.proofs.marks.mark_targets.Tie as tie
 
 abbrev Inv-loop : tie.InvT-loop
 Inv-loop parity top limit last marks₀ n₀ marks n = (n ≤ last + 1) × (marks ≡ filled (isTarget parity top limit) countLimit n)
@@ -20,13 +20,13 @@ abbrev μ-loop : tie.MeasureT-loop
 μ-loop parity top limit last marks₀ n₀ marks n = last + 1 - n
 
 loop-holds : tie.Need-loop-holds Inv-loop μ-loop
-loop-holds c = (omega arith, fill-start _ countLimit)
+loop-holds c = (omega arith, c .pre .1 ∙ fill-start _ countLimit)
 
 is-target-requires : tie.Need-is-target-requires Inv-loop μ-loop
 is-target-requires c κs = search needs
 
-array-write-marks : tie.Need-array-write-marks Inv-loop μ-loop
-array-write-marks c = search needs
+element-write-marks : tie.Need-element-write-marks Inv-loop μ-loop
+element-write-marks c = search needs
 
 add-n : tie.Need-add-n Inv-loop μ-loop
 add-n c = search needs
@@ -39,7 +39,7 @@ loop-again c =
     let loop = c .before .before .loop in
     let start = c .before .before .before in
     let test = isTarget (start .args .parity) (start .args .top) (start .args .limit) in
-    let inside : loop .n < countLimit = omega (arith, c .before .loop-test .taken, start .pre) in
+    let inside : loop .n < countLimit = omega (arith, c .before .loop-test .taken, start .pre .0) in
     let step = fill-step test countLimit (loop .n) inside (c .is-target .ensures) in
     (omega arith, ap (λ (marks : List Bool). set marks (loop .n) (c .is-target .result)) (loop .inv .1) ∙ step)
 
@@ -50,15 +50,15 @@ returns c =
     let end : c .before .loop .n ≡ start .args .last + 1 = omega arith in
     c .before .loop .inv .1 ∙ ap (filled test countLimit) end ∙ fill-end test countLimit (start .args .last + 1)
 
-pub target-marks-spec : {M : Type 1} → statement M
-target-marks-spec =
+pub mark-targets-spec : {M : Type 1} → statement M
+mark-targets-spec =
     tie.close
     (tie.spec
     Inv-loop
     μ-loop
     loop-holds
     is-target-requires
-    array-write-marks
+    element-write-marks
     add-n
     loop-less
     loop-again
