@@ -2,15 +2,19 @@
 -- partners below p have lost them. Over any operations, so i64 and f64 share it.
 use mathlib.Core.Path.{_≡_, refl, ap, sym, _∙_}
 use mathlib.Core.List.{List, [], _∷_, _++_, map, reverse, reverse-cons, reverse-reverse, append-nil}
-use Prim.Native.Nat.{ℕ, zero, suc, _+_, _-_, _≤_, _<_}
+use Prim.Native.Nat.{ℕ, zero, suc, _+_, _-_, _≤_, _<_, _^_}
 use native.Mathlib.Omega.{arith}
 use lib.ListN.{length, take, drop, getD, set, length-reverse, length-drop, drop-of-length-le, List·getD-append, take-append-drop}
 use lib.Seq.{set-at, set-append-left, take-all, drop-cons, length-take-le, getD-drop, getD-take}
-use Rattle.algebra.specs.Operations.{Operations, double}
+use lib.IntN.{ℤ, pos}
+use Rattle.algebra.specs.Operations.{Operations, wholeOps, double}
 use Rattle.algebra.specs.Cut.{differences, doubled, lowered, cutAt}
 use Rattle.algebra.specs.declared.Basis.the-variants.{Chebyshev}
 use Rattle.algebra.proofs.CutPlaces.{length-differences}
 use Rattle.algebra.proofs.Lists.{getD-reverse, getD-right}
+use Rattle.number.specs.Exact.{AllTo52}
+use Rattle.number.specs.inside.Pair.{cutOne, cutTwo, PairTo52}
+use Rattle.number.proofs.Within.{within-at}
 
 module _ {A : Type 0} where
   -- place k from the front is place m from the back
@@ -36,13 +40,14 @@ module _ {A : Type 0} (𝓞 : Operations A) where
   differences-nil [] = refl
   differences-nil (x ∷ xs) = refl
 
-  -- the element at m while the first m of ys are taken off: still as it was
-  differences-at : (xs ys : List A) (m : ℕ) (d : A) → getD (differences 𝓞 xs (take m ys)) m d ≡ getD xs m d
+  -- an element from m on while the first m of ys are taken off: still as it was
+  differences-at : (xs ys : List A) (m n : ℕ) (d : A) → m ≤ n → getD (differences 𝓞 xs (take m ys)) n d ≡ getD xs n d
   unfolding differences
-  differences-at [] ys m d = refl
-  differences-at (x ∷ xs) ys zero d = refl
-  differences-at (x ∷ xs) [] (suc m) d = refl
-  differences-at (x ∷ xs) (y ∷ ys) (suc m) d = differences-at xs ys m d
+  differences-at [] ys m n d h = refl
+  differences-at (x ∷ xs) ys zero n d h = refl
+  differences-at (x ∷ xs) [] (suc m) n d h = refl
+  differences-at (x ∷ xs) (y ∷ ys) (suc m) zero d h = absurd (omega arith)
+  differences-at (x ∷ xs) (y ∷ ys) (suc m) (suc n) d h = differences-at xs ys m n d (omega arith)
 
   less-step : (xs ys : List A) (m : ℕ) (d : A) → m < length xs → m < length ys
       → set (differences 𝓞 xs (take m ys)) m (𝓞 .sub (getD xs m d) (getD ys m d)) ≡ differences 𝓞 xs (take (suc m) ys)
@@ -56,11 +61,12 @@ module _ {A : Type 0} (𝓞 : Operations A) where
   abbrev doubledTo : ℕ → List A → List A
   doubledTo m ys = map (double 𝓞) (take m ys) ++ drop m ys
 
-  doubled-at : (ys : List A) (m : ℕ) (d : A) → getD (doubledTo m ys) m d ≡ getD ys m d
-  doubled-at [] zero d = refl
-  doubled-at [] (suc m) d = refl
-  doubled-at (y ∷ ys) zero d = refl
-  doubled-at (y ∷ ys) (suc m) d = doubled-at ys m d
+  doubled-at : (ys : List A) (m n : ℕ) (d : A) → m ≤ n → getD (doubledTo m ys) n d ≡ getD ys n d
+  doubled-at [] zero n d h = refl
+  doubled-at [] (suc m) n d h = refl
+  doubled-at (y ∷ ys) zero n d h = refl
+  doubled-at (y ∷ ys) (suc m) zero d h = absurd (omega arith)
+  doubled-at (y ∷ ys) (suc m) (suc n) d h = doubled-at ys m n d (omega arith)
 
   doubled-step : (ys : List A) (m : ℕ) (d : A) → m < length ys → set (doubledTo m ys) m (double 𝓞 (getD ys m d)) ≡ doubledTo (suc m) ys
   doubled-step [] m d h = absurd (omega arith)
@@ -111,26 +117,27 @@ module _ {A : Type 0} (𝓞 : Operations A) where
         high-value : getD (drop (suc p) c) m d ≡ getD c i d
         high-value = getD-drop (suc p) c m d ∙ ap (λ (n : ℕ). getD c n d) (omega arith)
 
-        low-at : getD (cutTo m) k d ≡ getD c k d
+        -- until then both are as they came
+        low-at : (n : ℕ) → n ≤ m → getD (cutTo n) k d ≡ getD c k d
         unfolding cutTo
-        low-at =
-            let front : k < length (reverse (lost m)) = omega (arith, front-length m) in
-            List·getD-append (reverse (lost m)) (getD c p d ∷ doubledTo m (drop (suc p) c)) d k front
-            ∙ getD-reverse (lost m) m k d (omega (arith, lost-length m))
-            ∙ differences-at (reverse (take p c)) (drop (suc p) c) m d
+        low-at n until =
+            let front : k < length (reverse (lost n)) = omega (arith, front-length n) in
+            List·getD-append (reverse (lost n)) (getD c p d ∷ doubledTo n (drop (suc p) c)) d k front
+            ∙ getD-reverse (lost n) m k d (omega (arith, lost-length n))
+            ∙ differences-at (reverse (take p c)) (drop (suc p) c) n m d until
             ∙ low-value
 
-        high-at : getD (cutTo m) i d ≡ getD c i d
+        high-at : (n : ℕ) → n ≤ m → getD (cutTo n) i d ≡ getD c i d
         unfolding cutTo
-        high-at =
-            let behind : i ≡ length (reverse (lost m)) + suc m = omega (arith, front-length m) in
-            getD-right (reverse (lost m)) (getD c p d ∷ doubledTo m (drop (suc p) c)) (suc m) i d behind
-            ∙ doubled-at (drop (suc p) c) m d
+        high-at n until =
+            let behind : i ≡ length (reverse (lost n)) + suc m = omega (arith, front-length n) in
+            getD-right (reverse (lost n)) (getD c p d ∷ doubledTo n (drop (suc p) c)) (suc m) i d behind
+            ∙ doubled-at (drop (suc p) c) n m d until
             ∙ high-value
 
-        cut-more : set (set (cutTo m) k (𝓞 .sub (getD c k d) (getD c i d))) i (double 𝓞 (getD c i d)) ≡ cutTo (suc m)
+        written : set (set (cutTo m) k (𝓞 .sub (getD c k d) (getD c i d))) i (double 𝓞 (getD c i d)) ≡ cutTo (suc m)
         unfolding cutTo
-        cut-more =
+        written =
             let more : m < length (drop (suc p) c) = omega (arith, length-drop (suc p) c) in
             let front : k < length (reverse (lost m)) = omega (arith, front-length m) in
             let mirrored : k + suc m ≡ length (lost m) = omega (arith, lost-length m) in
@@ -145,20 +152,36 @@ module _ {A : Type 0} (𝓞 : Operations A) where
               doubled-step (drop (suc p) c) m d more,
             )
 
--- the loop's turn at j, where the turns below j left c of c₀
+        cut-more : cutOne 𝓞 d (cutTo m) k i ≡ cutTo (suc m)
+        unfolding cutOne
+        cut-more = rw (low-at m (omega arith), high-at m (omega arith)) written
+
+-- the loop at j, where the turns below j left c of c₀: a turn, or two, cut the next pairs
 module _ {A : Type 0} (𝓞 : Operations A) (d : A) (p j : ℕ) (c₀ c : List A)
-    (inside : p < length c₀) (half : length c₀ ≤ p + p) (started : 0 < j) (test : j < length c₀ - p)
-    (before : c ≡ cutTo 𝓞 p c₀ d (j - 1)) where
-  -- both coefficients of the turn are still as they came
-  pub turn-low : getD c (p - j) d ≡ getD c₀ (p - j) d
-  turn-low = rw before (low-at 𝓞 p c₀ d inside (j - 1) (p - j) (p + j) (omega arith) (omega arith) (omega arith))
+    (inside : p < length c₀) (half : length c₀ ≤ p + p) (started : 0 < j) (before : c ≡ cutTo 𝓞 p c₀ d (j - 1)) where
+  -- the pair of this turn, and of every later one, is still as it came
+  pair-low : (n k : ℕ) → j ≤ n → n < length c₀ - p → k + n ≡ p → getD c k d ≡ getD c₀ k d
+  pair-low n k later test low = rw before (low-at 𝓞 p c₀ d inside (n - 1) k (p + n) (omega arith) (omega arith) (omega arith) (j - 1) (omega arith))
 
-  pub turn-high : getD c (p + j) d ≡ getD c₀ (p + j) d
-  turn-high = rw before (high-at 𝓞 p c₀ d inside (j - 1) (p - j) (p + j) (omega arith) (omega arith) (omega arith))
+  pair-high : (n i : ℕ) → j ≤ n → n < length c₀ - p → i ≡ p + n → getD c i d ≡ getD c₀ i d
+  pair-high n i later test high = rw before (high-at 𝓞 p c₀ d inside (n - 1) (p - n) i (omega arith) (omega arith) (omega arith) (j - 1) (omega arith))
 
-  -- and what the turn writes is one turn more
-  pub turn-written : (y x : A) → y ≡ 𝓞 .sub (getD c₀ (p - j) d) (getD c₀ (p + j) d) → x ≡ double 𝓞 (getD c₀ (p + j) d)
-      → set (set c (p - j) y) (p + j) x ≡ cutTo 𝓞 p c₀ d (j + 1 - 1)
-  turn-written y x low high =
-      let next : j + 1 - 1 ≡ suc (j - 1) = omega arith in
-      rw (low, high, before, next) (cut-more 𝓞 p c₀ d inside (j - 1) (p - j) (p + j) (omega arith) (omega arith) (omega arith))
+  pub turn-one : j < length c₀ - p → cutOne 𝓞 d c (p - j) (p + j) ≡ cutTo 𝓞 p c₀ d j
+  turn-one test =
+      let next : suc (j - 1) ≡ j = omega arith in
+      rw before (cut-more 𝓞 p c₀ d inside (j - 1) (p - j) (p + j) (omega arith) (omega arith) (omega arith) ∙ ap (cutTo 𝓞 p c₀ d) next)
+
+  pub turn-two : j + 1 < length c₀ - p → cutTwo 𝓞 d c (p - j) (p + j) ≡ cutTo 𝓞 p c₀ d (j + 2 - 1)
+  unfolding cutTwo
+  turn-two test =
+      let next : suc j ≡ j + 2 - 1 = omega arith in
+      rw (turn-one (omega arith))
+      (cut-more 𝓞 p c₀ d inside j (p - j - 1) (p + j + 1) (omega arith) (omega arith) (omega arith) ∙ ap (cutTo 𝓞 p c₀ d) next)
+
+-- over whole numbers such a pair is as small as it came
+pub pair-small : (p j : ℕ) (c₀ c : List ℤ) → p < length c₀ → length c₀ ≤ p + p → 0 < j → c ≡ cutTo wholeOps p c₀ (pos 0) (j - 1) → AllTo52 c₀
+    → (n k i : ℕ) → j ≤ n → n < length c₀ - p → k + n ≡ p → i ≡ p + n → PairTo52 c k i
+pair-small p j c₀ c inside half started before small n k i later test low high = record {
+  at-low = rw (pair-low wholeOps (pos 0) p j c₀ c inside half started before n k later test low) (within-at (2 ^ 52) c₀ small k);
+  at-high = rw (pair-high wholeOps (pos 0) p j c₀ c inside half started before n i later test high) (within-at (2 ^ 52) c₀ small i);
+}

@@ -9,6 +9,7 @@ pub mod Exact
 pub mod Bits
 pub mod SplitParts
 mod Cutting
+mod Pair
 pub mod CutSame
 mod EverySecond
 mod ParityLoops
