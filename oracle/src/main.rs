@@ -1,6 +1,8 @@
 //! Records what the published planner answers, one call a line, and answers lines as `planlines` does; README.md has
-//! the formats. With the feature `both` it also compares the published planner with the proved library.
+//! the formats. With the feature `both` it also compares the published planner with the proved library, and times both.
 
+#[cfg(feature = "both")]
+mod bench;
 #[cfg(feature = "both")]
 mod both;
 mod calls;
@@ -45,6 +47,8 @@ fn main() {
         }
         #[cfg(feature = "both")]
         ["both", count, seed] => both::compare(number(count), number(seed)),
+        #[cfg(feature = "both")]
+        ["bench", rounds, seed] => bench::run(number(rounds) as usize, number(seed)),
         ["walks"] => walked::check(stdin().lock()).expect("lines"),
         _ => usage(),
     }
@@ -58,6 +62,6 @@ fn folder(dir: &str) -> PathBuf {
 fn usage() -> ! {
     eprintln!("usage: oracle gate DIR | oracle large DIR COUNT SEED");
     eprintln!("       oracle lines < LINES | oracle curves COUNT SEED | oracle walks < LINES");
-    eprintln!("       oracle both COUNT SEED (with the feature both)");
+    eprintln!("       oracle both COUNT SEED | oracle bench ROUNDS SEED (with the feature both)");
     std::process::exit(2)
 }

@@ -15,7 +15,9 @@ use std::thread::{available_parallelism, scope};
 
 use crate::inputs::{MAX_DEGREE, Rng};
 use call::{Call, NAMES, row_name};
+pub use ours::kinds_of;
 use rules::{Refusal, refusal};
+pub use theirs::value;
 
 const ROWS: usize = 2 * NAMES.len();
 /// Random calls are made in parts, each from a seed of its own, so that the calls do not hang on the number of threads.

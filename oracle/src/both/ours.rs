@@ -73,16 +73,25 @@ fn say(call: &Call, w: &mut Words) -> Result<(), Refusal> {
 }
 
 fn kinds(call: &Call) -> (lib::Basis, lib::Parity, lib::SplitStrategy) {
-    let basis = match call.basis {
+    kinds_of(call.basis, call.parity, call.strategy)
+}
+
+/// The library's kinds for the published ones.
+pub fn kinds_of(
+    basis: Basis,
+    parity: Parity,
+    strategy: SplitStrategy,
+) -> (lib::Basis, lib::Parity, lib::SplitStrategy) {
+    let basis = match basis {
         Basis::Monomial => lib::Basis::Monomial,
         Basis::Chebyshev => lib::Basis::Chebyshev,
     };
-    let parity = match call.parity {
+    let parity = match parity {
         Parity::Full => lib::Parity::Full,
         Parity::Even => lib::Parity::Even,
         Parity::Odd => lib::Parity::Odd,
     };
-    let strategy = match call.strategy {
+    let strategy = match strategy {
         SplitStrategy::MinDepth => lib::SplitStrategy::MinDepth,
         SplitStrategy::MinMult => lib::SplitStrategy::MinMult,
     };

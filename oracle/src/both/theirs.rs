@@ -120,7 +120,7 @@ fn counts(strategy: SplitStrategy, cut: &rust::BSGSPolynomial<Vec<f64>>, w: &mut
 }
 
 /// The remainder of the sum of c_j times power j at the point, exact: a modulus is below 2^31.
-fn value(basis: Basis, c: &[f64], point: i64, modulus: u64) -> u64 {
+pub fn value(basis: Basis, c: &[f64], point: i64, modulus: u64) -> u64 {
     let m = modulus as i64;
     let x = point.rem_euclid(m);
     let (mut power, mut next, mut sum) = (1 % m, x, 0);
