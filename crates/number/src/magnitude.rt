@@ -23,7 +23,7 @@ fn less(left: usize, m: usize) -> usize
     if left < m { 0 } else { left - m }
 }
 
-// Whether the magnitudes sum to at most the limit. No early return: a turn without branches is faster.
+// Whether the magnitudes sum to at most the limit. No early return: a loop with one exit is faster.
 pub fn sum_fits(c: &[i64]) -> bool
     ensures { λ r. ⌜ r ≡ wholeNumbers .small (now (c .entry)) ⌝ }
 {
