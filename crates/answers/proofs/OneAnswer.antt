@@ -14,7 +14,7 @@ use Rattle.texts.specs.PlanText.{linesOf}
 use Rattle.texts.specs.TextIsLines.{IsLine}
 use Rattle.texts.proofs.TextIsLines.{text-is-lines}
 use Rattle.demands.specs.Total.{numbersOf}
-use Rattle.demands.proofs.Refusals.{inputs-numbered}
+use Rattle.plan.proofs.PlanTests.{inputs-numbered}
 use Rattle.answers.specs.Answer.{answerTests, answerRefusal, plannedLines, answerLines}
 use Rattle.answers.specs.OneAnswer.{OneAnswers}
 

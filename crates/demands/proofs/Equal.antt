@@ -26,8 +26,6 @@ use Rattle.number.specs.FoldCall.{foldTests, foldRefusal, foldAnswer, foldBuffe
 use Rattle.number.specs.Limits.{planLimit, sumLimit, degreeLimit}
 use Rattle.number.specs.Numbers.{wholeNumbers, floatOps, floatNumbers}
 use Rattle.number.specs.Refusal.{unlessRefused}
-use Rattle.number.specs.Tests.{degreeOf}
-use Rattle.number.specs.inside.Room.{SumByLengthTo53}
 use Rattle.number.specs.declared.fold.Folded.{Folded}
 use Rattle.number.proofs.Bits.{digits-by-halving, powers-of-two}
 use Rattle.number.proofs.CutSame.{cuts-same}
@@ -49,21 +47,20 @@ use Rattle.lists.specs.Tree.{relists}
 use Rattle.lists.specs.Arrange.{arranged, leavesOf}
 use Rattle.lists.specs.ListCall.{listRefusal, listAnswer, listCoefficients, listBoundaries, ListCall}
 use Rattle.lists.specs.declared.call.Listed.{Listed}
-use Rattle.lists.proofs.Bounds.{fold-sum-by-length}
 use Rattle.lists.proofs.Lists.{lists-in-order}
 use Rattle.lists.proofs.Promises.{lists-to-53, folded-lists-to-53, lists-same, folded-lists-same}
 use Rattle.lists.proofs.Same.{arranged-same}
-use Rattle.lists.proofs.SumByLength.{sum-by-length-start}
 use Rattle.lists.proofs.TreeRule.{trees-by-rule}
 use Rattle.walk.specs.declared.plan.Head.{Head}
 use Rattle.plan.specs.PlanHead.{headOf}
 use Rattle.plan.specs.Reported.{transformCost}
 use Rattle.plan.specs.PlanCall.{plannedCoefficients, plannedParity, plannedTransform, inputTests, Accepted, planned, plannedDegree, tree, headFor}
 use Rattle.plan.specs.PlanCall.{coefficientsFor, boundariesFor}
+use Rattle.plan.proofs.PlanTests.{inputs-numbered, planned-to-53}
 use Rattle.demands.specs.Accepts.{Covered}
 use Rattle.demands.specs.Equal.{Published, FloatsEqual, plannedFloats, splitCall, ListsPlan, FoldsPlan, PlansEqual}
 use Rattle.demands.proofs.Accepts.{Plannable, covered-accepted, plannable}
-use Rattle.demands.proofs.Refusals.{inputs-numbered, refusal-of}
+use Rattle.demands.proofs.Refusals.{refusal-of}
 use Rattle.demands.proofs.Right.{from-one}
 
 -- ---- the published rules
@@ -120,11 +117,6 @@ planned-floats : (folded : Bool) (parity : Parity) (basis : Basis) (c : List ℤ
 planned-floats true parity basis c small = folds-same parity basis c (small-told c small) .written
 planned-floats false parity basis c small = refl
 
-planned-sum : (folded : Bool) (parity : Parity) (basis : Basis) (c : List ℤ) → sumAbs c ≤ sumLimit → degreeOf c ≤ planLimit
-    → SumByLengthTo53 (plannedCoefficients folded parity basis c)
-planned-sum true parity basis c small few = fold-sum-by-length parity basis c small few
-planned-sum false parity basis c small few = sum-by-length-start c small few
-
 module _ (strategy : SplitStrategy) (parity : Parity) (basis : Basis) (folded : Bool) (c : List ℤ) (accepted : Accepted folded parity c) where
   abbrev head : Head
   head = headFor strategy parity basis folded c
@@ -146,7 +138,7 @@ module _ (strategy : SplitStrategy) (parity : Parity) (basis : Basis) (folded : 
   same-listing =
       arranged-same (relists strategy) basis (plannedDegree strategy parity basis folded c)
       (splitFor strategy (plannedParity folded parity) basis (plannedDegree strategy parity basis folded c)) (planned strategy parity basis folded c)
-      (planned-sum folded parity basis c (covered .magnitudes) (covered .degree-to)) (omega (arith, facts .several)) (facts .few)
+      (planned-to-53 folded parity basis c (covered .magnitudes) (covered .degree-to)) (omega (arith, facts .several)) (facts .few)
       (from-one strategy parity basis folded c accepted)
 
   -- the list call passes all its tests

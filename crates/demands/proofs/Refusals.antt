@@ -16,6 +16,7 @@ use Rattle.number.proofs.Refusal.{none-holds, first-of-more}
 use Rattle.counts.specs.declared.choice.SplitStrategy.{SplitStrategy}
 use Rattle.walk.specs.declared.plan.Head.{Head}
 use Rattle.plan.specs.PlanCall.{inputTests, Accepted, headFor, planRefusal}
+use Rattle.plan.proofs.PlanTests.{inputs-numbered}
 use Rattle.demands.specs.Accepts.{LongEnough}
 
 -- ---- tests, and then others
@@ -34,10 +35,6 @@ refusal-of zero accepted refused read none-is some-is = none-is
 refusal-of (suc k) accepted refused read none-is some-is = some-is
 
 -- ---- the plan call's
-
-pub inputs-numbered : (folded : Bool) (parity : Parity) (c : List ℤ) → Numbered (inputTests folded parity c)
-inputs-numbered true parity c = (omega arith, (omega arith, (omega arith, (omega arith, (omega arith, (omega arith, tt))))))
-inputs-numbered false parity c = (omega arith, (omega arith, (omega arith, (omega arith, tt))))
 
 module _ (strategy : SplitStrategy) (parity : Parity) (basis : Basis) (folded : Bool) (c out : List ℤ) (bounds steps : List ℕ) where
   abbrev head : Head

@@ -9,7 +9,7 @@ use Prim.Native.Nat.{ℕ, _+_, _*_, _^_, _≤_, _<_}
 use native.Mathlib.Omega.{arith}
 use lib.IntN.{ℤ}
 use lib.ListN.{length, take, drop}
-use lib.Seq.{sets, sets-eq}
+use lib.Seq.{sets}
 use Rattle.algebra.specs.Operations.{wholeOps}
 use Rattle.algebra.specs.Allowed.{HasParity}
 use Rattle.algebra.specs.Cut.{cutAt}
@@ -28,6 +28,7 @@ use Rattle.lists.specs.TreeFacts.{Sound}
 use Rattle.lists.specs.Lists.{listsOf, InOrder}
 use Rattle.lists.proofs.Arranging.{length-ends, low-size, high-size}
 use Rattle.lists.proofs.Bounds.{sound-for}
+use Rattle.lists.proofs.ListCall.{front}
 use Rattle.lists.proofs.Lists.{lists-in-order, length-arranged}
 use Rattle.walk.specs.Options.{_then_, missing}
 use Rattle.walk.specs.Rules.{exactRules}
@@ -170,9 +171,6 @@ stored-right strategy parity basis folded c coefficients bounds steps x accepted
     walks-right strategy parity basis folded c accepted coefficients bounds steps stored x
 
 -- ---- the call
-
-front : {A : Type 0} (xs out : List A) → length xs ≤ length out → sets out 0 xs ≡ xs ++ drop (length xs) out
-front xs out fits = let all : 0 + length xs ≡ length xs = omega arith in sets-eq xs out 0 (omega arith) ∙ ap (λ (k : ℕ). xs ++ drop k out) all
 
 pub plans-right : PlansRight
 unfolding planAnswer planCoefficients planBoundaries planNumbers

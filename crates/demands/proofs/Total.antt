@@ -53,7 +53,8 @@ use Rattle.plan.specs.PlanCall.{inputTests, planTests, planRefusal, planAnswer,
 use Rattle.plan.specs.declared.call.Planned.{Planned}
 use Rattle.demands.specs.Total.{Ends, answers, refuses, ZeroHead, PlansTotal, PlansMade, PlanOrder, FoldsTotal, ListsTotal, TrialAnswered}
 use Rattle.demands.specs.Total.{TrialsTotal, InterpolationsTotal, NumbersTotal}
-use Rattle.demands.proofs.Refusals.{refusal-of, inputs-numbered, bufferTests, plan-made, made-accepted, made-long}
+use Rattle.plan.proofs.PlanTests.{inputs-numbered}
+use Rattle.demands.proofs.Refusals.{refusal-of, bufferTests, plan-made, made-accepted, made-long}
 use Rattle.demands.proofs.Right.{plans-right}
 
 -- ---- a call by its tests

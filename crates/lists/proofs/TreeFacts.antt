@@ -3,12 +3,12 @@ use mathlib.Core.Path.{_≡_, refl, ap, ap₂, sym, _∙_}
 use mathlib.Core.Bool.{Bool, true, false, false≢true}
 use mathlib.Core.List.{_++_, map, map-append}
 use Prim.Native.Nat.{ℕ, suc, _-_, _^_, _≤_, _<_}
-use native.Mathlib.Nat.{lt-of-not-le}
 use native.Mathlib.Omega.{arith}
 use lib.Pow.{pow-mono, pow-pos}
 use Rattle.number.specs.Bits.{bitLen, topPower}
 use Rattle.number.specs.Limits.{planLimit}
-use Rattle.number.proofs.Bits.{len-above, some-digit, top-power, sides-fall}
+use Rattle.number.proofs.Bits.{some-digit, top-power, sides-fall}
+use Rattle.needed.proofs.BaseLaws.{split-under}
 use Rattle.counts.specs.Slices.{slicesOf}
 use Rattle.counts.specs.MinDepth.{minDepth}
 use Rattle.counts.proofs.SliceRule.{slices-one, slices-cut}
@@ -36,11 +36,7 @@ sound-wider (cut p low high) n base wider more sound = record {
 top-level : (degree split : ℕ) → 1 ≤ split → 2 ^ split ≤ degree → topPower degree ≡ 2 ^ suc (bitLen degree - 2)
 unfolding topPower
 top-level degree split from above =
-    let longer : split < bitLen degree = lt-of-not-le (λ (less : bitLen degree ≤ split).
-    let most = len-above degree in
-    let grows : 2 ^ bitLen degree ≤ 2 ^ split = pow-mono less in
-    omega arith) in
-    let exponent : bitLen degree - 1 ≡ suc (bitLen degree - 2) = omega arith in
+    let exponent : bitLen degree - 1 ≡ suc (bitLen degree - 2) = omega (arith, split-under degree split above) in
     ap (λ (k : ℕ). 2 ^ k) exponent
 
 abbrev SoundAt : Bool → (degree split : ℕ) → Tree → Type 0

@@ -1,6 +1,6 @@
 pub mod Literals
 pub mod Signed
-pub mod SignLaws
+mod SignLaws
 pub mod Refusal
 pub mod Maps
 pub mod Within

@@ -32,6 +32,7 @@ pub use limits::COUNT_LIMIT;
 pub use limits::DEGREE_LIMIT;
 pub use limits::PLAN_LIMIT;
 pub use limits::SCALE_LIMIT;
+pub use magnitude::magnitude_of;
 pub use magnitude::sum_fits;
 pub use parity::detect_parity;
 pub use parity::detect_parity_f64;

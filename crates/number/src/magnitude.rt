@@ -6,7 +6,7 @@ ghost use lib.IntN.{natAbs};
 ghost use Rattle.number.specs.Numbers.{wholeNumbers};
 
 // The magnitude of x. Below zero 1 is added ahead of the sign change, since the least i64 has no opposite.
-fn magnitude(x: i64) -> usize
+pub fn magnitude_of(x: i64) -> usize
     ensures { λ r. ⌜ r ≡ natAbs x ⌝ }
 {
     if x < 0 {
@@ -30,7 +30,7 @@ pub fn sum_fits(c: &[i64]) -> bool
     let mut left: usize = SUM_LIMIT + 1;
     let mut i: usize = 0;
     while i < c.len() {
-        left = less(left, magnitude(c[i]));
+        left = less(left, magnitude_of(c[i]));
         i += 1;
     }
     0 < left

@@ -10,7 +10,7 @@ use lib.ListN.{length}
 use Rattle.algebra.specs.Fold.{foldedLength}
 use Rattle.algebra.specs.declared.Basis.{Basis}
 use Rattle.algebra.specs.declared.Parity.{Parity}
-use Rattle.number.specs.Refusal.{Numbered, firstRefusal}
+use Rattle.number.specs.Refusal.{firstRefusal}
 use Rattle.number.specs.Tests.{isFull}
 use Rattle.number.proofs.Refusal.{first-kept, first-of-more, when-refused, when-accepted}
 use Rattle.counts.specs.declared.choice.SplitStrategy.{SplitStrategy}
@@ -22,11 +22,7 @@ use Rattle.plan.specs.inside.Outlines.{outlineFor}
 use Rattle.plan.specs.inside.Filling.{plannedCount, bufferTests, bufferRefusal, PlanFits, PlanPut}
 use Rattle.plan.specs.declared.call.Planned.{Planned}
 use Rattle.plan.specs.declared.outline.Outline.{Outline}
-use Rattle.plan.proofs.PlanTests.{passed, planned-length, degree-range, buffers-fit}
-
-inputs-numbered : (folded : Bool) (parity : Parity) (c : List ℤ) → Numbered (inputTests folded parity c)
-inputs-numbered true parity c = (omega arith, (omega arith, (omega arith, (omega arith, (omega arith, (omega arith, tt))))))
-inputs-numbered false parity c = (omega arith, (omega arith, (omega arith, (omega arith, tt))))
+use Rattle.plan.proofs.PlanTests.{inputs-numbered, passed, planned-length, degree-range, buffers-fit}
 
 module _ (strategy : SplitStrategy) (parity : Parity) (basis : Basis) (folded : Bool) (c out : List ℤ) (bounds steps : List ℕ) where
   abbrev refusal : ℕ

@@ -1,7 +1,7 @@
 -- What an accepted call writes, over plain values: power steps and behind them those of the tree; and the planned coefficients, listed in place at the
 -- front of their buffer.
 use mathlib.Core.Path.{_≡_, ap, ap₂, sym, _∙_}
-use mathlib.Core.Bool.{Bool, true, false}
+use mathlib.Core.Bool.{Bool}
 use mathlib.Core.List.{List, _++_}
 use Prim.Native.Nat.{ℕ, _+_, _-_, _*_, _≤_}
 use native.Mathlib.Omega.{arith}
@@ -9,10 +9,9 @@ use lib.IntN.{ℤ}
 use lib.ListN.{length, take, drop, length-map}
 use lib.Seq.{sets, take-at, drop-at}
 use Rattle.algebra.specs.Operations.{wholeOps}
-use Rattle.algebra.specs.Magnitude.{sumAbs}
 use Rattle.algebra.specs.declared.Basis.{Basis}
 use Rattle.algebra.specs.declared.Parity.{Parity}
-use Rattle.number.specs.Limits.{planLimit, sumLimit}
+use Rattle.number.specs.Limits.{planLimit}
 use Rattle.number.specs.Tests.{degreeOf}
 use Rattle.number.specs.inside.Between.{Between}
 use Rattle.number.specs.inside.Room.{SumByLengthTo53}
@@ -24,8 +23,6 @@ use Rattle.lists.specs.Tree.{Tree, treeOf, relists, planTree}
 use Rattle.lists.specs.Arrange.{leavesOf}
 use Rattle.lists.specs.inside.Listing.{Listable, InPlace}
 use Rattle.lists.proofs.Arranging.{some-leaves, leaves-most, sets-append}
-use Rattle.lists.proofs.SumByLength.{sum-by-length-start}
-use Rattle.lists.proofs.Bounds.{fold-sum-by-length}
 use Rattle.lists.proofs.ListCall.{whole-listable, front}
 use Rattle.walk.specs.WalksHeld.{flat}
 use Rattle.walk.proofs.FlatSteps.{flat-append, flat-length}
@@ -37,6 +34,7 @@ use Rattle.plan.specs.declared.outline.Outline.{Outline}
 use Rattle.plan.specs.declared.tree.Place.{Place}
 use Rattle.plan.proofs.StepCounts.{steps-counted}
 use Rattle.plan.proofs.HeadCounts.{planned-at}
+use Rattle.plan.proofs.PlanTests.{planned-to-53}
 
 -- ---- the steps
 
@@ -88,11 +86,6 @@ module _ {leading plain : Bool} {parity : Parity} {basis : Basis} {degree split 
         ∙ ap (sets b 0) (sym (flat-append makes others))
 
 -- ---- coefficients and boundaries
-
-planned-to-53 : (folded : Bool) (parity : Parity) (basis : Basis) (c : List ℤ) → sumAbs c ≤ sumLimit → degreeOf c ≤ planLimit
-    → SumByLengthTo53 (plannedCoefficients folded parity basis c)
-planned-to-53 true parity basis c small within = fold-sum-by-length parity basis c small within
-planned-to-53 false parity basis c small within = sum-by-length-start c small within
 
 module _ {strategy : SplitStrategy} {parity : Parity} {basis : Basis} {folded : Bool} {count : ℕ} {outline : Outline}
     {c out : List ℤ} {bounds steps : List ℕ} (fits : PlanFits strategy parity basis folded count outline c out bounds steps) where

@@ -21,7 +21,10 @@ use Rattle.number.specs.Parity.{hasParity}
 use Rattle.number.specs.Refusal.{Test, Numbered, firstRefusal}
 use Rattle.number.specs.Tests.{degreeOf, isFull, leastFolded}
 use Rattle.number.specs.inside.Between.{Between}
+use Rattle.number.specs.inside.Room.{SumByLengthTo53}
 use Rattle.number.proofs.Refusal.{none-holds}
+use Rattle.lists.proofs.SumByLength.{sum-by-length-start}
+use Rattle.lists.proofs.Bounds.{fold-sum-by-length}
 use Rattle.walk.specs.declared.plan.Head.{Head}
 use Rattle.plan.specs.PlanCall.{plannedCoefficients, inputTests, Accepted}
 use Rattle.plan.specs.inside.Filling.{plannedCount, bufferTests, bufferRefusal}
@@ -31,6 +34,16 @@ use Rattle.plan.specs.inside.Filling.{plannedCount, bufferTests, bufferR
 -- the tests in the order with folding; without it 5 and 6 never hold
 abbrev pub testsBy : (high none full low wrong large : Bool) → List Test
 testsBy high none full low wrong large = (high, 2) ∷ (none, 1) ∷ (full, 5) ∷ (low, 6) ∷ (wrong, 4) ∷ (large, 3) ∷ []
+
+pub inputs-numbered : (folded : Bool) (parity : Parity) (c : List ℤ) → Numbered (inputTests folded parity c)
+inputs-numbered true parity c = (omega arith, (omega arith, (omega arith, (omega arith, (omega arith, (omega arith, tt))))))
+inputs-numbered false parity c = (omega arith, (omega arith, (omega arith, (omega arith, tt))))
+
+-- what is planned of small coefficients stays within 2^53 at every cut
+pub planned-to-53 : (folded : Bool) (parity : Parity) (basis : Basis) (c : List ℤ) → sumAbs c ≤ sumLimit → degreeOf c ≤ planLimit
+    → SumByLengthTo53 (plannedCoefficients folded parity basis c)
+planned-to-53 true parity basis c small within = fold-sum-by-length parity basis c small within
+planned-to-53 false parity basis c small within = sum-by-length-start c small within
 
 module _ (folded : Bool) (parity : Parity) (c : List ℤ) where
   -- the definition's tests are these

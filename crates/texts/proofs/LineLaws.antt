@@ -56,10 +56,6 @@ module _ {A : Type 0} (line : A → List ℕ) where
 pub start-first : (bounds : List ℕ) (i : ℕ) → i ≡ 0 → 0 ≡ startOf bounds i
 start-first bounds i e = rw e
 
-pub start-later : (bounds : List ℕ) (i : ℕ) → (i ≡ 0 → ⊥) → getD bounds (i - 1) 0 ≡ startOf bounds i
-start-later bounds zero e = absurd (e refl)
-start-later bounds (suc i) e = let one : suc i - 1 ≡ i = omega arith in rw one
-
 -- a line that is neither the head's nor a list's
 pub behind-lists : (k lists : ℕ) → (k ≡ 0 → ⊥) → lists ≤ k - 1 → k ≡ suc (lists + (k - 1 - lists))
 behind-lists zero lists h g = absurd (h refl)

@@ -7,11 +7,12 @@ use native.Mathlib.Numerals.{add-one}
 use native.Mathlib.Omega.{arith}
 use lib.ListN.{length, getD, drop, length-append, drop-of-length-le}
 use lib.Seq.{sets, drop-cons}
+use Rattle.lists.proofs.Arranging.{sets-append}
 use Rattle.lines.specs.Bytes.{tab, lineFeed}
 use Rattle.texts.specs.Text.{fieldsText, lineText}
 use Rattle.texts.specs.Put.{Put}
 use Rattle.texts.specs.inside.EndsIn64Bits.{EndsIn64Bits}
-use Rattle.texts.proofs.PutLaws.{sets-append, put-length, ends-same, ends-first}
+use Rattle.texts.proofs.PutLaws.{put-length, ends-same, ends-first}
 
 module _ {A : Type 0} (text : A → List ℕ) where
   -- the fields of the elements from a place on
@@ -64,7 +65,8 @@ module _ {A : Type 0} (text : A → List ℕ) (xs : List A) (from : ℕ) where
         record {
           within = omega arith;
           long = put-length put ∙ done .long;
-          written = (λ j. sets (put .buffer j) (put .next j) (restOf text xs (i + 1))) ∙ sym (sets-append out at field (restOf text xs (i + 1)))
+          written = (λ j. sets (put .buffer j) (put .next j) (restOf text xs (i + 1)))
+              ∙ sets-append out field (restOf text xs (i + 1)) at (at + length field) refl
               ∙ ap (λ (t : List ℕ). sets out at t) (sym step) ∙ done .written;
           place = omega (
             arith,

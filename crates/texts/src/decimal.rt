@@ -1,10 +1,8 @@
 // Bytes and numbers as text, from a place of a buffer on. A place behind the buffer takes nothing.
+use number::magnitude_of;
 ghost use mathlib.Core.Path.{_≡_};
 ghost use mathlib.Core.List.{[], _∷_};
 ghost use Prim.Native.Nat.{_+_, _<_};
-ghost use mathlib.Core.Bool.{true};
-ghost use lib.IntN.{natAbs, pos};
-ghost use lib.Signed.{ltZ};
 ghost use lib.ListN.{set};
 ghost use Rattle.lines.specs.Bytes.{digit0};
 ghost use Rattle.texts.specs.Decimal.{digitsOf, decimal, signedDecimal};
@@ -60,14 +58,6 @@ pub fn put_number(out: &mut [u8], at: usize, n: u64) -> usize
     put_digits(out, at, n)
 }
 
-// The magnitude of a number below zero.
-fn magnitude_below(z: i64) -> u64
-    requires { ⌜ ltZ z (pos 0) ≡ true ⌝ }
-    ensures { λ r. ⌜ r ≡ natAbs z ⌝ }
-{
-    (0 - (z + 1)) as u64 + 1
-}
-
 // A whole number.
 pub fn put_signed(out: &mut [u8], at: usize, z: i64) -> usize
     requires { ⌜ EndsIn64Bits at (signedDecimal z) ⌝ }
@@ -75,7 +65,7 @@ pub fn put_signed(out: &mut [u8], at: usize, z: i64) -> usize
 {
     if z < 0 {
         let next = put(out, at, b'-');
-        return put_number(out, next, magnitude_below(z));
+        return put_number(out, next, magnitude_of(z) as u64);
     }
     put_number(out, at, z as u64)
 }

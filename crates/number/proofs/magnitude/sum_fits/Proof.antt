@@ -51,14 +51,14 @@ loop-holds : tie.Need-loop-holds Inv-loop μ-loop
 unfolding sumAbs
 loop-holds c = omega arith
 
-mul-magnitude : tie.Need-mul-magnitude Inv-loop μ-loop
-mul-magnitude c = search needs
+mul-magnitude-of : tie.Need-mul-magnitude-of Inv-loop μ-loop
+mul-magnitude-of c = search needs
 
-shared-slice-copy-out-magnitude : tie.Need-shared-slice-copy-out-magnitude Inv-loop μ-loop
-shared-slice-copy-out-magnitude c = search needs
+shared-slice-copy-out-magnitude-of : tie.Need-shared-slice-copy-out-magnitude-of Inv-loop μ-loop
+shared-slice-copy-out-magnitude-of c = search needs
 
-magnitude-requires : tie.Need-magnitude-requires Inv-loop μ-loop
-magnitude-requires c κs = search needs
+magnitude-of-requires : tie.Need-magnitude-of-requires Inv-loop μ-loop
+magnitude-of-requires c κs = search needs
 
 less-requires : tie.Need-less-requires Inv-loop μ-loop
 less-requires c κs = search needs
@@ -73,7 +73,7 @@ loop-again : tie.Need-loop-again Inv-loop μ-loop
 loop-again c =
     let m = c .before in
     let b = m .before .before in
-    omega (arith, next b (m .before .magnitude-arg .given), m .magnitude .ensures, c .less .ensures)
+    omega (arith, next b (m .before .magnitude-of-arg .given), m .magnitude-of .ensures, c .less .ensures)
 
 returns : tie.Need-returns Inv-loop μ-loop
 returns c =
@@ -90,9 +90,9 @@ sum-fits-spec =
     μ-loop
     add-left
     loop-holds
-    mul-magnitude
-    shared-slice-copy-out-magnitude
-    magnitude-requires
+    mul-magnitude-of
+    shared-slice-copy-out-magnitude-of
+    magnitude-of-requires
     less-requires
     add-i
     loop-less

@@ -2,7 +2,6 @@
 -- buffer, give all that is to be put. The measure is the number of those that are left.
 use mathlib.Core.Path.{_≡_, refl, _∙_}
 use Prim.Native.Nat.{_-_}
-use native.Mathlib.Omega.{arith}
 use borrow.Author.Needs.{needs}
 use lib.ListN.{length}
 use Rattle.plan.proofs.TwoPowerSteps.{Left, left-all, power-fits, left-less, left-none}

@@ -22,8 +22,8 @@ put-requires c κs =
     ends-first (a .at) (minus ∷ []) (decimal n)
     (ends-same (a .at) (sym (below-text (a .z) (start .fits .z) n (test .if1 .taken) refl)) (start .pre))
 
-magnitude-below-requires : tie.Need-magnitude-below-requires
-magnitude-below-requires c κs = c .before .before .before .before .before .if1 .taken
+magnitude-of-requires : tie.Need-magnitude-of-requires
+magnitude-of-requires c κs = search needs
 
 put-number-requires : tie.Need-put-number-requires
 put-number-requires c κs =
@@ -31,9 +31,9 @@ put-number-requires c κs =
     let test = sign .before .before in
     let start = test .before .before in
     let a = start .args in
-    let n = c .magnitude-below .result in
+    let n = c .magnitude-of .result in
     ends-second (a .at) (minus ∷ []) (decimal n)
-    (ends-same (a .at) (sym (below-text (a .z) (start .fits .z) n (test .if1 .taken) (c .magnitude-below .ensures))) (start .pre))
+    (ends-same (a .at) (sym (below-text (a .z) (start .fits .z) n (test .if1 .taken) (c .magnitude-of .ensures))) (start .pre))
     (sign .put .ensures)
 
 same-length : tie.Need-same-length
@@ -47,7 +47,7 @@ returns c =
     let test = sign .before .before in
     let start = test .before .before in
     put-same (put-then (sign .put .ensures) (done .put-number .ensures))
-    (below-text (start .args .z) (start .fits .z) (size .magnitude-below .result) (test .if1 .taken) (size .magnitude-below .ensures))
+    (below-text (start .args .z) (start .fits .z) (size .magnitude-of .result) (test .if1 .taken) (size .magnitude-of .ensures))
 
 cast-put-number : tie.Need-cast-put-number
 cast-put-number c =
@@ -80,7 +80,7 @@ put-signed-spec =
     tie.close
     (tie.spec
     put-requires
-    magnitude-below-requires
+    magnitude-of-requires
     put-number-requires
     same-length
     returns

@@ -2,7 +2,8 @@
 use Prim.Native.Nat.{_-_}
 use native.Mathlib.Omega.{arith}
 use borrow.Author.Needs.{needs}
-use Rattle.texts.proofs.LineLaws.{start-first, start-later}
+use Rattle.walk.proofs.BoundaryLaws.{start-later}
+use Rattle.texts.proofs.LineLaws.{start-first}
 use Rattle.texts.proofs.line.list_start.Statement.{statement}
 use Rattle.texts.proofs.line.list_start.Tie as tie
 

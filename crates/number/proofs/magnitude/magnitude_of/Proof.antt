@@ -1,4 +1,4 @@
--- `number::magnitude::magnitude` meets its contract. A number below zero plus 1 has an opposite that fits even for the least i64, and 1 more than
+-- `number::magnitude::magnitude_of` meets its contract. A number below zero plus 1 has an opposite that fits even for the least i64, and 1 more than
 -- that opposite is the magnitude. Any other number is its own magnitude.
 use mathlib.Core.Path.{_≡_, ap}
 use mathlib.Core.Bool.{true}
@@ -11,10 +11,10 @@ use mir.Val.{toZ, ofZ}
 use mir.Facts.{toZ-ofZ}
 use Rattle.number.proofs.Signed.{nonnegative}
 use Rattle.number.proofs.SignLaws.{under, next-fits, taken-fits, size-less, under-small, size-is}
-use Rattle.number.proofs.magnitude.magnitude.Statement.{statement}
-use Rattle.number.proofs.magnitude.magnitude.Tie as tie
-use Rattle.number.proofs.magnitude.magnitude.Reads as reads
-use Rattle.number.proofs.magnitude.magnitude.Lts as lts
+use Rattle.number.proofs.magnitude.magnitude_of.Statement.{statement}
+use Rattle.number.proofs.magnitude.magnitude_of.Tie as tie
+use Rattle.number.proofs.magnitude.magnitude_of.Reads as reads
+use Rattle.number.proofs.magnitude.magnitude_of.Lts as lts
 
 -- below zero; the test is made on x as the machine reads it
 below : (k : lts.Then1 reads.Pre reads.Post) → ltZ (k .before .args .x) (pos 0) ≡ true
@@ -52,7 +52,7 @@ returns c = rw (opposite c) (size-is (c .before .args .x) (below c))
 returns-2 : tie.Need-returns-2
 returns-2 c = ap natAbs (toZ-ofZ (c .before .fits .x))
 
-pub magnitude-spec : {M : Type 1} → statement M
-magnitude-spec =
+pub magnitude-of-spec : {M : Type 1} → statement M
+magnitude-of-spec =
     tie.close
     (tie.spec add-result sub-result cast-result add-result-2 cast-result-2 returns returns-2)
