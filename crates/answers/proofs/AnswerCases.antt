@@ -1,16 +1,15 @@
 -- The two kinds of answers. The test of a line's form comes first, so that a line that isn't refused asks for the plan of an accepted polynomial, and its
 -- text is that plan's. Any other line's is that of its refusal, a number of at most 12.
 use mathlib.Core.Path.{_≡_, ap, sym, _∙_}
-use mathlib.Core.Bool.{Bool, true, false}
+use mathlib.Core.Bool.{true, false}
 use mathlib.Core.List.{List, [], _∷_, append-nil}
 use Prim.Native.Nat.{ℕ, _<_, _≤_}
 use native.Mathlib.Omega.{arith}
-use lib.IntN.{ℤ}
-use Rattle.algebra.specs.declared.Parity.{Parity}
 use Rattle.number.specs.Refusal.{Test, firstRefusal}
-use Rattle.number.proofs.Refusal.{when-refused, when-accepted}
+use Rattle.number.proofs.Refusal.{first-most, when-refused, when-accepted}
 use Rattle.lists.specs.Lists.{joined}
 use Rattle.plan.specs.PlanCall.{inputTests, Accepted}
+use Rattle.plan.proofs.PlanTests.{inputs-to}
 use Rattle.lines.specs.Line.{parityIn, foldIn, coefficientsIn}
 use Rattle.lines.specs.ReadLine.{badLine}
 use Rattle.texts.specs.Text.{refusalLine}
@@ -26,22 +25,9 @@ unfolding answerRefusal
 line-accepted line none = later-pass (badLine line) (inputTests (foldIn line) (parityIn line) (coefficientsIn line)) (omega arith) none
 
 -- a refusal is the number of one of the tests, which are at most 12
-abbrev Low : List Test → Type 0
-Low [] = Unit {0}
-Low (test ∷ tests) = (test .1 ≤ 12) × Low tests
-
-first-low : (tests : List Test) → Low tests → firstRefusal tests ≤ 12
-first-low [] low = omega arith
-first-low ((true, k) ∷ tests) low = low .0
-first-low ((false, k) ∷ tests) low = first-low tests (low .1)
-
-input-low : (folded : Bool) (parity : Parity) (c : List ℤ) → Low (inputTests folded parity c)
-input-low true parity c = (omega arith, (omega arith, (omega arith, (omega arith, (omega arith, (omega arith, tt))))))
-input-low false parity c = (omega arith, (omega arith, (omega arith, (omega arith, tt))))
-
 pub refusal-most : (line : List ℕ) → answerRefusal line ≤ 12
 unfolding answerRefusal
-refusal-most line = first-low (answerTests line) (omega arith, input-low (foldIn line) (parityIn line) (coefficientsIn line))
+refusal-most line = first-most 12 (answerTests line) (omega arith, inputs-to 12 (omega arith) (foldIn line) (parityIn line) (coefficientsIn line))
 
 -- the text, by the refusal
 pub text-planned : (line : List ℕ) → answerRefusal line ≡ 0 → answerText line ≡ joined (plannedLines line)

@@ -15,3 +15,5 @@ pub mod Total
 pub mod Equal
 pub mod Starred
 pub mod Demands
+pub mod Sized
+pub mod Requests

@@ -12,20 +12,12 @@ use Rattle.algebra.specs.declared.Basis.{Basis}
 use Rattle.algebra.specs.declared.Parity.{Parity}
 use Rattle.number.specs.Refusal.{Test, firstRefusal, unlessRefused, Numbered}
 use Rattle.number.specs.Tests.{noRoom, noBoundaries, noSteps}
-use Rattle.number.proofs.Refusal.{none-holds, first-of-more}
+use Rattle.number.proofs.Refusal.{none-holds, first-of-more, first-passed}
 use Rattle.counts.specs.declared.choice.SplitStrategy.{SplitStrategy}
 use Rattle.walk.specs.declared.plan.Head.{Head}
 use Rattle.plan.specs.PlanCall.{inputTests, Accepted, headFor, planRefusal}
 use Rattle.plan.proofs.PlanTests.{inputs-numbered}
 use Rattle.demands.specs.Accepts.{LongEnough}
-
--- ---- tests, and then others
-
--- what passes all, passes the first of them
-pub first-passed : (tests later : List Test) → Numbered tests → firstRefusal (tests ++ later) ≡ 0 → firstRefusal tests ≡ 0
-first-passed [] later numbers passed = refl
-first-passed ((true, k) ∷ tests) later numbers passed = passed
-first-passed ((false, k) ∷ tests) later numbers passed = first-passed tests later (numbers .1) passed
 
 -- the refusal that an answer carries
 pub refusal-of : {X : Type 0} (k : ℕ) (accepted refused : X) (read : X → ℕ) → read accepted ≡ 0 → read refused ≡ k

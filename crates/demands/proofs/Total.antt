@@ -49,11 +49,14 @@ use Rattle.walk.specs.declared.plan.Head.{Head}
 use Rattle.walk.specs.declared.call.Trial.{Trial}
 use Rattle.walk.proofs.TrialFollows.{trial-follows}
 use Rattle.plan.specs.PlanHead.{noHead}
-use Rattle.plan.specs.PlanCall.{inputTests, planTests, planRefusal, planAnswer, planCoefficients, planBoundaries, planNumbers, PlanCall}
+use Rattle.plan.specs.PlanCall.{plannedParity, settingsTests, inputTests, planTests, planRefusal, planAnswer, planCoefficients, planBoundaries}
+use Rattle.plan.specs.PlanCall.{planNumbers, PlanCall}
+use Rattle.plan.specs.PlanSizes.{degreeToPlan, sizesOf, noSizes, sizesRefusal, sizesCall}
 use Rattle.plan.specs.declared.call.Planned.{Planned}
+use Rattle.plan.specs.declared.sizes.PlanSizes.{PlanSizes}
 use Rattle.demands.specs.Total.{Ends, answers, refuses, ZeroHead, PlansTotal, PlansMade, PlanOrder, FoldsTotal, ListsTotal, TrialAnswered}
 use Rattle.demands.specs.Total.{TrialsTotal, InterpolationsTotal, NumbersTotal}
-use Rattle.plan.proofs.PlanTests.{inputs-numbered}
+use Rattle.plan.proofs.PlanTests.{settings-numbered, inputs-numbered}
 use Rattle.demands.proofs.Refusals.{refusal-of, bufferTests, plan-made, made-accepted, made-long}
 use Rattle.demands.proofs.Right.{plans-right}
 
@@ -81,7 +84,7 @@ module _ (strategy : SplitStrategy) (parity : Parity) (basis : Basis) (folds : B
       numbered-append (inputTests folds parity c) (bufferTests strategy parity basis folds c out bounds steps) (inputs-numbered folds parity c)
       (omega arith, (omega arith, (omega arith, tt)))
 
-  refusal-is : r .refusal ≡ k
+  pub refusal-is : r .refusal ≡ k
   unfolding planAnswer
   refusal-is = ap (λ (p : Planned). p .refusal) (call .answer) ∙ refusal-of k _ _ (λ (p : Planned). p .refusal) refl refl
 
@@ -304,6 +307,16 @@ consumed-bits strategy degree input coeff =
     (record { refusal = 0; bits = bitsOf strategy degree input coeff }) (noBits (bitsRefusal degree input coeff)) (λ (r : ConsumedBits). r .refusal)
     (omega arith, (omega arith, (omega arith, tt))) refl refl)
 
+plan-sizes : (strategy : SplitStrategy) (parity : Parity) (basis : Basis) (folds : Bool) (degree : ℕ)
+    → Ends (settingsTests folds parity degree) (sizesCall strategy parity basis folds degree .refusal)
+    (sizesCall strategy parity basis folds degree ≡ sizesOf strategy (plannedParity folds parity) basis (degreeToPlan folds parity degree))
+    (sizesCall strategy parity basis folds degree ≡ noSizes (sizesCall strategy parity basis folds degree .refusal))
+unfolding sizesCall sizesOf
+plan-sizes strategy parity basis folds degree =
+    ends-by (λ is. is) (λ is. is ∙ ap noSizes (sym (ap (λ (r : PlanSizes). r .refusal) is)))
+    (either-way (settingsTests folds parity degree) (sizesOf strategy (plannedParity folds parity) basis (degreeToPlan folds parity degree))
+    (noSizes (sizesRefusal folds parity degree)) (λ (r : PlanSizes). r .refusal) (settings-numbered folds parity degree) refl refl)
+
 pub numbers-total : NumbersTotal
 numbers-total = record {
   index-split = index-split;
@@ -312,4 +325,5 @@ numbers-total = record {
   op-counts = op-counts;
   eval-depth = eval-depth;
   consumed-bits = consumed-bits;
+  plan-sizes = plan-sizes;
 }

@@ -9,3 +9,5 @@ pub mod PlainStep
 pub mod HeadTold
 pub mod Fits
 pub mod Starred
+pub mod Sized
+pub mod Requests

@@ -42,7 +42,8 @@ use Rattle.lists.specs.declared.call.Listed.{Listed}
 use Rattle.walk.specs.Lent.{exactWalk}
 use Rattle.walk.specs.Trial.{trialTests, trialOf}
 use Rattle.walk.specs.declared.plan.Head.{Head}
-use Rattle.plan.specs.PlanCall.{Accepted, planTests, PlanCall}
+use Rattle.plan.specs.PlanCall.{plannedParity, settingsTests, Accepted, planTests, PlanCall}
+use Rattle.plan.specs.PlanSizes.{degreeToPlan, sizesOf, noSizes, sizesCall}
 use Rattle.plan.specs.declared.call.Planned.{Planned}
 use Rattle.demands.specs.Accepts.{LongEnough}
 use Rattle.demands.specs.Right.{PlanRight}
@@ -176,3 +177,7 @@ pub record NumbersTotal : Type 0 where
   pub consumed-bits : (strategy : SplitStrategy) (degree input coeff : ℕ)
       → Ends (tooHigh degreeLimit degree ∷ tooWide input ∷ tooWide coeff ∷ []) (bitsCall strategy degree input coeff .refusal)
       (bitsCall strategy degree input coeff .bits ≡ bitsOf strategy degree input coeff) (bitsCall strategy degree input coeff .bits ≡ 0)
+  pub plan-sizes : (strategy : SplitStrategy) (parity : Parity) (basis : Basis) (folds : Bool) (degree : ℕ)
+      → Ends (settingsTests folds parity degree) (sizesCall strategy parity basis folds degree .refusal)
+      (sizesCall strategy parity basis folds degree ≡ sizesOf strategy (plannedParity folds parity) basis (degreeToPlan folds parity degree))
+      (sizesCall strategy parity basis folds degree ≡ noSizes (sizesCall strategy parity basis folds degree .refusal))

@@ -7,18 +7,19 @@ use Rattle.algebra.specs.Allowed.{allows}
 use Rattle.algebra.specs.Cut.{cutAt}
 use Rattle.algebra.specs.Fold.{everySecond, fold}
 use Rattle.algebra.specs.Transform.{transformOf}
-use Rattle.algebra.specs.declared.Basis.the-variants.{Monomial}
+use Rattle.algebra.specs.declared.Basis.the-variants.{Monomial, Chebyshev}
 use Rattle.algebra.specs.declared.Parity.the-variants.{Full, Odd}
 use Rattle.algebra.specs.declared.PolynomialInputTransform.the-variants.{Identity, SquareTimesInput}
 use Rattle.number.specs.Bits.{digits, bitLen, topPower, powerBelow, isPowerOfTwo}
+use Rattle.number.specs.Refusal.{unlessRefused}
 use Rattle.number.specs.Split.{partsOf}
-use Rattle.needed.specs.NeededList.{neededList}
+use Rattle.needed.specs.NeededList.{neededList, neededCount}
 use Rattle.needed.specs.inside.Marks.{isTarget, places, markAt, markApart, markParts, sweepAt, sweepFrom, targetMarks, neededMarks, markedFrom}
 use Rattle.counts.specs.PlainCount.{allowedTo}
 use Rattle.counts.specs.MinDepth.{aExceedsB, minDepth}
 use Rattle.counts.specs.Choice.{splitFor}
 use Rattle.counts.specs.Depth.{depthOf}
-use Rattle.counts.specs.declared.choice.SplitStrategy.the-variants.{MinDepth}
+use Rattle.counts.specs.declared.choice.SplitStrategy.the-variants.{MinDepth, MinMult}
 use Rattle.lists.specs.Tree.{listedAgain, treeIn, treeOf}
 use Rattle.lists.specs.Arrange.{arranged, leavesOf, lengthsOf, endsOf}
 use Rattle.plan.specs.PlanSteps.{makeStep, loadStep, combineStep, powerSteps, lastLength, lastPlain, combineKind, treeSteps, listSteps, stepsAt}
@@ -26,6 +27,7 @@ use Rattle.plan.specs.PlanSteps.{planSteps}
 use Rattle.plan.specs.Reported.{ofKind, allowedIn, reported}
 use Rattle.plan.specs.PlanHead.{headOf}
 use Rattle.plan.specs.PlanCall.{headFor, coefficientsFor, boundariesFor}
+use Rattle.plan.specs.PlanSizes.{sizesOf, noSizes, sizesCall}
 
 abbrev five : List ℤ
 five = pos 1 ∷ pos 2 ∷ pos 3 ∷ pos 4 ∷ pos 5 ∷ []
@@ -107,3 +109,34 @@ unfolding fold everySecond transformOf headOf reported allowedIn ofKind stepsAt 
     lengthsOf treeOf treeIn listedAgain splitFor minDepth aExceedsB depthOf allowedTo neededList markedFrom neededMarks sweepFrom targetMarks
     markParts markApart sweepAt markAt places isTarget allows topPower partsOf powerBelow isPowerOfTwo bitLen digits
 folded-head = refl
+
+-- ---- sizes
+
+-- those of the nine-line plan, before its coefficients are there
+pub sizes-4 : sizesCall MinDepth Full Monomial false 4 ≡ record { refusal = 0; coefficients = 5; lists = 2; steps = 6 }
+unfolding sizesCall sizesOf unlessRefused leavesOf treeOf treeIn listedAgain splitFor minDepth aExceedsB neededCount neededList markedFrom neededMarks
+    sweepFrom targetMarks markParts markApart sweepAt markAt places isTarget allows topPower partsOf powerBelow isPowerOfTwo bitLen digits
+sizes-4 = refl
+
+-- and of the fold of 0 1 0 2: two coefficients in one list
+pub sizes-folded : sizesCall MinDepth Odd Monomial true 3 ≡ record { refusal = 0; coefficients = 2; lists = 1; steps = 1 }
+unfolding sizesCall sizesOf unlessRefused leavesOf treeOf treeIn listedAgain splitFor minDepth aExceedsB neededCount neededList markedFrom neededMarks
+    sweepFrom targetMarks markParts markApart sweepAt markAt places isTarget allows topPower partsOf powerBelow isPowerOfTwo bitLen digits
+sizes-folded = refl
+
+-- 2 comes before 5, and 1 before 5 and 6
+pub sizes-too-high : sizesCall MinMult Full Chebyshev true 4096 ≡ noSizes 2
+unfolding sizesCall unlessRefused
+sizes-too-high = refl
+
+pub sizes-no-degree : sizesCall MinMult Odd Chebyshev true 0 ≡ noSizes 1
+unfolding sizesCall unlessRefused
+sizes-no-degree = refl
+
+pub sizes-full : sizesCall MinMult Full Chebyshev true 1 ≡ noSizes 5
+unfolding sizesCall unlessRefused
+sizes-full = refl
+
+pub sizes-low : sizesCall MinMult Odd Chebyshev true 2 ≡ noSizes 6
+unfolding sizesCall unlessRefused
+sizes-low = refl

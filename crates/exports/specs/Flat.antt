@@ -11,6 +11,7 @@ use Rattle.counts.specs.declared.depth.EvalDepth.{EvalDepth}
 use Rattle.counts.specs.declared.consumed.ConsumedBits.{ConsumedBits}
 use Rattle.lists.specs.declared.call.Listed.{Listed}
 use Rattle.walk.specs.declared.call.Trial.{Trial}
+use Rattle.plan.specs.declared.sizes.PlanSizes.{PlanSizes}
 use Rattle.exports.specs.declared.flat.CParts.{CParts}
 use Rattle.exports.specs.declared.flat.CSplit.{CSplit}
 use Rattle.exports.specs.declared.flat.CCounts.{CCounts}
@@ -20,6 +21,7 @@ use Rattle.exports.specs.declared.flat.CFolded.{CFolded}
 use Rattle.exports.specs.declared.flat.CInterval.{CInterval}
 use Rattle.exports.specs.declared.flat.CInterpolated.{CInterpolated}
 use Rattle.exports.specs.declared.flat.CListed.{CListed}
+use Rattle.exports.specs.declared.flat.CSizes.{CSizes}
 use Rattle.exports.specs.declared.flat.CTrial.{CTrial}
 
 abbrev pub flatParts : Parts → CParts
@@ -56,6 +58,9 @@ flatInterpolated r = record {
 
 abbrev pub flatListed : Listed → CListed
 flatListed r = record { refusal = r .refusal; degree = r .degree; base = r .base; coefficients = r .coefficients; lists = r .lists }
+
+abbrev pub flatSizes : PlanSizes → CSizes
+flatSizes r = record { refusal = r .refusal; coefficients = r .coefficients; lists = r .lists; steps = r .steps }
 
 abbrev pub flatTrial : Trial → CTrial
 flatTrial r = record { refusal = r .refusal; remainder = r .remainder }

@@ -1,18 +1,22 @@
-// The calls on bare numbers: the split of an index, the choice of the split, counts, depth and bits.
+// The calls on bare numbers: the split of an index, the choice of the split, counts, depth, bits and the sizes of a plan.
 use super::flat::CBits;
 use super::flat::CCounts;
 use super::flat::CDepth;
 use super::flat::CParts;
+use super::flat::CSizes;
 use super::flat::CSplit;
 use super::flat::flat_bits;
 use super::flat::flat_counts;
 use super::flat::flat_depth;
 use super::flat::flat_parts;
+use super::flat::flat_sizes;
 use super::flat::flat_split;
 use super::kinds::basis_of;
+use super::kinds::fold_of;
 use super::kinds::is_strategy;
 use super::kinds::knows_all;
 use super::kinds::knows_pair;
+use super::kinds::knows_settings;
 use super::kinds::parity_of;
 use super::kinds::strategy_of;
 use firrozun::bsgs_consumed_bits;
@@ -20,12 +24,13 @@ use firrozun::bsgs_eval_depth;
 use firrozun::bsgs_op_counts;
 use firrozun::min_depth_split;
 use firrozun::min_mult_split;
+use firrozun::plan_sizes;
 use firrozun::split_degree;
 ghost use mathlib.Core.Path.{_≡_};
 ghost use Rattle.number.specs.Split.{splitOf};
 ghost use Rattle.counts.specs.Calls.{minDepthCall};
 ghost use Rattle.exports.specs.Flat.{flatParts, flatSplit};
-ghost use Rattle.exports.specs.Degrees.{minMultFlat, countsFlat, depthFlat, bitsFlat};
+ghost use Rattle.exports.specs.Degrees.{minMultFlat, countsFlat, depthFlat, bitsFlat, sizesFlat};
 
 #[no_mangle]
 pub extern "C" fn firrozun_split_degree(n: usize) -> CParts
@@ -107,4 +112,31 @@ pub extern "C" fn firrozun_bsgs_consumed_bits(
         };
     }
     flat_bits(bsgs_consumed_bits(strategy_of(strategy), degree, input, coeff))
+}
+
+#[no_mangle]
+pub extern "C" fn firrozun_plan_sizes(
+    strategy: u8,
+    parity: u8,
+    basis: u8,
+    fold: u8,
+    degree: usize,
+) -> CSizes
+    ensures { λ r. ⌜ r ≡ sizesFlat strategy parity basis fold degree ⌝ }
+{
+    if !knows_settings(strategy, parity, basis, fold) {
+        return CSizes {
+            refusal: 43,
+            coefficients: 0,
+            lists: 0,
+            steps: 0,
+        };
+    }
+    flat_sizes(plan_sizes(
+        strategy_of(strategy),
+        parity_of(parity),
+        basis_of(basis),
+        fold_of(fold),
+        degree,
+    ))
 }

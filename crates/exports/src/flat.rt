@@ -7,13 +7,14 @@ use firrozun::Interval;
 use firrozun::Listed;
 use firrozun::OpCounts;
 use firrozun::Parts;
+use firrozun::PlanSizes;
 use firrozun::SplitChoice;
 use firrozun::Trial;
 use firrozun::parity_number;
 use firrozun::transform_number;
 ghost use mathlib.Core.Path.{_≡_};
 ghost use Rattle.exports.specs.Flat.{flatParts, flatSplit, flatCounts, flatDepth, flatBits, flatFolded, flatInterval, flatInterpolated};
-ghost use Rattle.exports.specs.Flat.{flatListed, flatTrial};
+ghost use Rattle.exports.specs.Flat.{flatListed, flatSizes, flatTrial};
 
 #[repr(C)]
 pub struct CParts {
@@ -90,6 +91,14 @@ pub struct CListed {
     pub base: usize,
     pub coefficients: usize,
     pub lists: usize,
+}
+
+#[repr(C)]
+pub struct CSizes {
+    pub refusal: u8,
+    pub coefficients: usize,
+    pub lists: usize,
+    pub steps: usize,
 }
 
 #[repr(C)]
@@ -195,6 +204,17 @@ pub fn flat_listed(answer: Listed) -> CListed
         base: answer.base,
         coefficients: answer.coefficients,
         lists: answer.lists,
+    }
+}
+
+pub fn flat_sizes(sizes: PlanSizes) -> CSizes
+    ensures { λ r. ⌜ r ≡ flatSizes sizes ⌝ }
+{
+    CSizes {
+        refusal: sizes.refusal,
+        coefficients: sizes.coefficients,
+        lists: sizes.lists,
+        steps: sizes.steps,
     }
 }
 

@@ -2,7 +2,7 @@
 use mathlib.Core.Path.{_≡_, refl}
 use mathlib.Core.Bool.{true, false}
 use mathlib.Core.List.{List, [], _∷_, _++_}
-use Prim.Native.Nat.{ℕ, zero, suc, _<_}
+use Prim.Native.Nat.{ℕ, zero, suc, _<_, _≤_}
 use native.Mathlib.Omega.{arith}
 use Rattle.number.specs.Refusal.{Test, firstRefusal, unlessRefused, Numbered, NoneHolds, FirstHolds, here, later, RefusalsSay}
 
@@ -32,6 +32,22 @@ pub first-of-more : (tests more : List Test) → Numbered tests → firstRefusal
 first-of-more [] more numbered none = refl
 first-of-more ((true, k) ∷ tests) more numbered none = absurd (omega (arith, numbered .0))
 first-of-more ((false, k) ∷ tests) more numbered none = first-of-more tests more (numbered .1) none
+
+-- what passes all, passes the first of them
+pub first-passed : (tests more : List Test) → Numbered tests → firstRefusal (tests ++ more) ≡ 0 → firstRefusal tests ≡ 0
+first-passed [] more numbered none = refl
+first-passed ((true, k) ∷ tests) more numbered none = none
+first-passed ((false, k) ∷ tests) more numbered none = first-passed tests more (numbered .1) none
+
+-- a refusal is the number of a test, so none is greater than all of these
+abbrev pub NumbersTo : (most : ℕ) → List Test → Type 0
+NumbersTo most [] = Unit {0}
+NumbersTo most (test ∷ tests) = (test .1 ≤ most) × NumbersTo most tests
+
+pub first-most : (most : ℕ) (tests : List Test) → NumbersTo most tests → firstRefusal tests ≤ most
+first-most most [] numbers = omega arith
+first-most most ((true, k) ∷ tests) numbers = numbers .0
+first-most most ((false, k) ∷ tests) numbers = first-most most tests (numbers .1)
 
 -- what a refused call answers or leaves, and what an accepted one does
 pub when-refused : {X : Type 0} (k : ℕ) (accepted refused : X) → 0 < k → refused ≡ unlessRefused k accepted refused

@@ -1,7 +1,7 @@
 -- The plan call over plain values: a refusal of the input or of the buffers leaves all as it was; past the tests the head is that of the planned degree,
 -- and the buffers can be filled.
 use mathlib.Core.Path.{_≡_, ap, sym, subst, _∙_}
-use mathlib.Core.Bool.{Bool, true, false, _&&_}
+use mathlib.Core.Bool.{Bool, true, false}
 use mathlib.Core.List.{List}
 use Prim.Native.Nat.{ℕ, suc, _-_, _*_, _≤_, _<_}
 use native.Mathlib.Omega.{arith}
@@ -10,19 +10,47 @@ use lib.ListN.{length}
 use Rattle.algebra.specs.Fold.{foldedLength}
 use Rattle.algebra.specs.declared.Basis.{Basis}
 use Rattle.algebra.specs.declared.Parity.{Parity}
+use Rattle.number.specs.Limits.{planLimit}
 use Rattle.number.specs.Refusal.{firstRefusal}
-use Rattle.number.specs.Tests.{isFull}
+use Rattle.number.specs.Tests.{degreeOf}
+use Rattle.number.specs.inside.Between.{Between}
 use Rattle.number.proofs.Refusal.{first-kept, first-of-more, when-refused, when-accepted}
 use Rattle.counts.specs.declared.choice.SplitStrategy.{SplitStrategy}
 use Rattle.walk.specs.declared.plan.Head.{Head}
 use Rattle.plan.specs.PlanHead.{headOf, noHead}
 use Rattle.plan.specs.PlanCall.{plannedParity, plannedTransform, inputTests, Accepted, headFor, planRefusal}
 use Rattle.plan.specs.PlanCall.{planAnswer, planCoefficients, planBoundaries, planNumbers, PlanCall}
+use Rattle.plan.specs.PlanSizes.{degreeToPlan}
 use Rattle.plan.specs.inside.Outlines.{outlineFor}
 use Rattle.plan.specs.inside.Filling.{plannedCount, bufferTests, bufferRefusal, PlanFits, PlanPut}
 use Rattle.plan.specs.declared.call.Planned.{Planned}
 use Rattle.plan.specs.declared.outline.Outline.{Outline}
-use Rattle.plan.proofs.PlanTests.{inputs-numbered, passed, planned-length, degree-range, buffers-fit}
+use Rattle.plan.proofs.PlanTests.{inputs-numbered, passed, planned-length, degree-range, degree-planned, count-planned, buffers-fit}
+
+-- ---- the outline
+
+module _ (strategy : SplitStrategy) (parity : Parity) (basis : Basis) (folded : Bool) (c : List ℤ) where
+  -- of what is planned: of as many coefficients, and of a degree within the limits
+  pub record OutlinePlanned (outline : Outline) : Type 0 where
+    pub count-is : outline .coefficients ≡ plannedCount folded parity (length c)
+    pub degrees : Between 1 (outline .coefficients - 1) planLimit
+    pub outline-is : outline ≡ outlineFor strategy (plannedParity folded parity) basis (outline .coefficients - 1)
+
+  pub outline-planned : {outline : Outline} {degree : ℕ} → Accepted folded parity c → degree ≡ degreeOf c
+      → outline ≡ outlineFor strategy (plannedParity folded parity) basis (degreeToPlan folded parity degree) → OutlinePlanned outline
+  outline-planned {outline} {degree} accepted degree-is is =
+      let planned = degree-range folded parity (degreeOf c) (passed folded parity c accepted .settings) in
+      let more : outline .coefficients ≡ suc (degreeToPlan folded parity degree) = ap (λ (o : Outline). o .coefficients) is in
+      let count : outline .coefficients ≡ plannedCount folded parity (length c) =
+      count-planned folded parity c accepted (more ∙ ap (λ (d : ℕ). suc (degreeToPlan folded parity d)) degree-is) in
+      let same : outline .coefficients - 1 ≡ degreeToPlan folded parity degree = omega arith in
+      record {
+        count-is = count;
+        degrees = rw (same, degree-is) planned;
+        outline-is = is ∙ ap (outlineFor strategy (plannedParity folded parity) basis) (sym same);
+      }
+
+-- ---- the call
 
 module _ (strategy : SplitStrategy) (parity : Parity) (basis : Basis) (folded : Bool) (c out : List ℤ) (bounds steps : List ℕ) where
   abbrev refusal : ℕ
@@ -79,17 +107,18 @@ module _ (strategy : SplitStrategy) (parity : Parity) (basis : Basis) (folded : 
           unfolding headOf
           plan-fits {outline} outline-for =
               let tests = passed folded parity c accepted in
-              let degrees = degree-range folded parity c accepted count-is in
+              let planned = degree-range folded parity (degreeOf c) (tests .settings) in
+              let degrees : Between 1 (count - 1) planLimit = rw (count-is, degree-planned folded parity (length c)) planned in
               let fit = buffers-fit h (length out) (length bounds) (length steps) (sym k-is ∙ none) in
               let places : suc (count - 1) ≤ length out = subst (λ (x : Head). x .coefficients ≤ length out) h-is (fit .coefficient-room) in
               let enough : count ≤ length out = omega arith in
               record {
                 coefficients-fit = record {
-                  foldable = λ folds. record { not-full = fold-not-full folds (tests .not-full); room = fold-room folds enough };
+                  foldable = λ folds. record { not-full = tests .settings .not-full folds; room = fold-room folds enough };
                   copy-room = λ copies. copies-room copies enough;
                   sum-limit = tests .sum-limit;
                 };
-                input-limit = tests .degree .to;
+                input-limit = tests .settings .degrees .to;
                 count-is = count-is ∙ sym (planned-length folded parity basis c);
                 outline-is = outline-for;
                 degrees = degrees;
@@ -98,9 +127,6 @@ module _ (strategy : SplitStrategy) (parity : Parity) (basis : Basis) (folded : 
                 step-room = subst (λ (x : Head). 4 * x .steps ≤ length steps) h-is (fit .step-room);
               }
             where
-              fold-not-full : folded ≡ true → (folded && isFull parity) ≡ false → isFull parity ≡ false
-              fold-not-full folds test = sym (ap (λ (f : Bool). f && isFull parity) folds) ∙ test
-
               fold-room : folded ≡ true → count ≤ length out → foldedLength parity (length c) ≤ length out
               fold-room folds enough =
                   let same : count ≡ foldedLength parity (length c) = count-is ∙ ap (λ (f : Bool). plannedCount f parity (length c)) folds in

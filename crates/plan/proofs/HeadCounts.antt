@@ -1,4 +1,4 @@
--- The head from the outline of its degree, and the ranges of an outline's numbers.
+-- The head from the outline of its degree, the ranges of an outline's numbers, and the sizes: a head has those of its degree.
 use mathlib.Core.Path.{_≡_, refl, ap, ap₂, sym, _∙_}
 use mathlib.Core.Bool.{Bool, true, false, cond, _&&_}
 use Prim.Native.Nat.{ℕ, suc, _+_, _-_, _^_, _≤_, _<_}
@@ -21,12 +21,14 @@ use Rattle.counts.specs.Choice.{splitFor}
 use Rattle.counts.specs.Depth.{depthOf}
 use Rattle.counts.specs.declared.choice.SplitStrategy.{SplitStrategy}
 use Rattle.counts.proofs.ChoiceLaws.{split-range}
-use Rattle.lists.specs.Tree.{treeOf, relists}
+use Rattle.lists.specs.Tree.{treeOf, relists, planTree}
 use Rattle.lists.specs.Arrange.{leavesOf, lengthsOf}
 use Rattle.lists.specs.inside.Listing.{Ranges}
-use Rattle.plan.specs.PlanSteps.{lastPlain, stepsAt}
+use Rattle.lists.proofs.Arranging.{some-leaves}
+use Rattle.plan.specs.PlanSteps.{lastPlain, stepsAt, planSteps}
 use Rattle.plan.specs.Reported.{allowedIn, ofKind, transformCost, reported}
 use Rattle.plan.specs.PlanHead.{headOf}
+use Rattle.plan.specs.PlanSizes.{stepCount, sizesOf, sizesIn}
 use Rattle.plan.specs.inside.Outlines.{totalsOf, outlineFor}
 use Rattle.plan.specs.declared.outline.Totals.{Totals}
 use Rattle.plan.specs.declared.outline.Outline.{Outline}
@@ -54,12 +56,35 @@ module _ (strategy : SplitStrategy) (parity : Parity) (basis : Basis) (degree : 
       record { positive = omega arith; whole-limit = omega arith; part-limit = omega arith; split-limit = omega arith }
 
   -- the outline, number by number
-  pub outline-is : {split powers : ℕ} {leading plain : Bool} {totals : Totals} → split ≡ splitFor strategy parity basis degree
+  pub outline-is : {split powers steps : ℕ} {leading plain : Bool} {totals : Totals} → split ≡ splitFor strategy parity basis degree
       → leading ≡ relists strategy → totals ≡ totalsOf parity (treeOf leading degree degree split) (suc degree)
-      → powers ≡ neededCount parity basis degree split → plain ≡ (isPowerOfTwo degree && eqb (totals .last) 1)
-      → record { split = split; plain = plain; powers = powers; lists = totals .lists; pt = totals .pt } ≡ outlineFor strategy parity basis degree
+      → powers ≡ neededCount parity basis degree split → plain ≡ (isPowerOfTwo degree && eqb (totals .last) 1) → steps ≡ stepCount powers (totals .lists)
+      → record {
+        split = split;
+        plain = plain;
+        powers = powers;
+        pt = totals .pt;
+        coefficients = degree + 1;
+        lists = totals .lists;
+        steps = steps;
+      }
+      ≡ outlineFor strategy parity basis degree
   unfolding totalsOf lastPlain
-  outline-is split-is leading-is totals-are powers-are plain-is = rw (plain-is, powers-are, totals-are, leading-is, split-is)
+  outline-is split-is leading-is totals-are powers-are plain-is steps-are =
+      let more : degree + 1 ≡ suc degree = omega arith in
+      rw (steps-are, plain-is, powers-are, totals-are, leading-is, split-is, more)
+
+  -- the ranges of its counts, as they are worked out
+  pub counts-range : (leading : Bool) (split : ℕ) {powers : ℕ} {totals : Totals}
+      → totals ≡ totalsOf parity (treeOf leading degree degree split) (suc degree) → powers ≡ neededCount parity basis degree split
+      → (powers ≤ countLimit) × Between 1 (totals .lists) countLimit
+  unfolding totalsOf
+  counts-range leading split totals-are powers-are =
+      let totals = totals-range leading parity degree degree split refl in
+      let lists-are = ap (λ (t : Totals). t .lists) totals-are in (
+        omega (arith, count-needed-small parity basis degree split range, powers-are),
+        record { from = omega (arith, lists-are, totals .nonempty); to = omega (arith, lists-are, totals .at-most, range .to) },
+      )
 
   -- its ranges
   pub outline-range : {outline : Outline} → outline ≡ outlineFor strategy parity basis degree → OutlineRange outline
@@ -73,6 +98,24 @@ module _ (strategy : SplitStrategy) (parity : Parity) (basis : Basis) (degree : 
         nonempty = totals .nonempty;
         at-most = omega (arith, totals .at-most);
       })
+
+-- ---- the sizes
+
+-- the steps, counted by powers and lists
+step-count : (strategy : SplitStrategy) (parity : Parity) (basis : Basis) (degree : ℕ)
+    → stepCount (neededCount parity basis degree (splitFor strategy parity basis degree)) (leavesOf (planTree strategy parity basis degree))
+    ≡ length (planSteps strategy parity basis degree)
+step-count strategy parity basis degree =
+    let split = splitFor strategy parity basis degree in
+    let counted = steps-counted (relists strategy) parity basis degree split in
+    let one = some-leaves (planTree strategy parity basis degree) in
+    omega (arith, counted .steps)
+
+-- those of a degree are in its head
+pub head-sizes : (strategy : SplitStrategy) (parity : Parity) (basis : Basis) (transform : PolynomialInputTransform) (degree : ℕ)
+    → sizesIn (headOf strategy parity basis transform degree) ≡ sizesOf strategy parity basis degree
+unfolding headOf sizesOf
+head-sizes strategy parity basis transform degree = rw (step-count strategy parity basis degree)
 
 -- ---- the head
 
@@ -109,9 +152,9 @@ module _ (strategy : SplitStrategy) (parity : Parity) (basis : Basis) (transform
     ct = outline .powers + (outline .lists - 1) - four + cost;
     pt = outline .pt + four;
     depth = depth + cost;
-    coefficients = degree + 1;
+    coefficients = outline .coefficients;
     lists = outline .lists;
-    steps = outline .powers + outline .lists + (outline .lists - 1);
+    steps = outline .steps;
   }
       ≡ headOf strategy parity basis transform degree
   unfolding headOf reported
@@ -131,8 +174,8 @@ module _ (strategy : SplitStrategy) (parity : Parity) (basis : Basis) (transform
       omega (arith, counted .encrypted, known .nonempty) in
       let pt : outline .pt + four ≡ allowedIn parity (lengthsOf (treeOf (relists strategy) degree degree split) (suc degree)) + ofKind 4 steps =
       ap₂ _+_ pt-is same-four in
-      let all : outline .powers + outline .lists + (outline .lists - 1) ≡ length steps = omega (arith, counted .steps, known .nonempty) in
+      let all : outline .steps ≡ length steps = ap (λ (o : Outline). o .steps) outline-for ∙ step-count strategy parity basis degree in
       let deep : depth + cost ≡ depthOf strategy degree + transformCost transform = ap₂ _+_ depth-is cost-is in
       let low : base ≡ 2 ^ split = base-is ∙ ap (λ (o : Outline). 2 ^ o .split) outline-for in
-      let more : degree + 1 ≡ suc degree = omega arith in
+      let more : outline .coefficients ≡ suc degree = ap (λ (o : Outline). o .coefficients) outline-for in
       rw (ct, pt, all, deep, low, more, lists-are)

@@ -1,8 +1,9 @@
--- The tests of the plan call: those of the input by what they find, and what holds where none of them does; the same of the tests of the buffers.
+-- The tests of the plan call: of degree and settings, of the coefficients, of the buffers, and what holds where none of them does; the degree that is
+-- planned is then within the limits.
 use mathlib.Core.Path.{_≡_, refl, sym, _∙_}
-use mathlib.Core.Bool.{Bool, true, false, not, _&&_, true≢false}
+use mathlib.Core.Bool.{Bool, true, false, cond, true≢false, false≢true}
 use mathlib.Core.List.{List, [], _∷_}
-use Prim.Native.Nat.{ℕ, _-_, _*_, _/_, _≤_, _<_}
+use Prim.Native.Nat.{ℕ, suc, _-_, _*_, _/_, _≤_, _<_}
 use native.Mathlib.Omega.{arith}
 use borrow.Author.Tests.{lt-ltb, le-ltb, ltb-false, leb-true, eqb-false, not-false}
 use lib.Dec.{ltb, eqb}
@@ -15,29 +16,101 @@ use Rattle.algebra.specs.declared.Basis.{Basis}
 use Rattle.algebra.specs.declared.Parity.{Parity}
 use Rattle.algebra.specs.declared.Parity.the-variants.{Full, Even, Odd}
 use Rattle.algebra.proofs.FoldPlaces.{fold-length}
-use Rattle.number.specs.Limits.{planLimit, countLimit, sumLimit}
+use Rattle.number.specs.Limits.{planLimit, sumLimit}
 use Rattle.number.specs.Numbers.{wholeNumbers}
-use Rattle.number.specs.Parity.{hasParity}
 use Rattle.number.specs.Refusal.{Test, Numbered, firstRefusal}
-use Rattle.number.specs.Tests.{degreeOf, isFull, leastFolded}
+use Rattle.number.specs.Tests.{degreeOf, isFull, leastFolded, wrongParity, tooLarge}
 use Rattle.number.specs.inside.Between.{Between}
 use Rattle.number.specs.inside.Room.{SumByLengthTo53}
-use Rattle.number.proofs.Refusal.{none-holds}
+use Rattle.number.proofs.Refusal.{NumbersTo, none-holds, first-of-more, first-passed}
 use Rattle.lists.proofs.SumByLength.{sum-by-length-start}
 use Rattle.lists.proofs.Bounds.{fold-sum-by-length}
 use Rattle.walk.specs.declared.plan.Head.{Head}
-use Rattle.plan.specs.PlanCall.{plannedCoefficients, inputTests, Accepted}
+use Rattle.plan.specs.PlanCall.{plannedCoefficients, settingsTests, inputTests, Accepted}
+use Rattle.plan.specs.PlanSizes.{degreeToPlan}
 use Rattle.plan.specs.inside.Filling.{plannedCount, bufferTests, bufferRefusal}
+
+-- ---- degree and settings
+
+pub settings-numbered : (folded : Bool) (parity : Parity) (degree : ℕ) → Numbered (settingsTests folded parity degree)
+settings-numbered true parity degree = (omega arith, (omega arith, (omega arith, (omega arith, tt))))
+settings-numbered false parity degree = (omega arith, (omega arith, tt))
+
+-- the tests one by one, by what they find
+pub settings-found : (folded : Bool) (parity : Parity) (degree : ℕ) {full : Bool} {least : ℕ} → full ≡ isFull parity → least ≡ leastFolded parity
+    → firstRefusal (settingsTests folded parity degree)
+    ≡ cond (ltb planLimit degree) 2 (cond (eqb degree 0) 1 (cond folded (cond full 5 (cond (ltb degree least) 6 0)) 0))
+settings-found true parity degree full-is least-is = rw (full-is, least-is)
+settings-found false parity degree full-is least-is = refl
+
+-- what passes
+pub record SettingsPass (folded : Bool) (parity : Parity) (degree : ℕ) : Type 0 where
+  pub degrees : Between 1 degree planLimit
+  pub not-full : folded ≡ true → isFull parity ≡ false
+  pub not-low : folded ≡ true → leastFolded parity ≤ degree
+
+degrees-pass : (degree : ℕ) → ltb planLimit degree ≡ false → eqb degree 0 ≡ false → Between 1 degree planLimit
+degrees-pass degree not-high some = let other = eqb-false degree 0 some in record { from = omega arith; to = ltb-false planLimit degree not-high }
+
+pub settings-pass : (folded : Bool) (parity : Parity) (degree : ℕ) → firstRefusal (settingsTests folded parity degree) ≡ 0
+    → SettingsPass folded parity degree
+settings-pass true parity degree none =
+    let tests = none-holds (settingsTests true parity degree) (settings-numbered true parity degree) none in
+    record {
+      degrees = degrees-pass degree (tests .0) (tests .1 .0);
+      not-full = λ folds. tests .1 .1 .0;
+      not-low = λ folds. ltb-false degree (leastFolded parity) (tests .1 .1 .1 .0);
+    }
+settings-pass false parity degree none =
+    let tests = none-holds (settingsTests false parity degree) (settings-numbered false parity degree) none in
+    record {
+      degrees = degrees-pass degree (tests .0) (tests .1 .0);
+      not-full = λ folds. absurd (false≢true folds);
+      not-low = λ folds. absurd (false≢true folds);
+    }
+
+-- ---- the degree that is planned
+
+-- it is within the limits
+pub degree-range : (folded : Bool) (parity : Parity) (degree : ℕ) → SettingsPass folded parity degree
+    → Between 1 (degreeToPlan folded parity degree) planLimit
+degree-range true Full degree pass = absurd (true≢false (pass .not-full refl))
+degree-range true Even degree pass =
+    let enough = pass .not-low refl in
+    let range = pass .degrees in
+    record { from = omega arith; to = omega arith }
+degree-range true Odd degree pass =
+    let enough = pass .not-low refl in
+    let range = pass .degrees in
+    record { from = omega arith; to = omega arith }
+degree-range false parity degree pass = pass .degrees
+
+-- one less than the number of coefficients that are planned
+pub degree-planned : (folded : Bool) (parity : Parity) (n : ℕ) → plannedCount folded parity n - 1 ≡ degreeToPlan folded parity (n - 1)
+unfolding foldedLength
+degree-planned true Full n = refl
+degree-planned true Even n = omega arith
+degree-planned true Odd n = omega arith
+degree-planned false parity n = refl
+
+pub planned-length : (folded : Bool) (parity : Parity) (basis : Basis) (c : List ℤ)
+    → length (plannedCoefficients folded parity basis c) ≡ plannedCount folded parity (length c)
+planned-length true parity basis c = fold-length wholeOps parity basis c
+planned-length false parity basis c = refl
 
 -- ---- the input
 
--- the tests in the order with folding; without it 5 and 6 never hold
-abbrev pub testsBy : (high none full low wrong large : Bool) → List Test
-testsBy high none full low wrong large = (high, 2) ∷ (none, 1) ∷ (full, 5) ∷ (low, 6) ∷ (wrong, 4) ∷ (large, 3) ∷ []
+-- the tests of the coefficients: 4, 3
+abbrev pub coefficientTests : Parity → List ℤ → List Test
+coefficientTests parity c = wrongParity wholeNumbers parity c ∷ tooLarge wholeNumbers c ∷ []
 
 pub inputs-numbered : (folded : Bool) (parity : Parity) (c : List ℤ) → Numbered (inputTests folded parity c)
 inputs-numbered true parity c = (omega arith, (omega arith, (omega arith, (omega arith, (omega arith, (omega arith, tt))))))
 inputs-numbered false parity c = (omega arith, (omega arith, (omega arith, (omega arith, tt))))
+
+pub inputs-to : (most : ℕ) → 6 ≤ most → (folded : Bool) (parity : Parity) (c : List ℤ) → NumbersTo most (inputTests folded parity c)
+inputs-to most six true parity c = (omega arith, (omega arith, (omega arith, (omega arith, (omega arith, (omega arith, tt))))))
+inputs-to most six false parity c = (omega arith, (omega arith, (omega arith, (omega arith, tt))))
 
 -- what is planned of small coefficients stays within 2^53 at every cut
 pub planned-to-53 : (folded : Bool) (parity : Parity) (basis : Basis) (c : List ℤ) → sumAbs c ≤ sumLimit → degreeOf c ≤ planLimit
@@ -46,70 +119,36 @@ planned-to-53 true parity basis c small within = fold-sum-by-length parity basis
 planned-to-53 false parity basis c small within = sum-by-length-start c small within
 
 module _ (folded : Bool) (parity : Parity) (c : List ℤ) where
-  -- the definition's tests are these
-  tests-same : firstRefusal (inputTests folded parity c)
-      ≡ firstRefusal (testsBy (ltb planLimit (degreeOf c)) (eqb (degreeOf c) 0) (folded && isFull parity)
-      (folded && ltb (degreeOf c) (leastFolded parity)) (not (hasParity wholeNumbers parity c)) (not (wholeNumbers .small c)))
-  tests-same = by-folding folded
-    where
-      by-folding : (f : Bool) → firstRefusal (inputTests f parity c)
-          ≡ firstRefusal (testsBy (ltb planLimit (degreeOf c)) (eqb (degreeOf c) 0) (f && isFull parity)
-          (f && ltb (degreeOf c) (leastFolded parity)) (not (hasParity wholeNumbers parity c)) (not (wholeNumbers .small c)))
-      by-folding true = refl
-      by-folding false = refl
-
-  pub tests-found : {degree : ℕ} {full low fits small : Bool} → degree ≡ degreeOf c → full ≡ (folded && isFull parity)
-      → low ≡ (folded && ltb degree (leastFolded parity)) → fits ≡ hasParity wholeNumbers parity c → small ≡ wholeNumbers .small c
-      → firstRefusal (inputTests folded parity c) ≡ firstRefusal (testsBy (ltb planLimit degree) (eqb degree 0) full low (not fits) (not small))
-  tests-found degree-is full-is low-is fits-is small-is = tests-same ∙ sym (rw (full-is, low-is, fits-is, small-is, degree-is))
+  -- where degree and settings pass, the coefficients decide
+  pub late-input : firstRefusal (settingsTests folded parity (degreeOf c)) ≡ 0
+      → firstRefusal (inputTests folded parity c) ≡ firstRefusal (coefficientTests parity c)
+  late-input none =
+      first-of-more (settingsTests folded parity (degreeOf c)) (coefficientTests parity c) (settings-numbered folded parity (degreeOf c)) none
 
   -- an accepted polynomial
   pub record Passed : Type 0 where
-    pub degree : Between 1 (degreeOf c) planLimit
-    pub not-full : (folded && isFull parity) ≡ false
-    pub not-low : (folded && ltb (degreeOf c) (leastFolded parity)) ≡ false
+    pub settings : SettingsPass folded parity (degreeOf c)
     pub sum-limit : sumAbs c ≤ sumLimit
+
+  pub settings-accepted : Accepted folded parity c → firstRefusal (settingsTests folded parity (degreeOf c)) ≡ 0
+  settings-accepted accepted =
+      first-passed (settingsTests folded parity (degreeOf c)) (coefficientTests parity c) (settings-numbered folded parity (degreeOf c)) accepted
 
   pub passed : Accepted folded parity c → Passed
   passed accepted =
-      let full = folded && isFull parity in
-      let low = folded && ltb (degreeOf c) (leastFolded parity) in
-      let tests : List Test = testsBy (ltb planLimit (degreeOf c)) (eqb (degreeOf c) 0) full low (not (hasParity wholeNumbers parity c))
-      (not (wholeNumbers .small c)) in
-      let numbered : Numbered tests = (omega arith, (omega arith, (omega arith, (omega arith, (omega arith, (omega arith, tt)))))) in
-      let none = none-holds tests numbered (sym tests-same ∙ accepted) in
+      let early = settings-accepted accepted in
+      let late = none-holds (coefficientTests parity c) (omega arith, (omega arith, tt)) (sym (late-input early) ∙ accepted) in
       record {
-        degree = record { from = let other = eqb-false (degreeOf c) 0 (none .1 .0) in omega arith; to = ltb-false planLimit (degreeOf c) (none .0) };
-        not-full = none .1 .1 .0;
-        not-low = none .1 .1 .1 .0;
-        sum-limit = leb-true (sumAbs c) sumLimit (not-false (wholeNumbers .small c) (none .1 .1 .1 .1 .1 .0));
+        settings = settings-pass folded parity (degreeOf c) early;
+        sum-limit = leb-true (sumAbs c) sumLimit (not-false (wholeNumbers .small c) (late .1 .0));
       }
 
--- ---- how many coefficients are planned
-
-pub planned-length : (folded : Bool) (parity : Parity) (basis : Basis) (c : List ℤ)
-    → length (plannedCoefficients folded parity basis c) ≡ plannedCount folded parity (length c)
-planned-length true parity basis c = fold-length wholeOps parity basis c
-planned-length false parity basis c = refl
-
-count-range : (folded : Bool) (parity : Parity) (c : List ℤ) → Passed folded parity c → Between 2 (plannedCount folded parity (length c)) countLimit
-unfolding foldedLength
-count-range true Full c tests = absurd (true≢false (tests .not-full))
-count-range true Even c tests =
-    let low = ltb-false (degreeOf c) 2 (tests .not-low) in
-    let range = tests .degree in
-    record { from = omega arith; to = omega arith }
-count-range true Odd c tests =
-    let low = ltb-false (degreeOf c) 3 (tests .not-low) in
-    let range = tests .degree in
-    record { from = omega arith; to = omega arith }
-count-range false parity c tests = let range = tests .degree in record { from = omega arith; to = omega arith }
-
-pub degree-range : (folded : Bool) (parity : Parity) (c : List ℤ) {count : ℕ} → Accepted folded parity c
-    → count ≡ plannedCount folded parity (length c) → Between 1 (count - 1) planLimit
-degree-range folded parity c accepted count-is =
-    let range = count-range folded parity c (passed folded parity c accepted) in
-    record { from = omega arith; to = omega arith }
+  -- the number of coefficients that are planned
+  pub count-planned : {count : ℕ} → Accepted folded parity c → count ≡ suc (degreeToPlan folded parity (degreeOf c))
+      → count ≡ plannedCount folded parity (length c)
+  count-planned accepted count-is =
+      let range = degree-range folded parity (degreeOf c) (passed accepted .settings) in
+      omega (arith, degree-planned folded parity (length c), range .from)
 
 -- ---- the buffers
 

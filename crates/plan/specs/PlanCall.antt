@@ -18,7 +18,7 @@ use Rattle.algebra.specs.declared.PolynomialInputTransform.the-variants.{Identi
 use Rattle.number.specs.Limits.{planLimit}
 use Rattle.number.specs.Numbers.{wholeNumbers}
 use Rattle.number.specs.Refusal.{Test, firstRefusal, unlessRefused}
-use Rattle.number.specs.Tests.{degreeOf, tooHigh, noDegree, wrongParity, foldingTests, tooLarge, noRoom, noBoundaries, noSteps}
+use Rattle.number.specs.Tests.{degreeOf, tooHigh, noDegree, fullParity, tooLow, wrongParity, tooLarge, noRoom, noBoundaries, noSteps}
 use Rattle.counts.specs.declared.choice.SplitStrategy.{SplitStrategy}
 use Rattle.lists.specs.Tree.{Tree, planTree}
 use Rattle.lists.specs.Arrange.{arranged, endsOf}
@@ -44,14 +44,19 @@ plannedTransform false parity basis = Identity
 
 -- ---- the tests ahead of 21
 
--- with folding 5, 6, 4; without it 4
-abbrev pub parityTests : (folded : Bool) → Parity → List ℤ → List Test
-parityTests true parity c = foldingTests wholeNumbers parity c
-parityTests false parity c = wrongParity wholeNumbers parity c ∷ []
+-- with folding 5, 6
+abbrev pub foldableTests : (folded : Bool) → Parity → (degree : ℕ) → List Test
+foldableTests true parity degree = fullParity parity ∷ tooLow parity degree ∷ []
+foldableTests false parity degree = []
 
--- 2, 1, these, then 3
+-- 2, 1, then these: degree and settings alone decide them
+abbrev pub settingsTests : (folded : Bool) → Parity → (degree : ℕ) → List Test
+settingsTests folded parity degree = tooHigh planLimit degree ∷ noDegree degree ∷ foldableTests folded parity degree
+
+-- then 4, 3, of the coefficients
 abbrev pub inputTests : (folded : Bool) → Parity → List ℤ → List Test
-inputTests folded parity c = tooHigh planLimit (degreeOf c) ∷ noDegree (degreeOf c) ∷ (parityTests folded parity c ++ (tooLarge wholeNumbers c ∷ []))
+inputTests folded parity c =
+    settingsTests folded parity (degreeOf c) ++ (wrongParity wholeNumbers parity c ∷ tooLarge wholeNumbers c ∷ [])
 
 -- a polynomial is accepted with its settings if it passes them all
 abbrev pub Accepted : (folded : Bool) → Parity → List ℤ → Type 0

@@ -2,13 +2,12 @@
 use super::head::head_of;
 use super::head::no_head;
 use super::input::input_refusal;
-use super::input::planned_count;
-use super::input::planned_parity;
-use super::outline::outline_of;
+use super::outline::planned_outline;
 use super::write::fill;
 use counts::SplitStrategy;
 use number::Basis;
 use number::Parity;
+use number::degree_of;
 use walk::Head;
 ghost use mathlib.Core.Path.{_≡_};
 ghost use Rattle.plan.specs.PlanHead.{noHead};
@@ -61,9 +60,8 @@ pub fn plan(
     if 0 < wrong {
         return refused(wrong);
     }
-    let count = planned_count(fold, parity, c.len());
-    let planned = planned_parity(fold, parity);
-    let outline = outline_of(strategy, planned, basis, count - 1);
+    let outline = planned_outline(strategy, parity, basis, fold, degree_of(c.len()));
+    let count = outline.coefficients;
     let head = head_of(strategy, parity, basis, fold, count - 1, outline);
     let short = buffer_refusal(head, out.len(), bounds.len(), steps.len());
     if 0 < short {

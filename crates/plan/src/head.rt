@@ -71,9 +71,9 @@ pub fn head_of(
         ct: outline.powers + cuts - four + cost,
         pt: outline.pt + four,
         depth: depth + cost,
-        coefficients: degree + 1,
+        coefficients: outline.coefficients,
         lists: outline.lists,
-        steps: outline.powers + outline.lists + cuts,
+        steps: outline.steps,
     }
 }
 

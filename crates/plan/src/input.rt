@@ -11,9 +11,8 @@ use number::least_folded;
 use number::sum_fits;
 use number::transform_of;
 ghost use mathlib.Core.Path.{_≡_};
-ghost use mathlib.Core.Bool.{_&&_};
 ghost use Rattle.number.specs.Refusal.{firstRefusal};
-ghost use Rattle.plan.specs.PlanCall.{plannedParity, plannedTransform, inputTests};
+ghost use Rattle.plan.specs.PlanCall.{plannedParity, plannedTransform, settingsTests, inputTests};
 ghost use Rattle.plan.specs.inside.Filling.{plannedCount};
 
 // How many of n coefficients are planned.
@@ -41,40 +40,37 @@ pub fn planned_transform(fold: bool, parity: Parity, basis: Basis) -> Polynomial
     }
 }
 
-// Whether both hold.
-fn both(a: bool, b: bool) -> bool
-    ensures { λ r. ⌜ r ≡ (a && b) ⌝ }
+// The number of the first test of degree and settings that holds, or 0.
+pub fn settings_refusal(fold: bool, parity: Parity, degree: usize) -> u8
+    ensures { λ r. ⌜ r ≡ firstRefusal (settingsTests fold parity degree) ⌝ }
 {
-    if !a {
-        return false;
-    }
-    b
-}
-
-// The number of the first test of the input that holds, or 0.
-pub fn input_refusal(fold: bool, parity: Parity, c: &[i64]) -> u8
-    ensures { λ r. ⌜ r ≡ firstRefusal (inputTests fold parity (now (c .entry))) ⌝ }
-{
-    let degree = degree_of(c.len());
-    let full = both(fold, is_full(parity));
-    let low = both(fold, degree < least_folded(parity));
-    let fits = has_parity(parity, c);
-    let small = sum_fits(c);
-    let wrong = !fits;
+    let full = is_full(parity);
+    let low = degree < least_folded(parity);
     if PLAN_LIMIT < degree {
         return 2;
     }
     if degree == 0 {
         return 1;
     }
+    if !fold {
+        return 0;
+    }
     if full {
         return 5;
     }
-    if low {
-        return 6;
+    if low { 6 } else { 0 }
+}
+
+// The number of the first test of the input that holds, or 0.
+pub fn input_refusal(fold: bool, parity: Parity, c: &[i64]) -> u8
+    ensures { λ r. ⌜ r ≡ firstRefusal (inputTests fold parity (now (c .entry))) ⌝ }
+{
+    let early = settings_refusal(fold, parity, degree_of(c.len()));
+    if 0 < early {
+        return early;
     }
-    if wrong {
+    if !has_parity(parity, c) {
         return 4;
     }
-    if small { 0 } else { 3 }
+    if sum_fits(c) { 0 } else { 3 }
 }

@@ -1,4 +1,6 @@
-// A plan as far as numbers alone decide: its split, and how many powers and lists it has.
+// A plan as far as degree and settings decide: its split, and how many powers, coefficients, lists and steps it has.
+use super::input::planned_count;
+use super::input::planned_parity;
 use counts::SplitStrategy;
 use counts::allowed_to;
 use counts::split_for_strategy;
@@ -16,10 +18,13 @@ ghost use mathlib.Core.Bool.{_&&_};
 ghost use Prim.Native.Nat.{suc, _≤_, _<_, _^_};
 ghost use lib.Dec.{eqb};
 ghost use Rattle.number.specs.Bits.{isPowerOfTwo};
-ghost use Rattle.number.specs.Limits.{planLimit};
+ghost use Rattle.number.specs.Limits.{planLimit, countLimit};
+ghost use Rattle.number.specs.Refusal.{firstRefusal};
 ghost use Rattle.number.specs.inside.Between.{Between};
 ghost use Rattle.lists.specs.Tree.{treeOf};
 ghost use Rattle.lists.specs.inside.Listing.{Ranges};
+ghost use Rattle.plan.specs.PlanCall.{plannedParity, settingsTests};
+ghost use Rattle.plan.specs.PlanSizes.{degreeToPlan, stepCount};
 ghost use Rattle.plan.specs.inside.Outlines.{totalsOf, lowTotals, outlineFor};
 
 // How many lists, the allowed powers from 1 up over all of them, and the length of the last.
@@ -34,8 +39,10 @@ pub struct Outline {
     pub split: usize,
     pub plain: bool,
     pub powers: usize,
-    pub lists: usize,
     pub pt: usize,
+    pub coefficients: usize,
+    pub lists: usize,
+    pub steps: usize,
 }
 
 // The totals of the low part of a degree from the base on.
@@ -105,6 +112,15 @@ fn last_plain(degree: usize, last: usize) -> bool
     last == 1
 }
 
+// How many steps: one for each power, one for each list, and a combine for each list but the first.
+fn count_steps(powers: usize, lists: usize) -> usize
+    requires { ⌜ (powers ≤ countLimit) × Between 1 lists countLimit ⌝ }
+    ensures { λ r. ⌜ r ≡ stepCount powers lists ⌝ }
+{
+    let combines = lists - 1;
+    powers + lists + combines
+}
+
 // The outline of a degree.
 pub fn outline_of(strategy: SplitStrategy, parity: Parity, basis: Basis, degree: usize) -> Outline
     requires { ⌜ Between 1 degree planLimit ⌝ }
@@ -114,11 +130,30 @@ pub fn outline_of(strategy: SplitStrategy, parity: Parity, basis: Basis, degree:
     let totals = total_lists(relists(strategy), parity, degree, degree, split);
     let powers = count_needed(parity, basis, degree, split);
     let plain = last_plain(degree, totals.last);
+    let steps = count_steps(powers, totals.lists);
     Outline {
         split,
         plain,
         powers,
-        lists: totals.lists,
         pt: totals.pt,
+        coefficients: degree + 1,
+        lists: totals.lists,
+        steps,
     }
+}
+
+// The outline of what is planned of a degree: with folding that of the fold.
+pub fn planned_outline(
+    strategy: SplitStrategy,
+    parity: Parity,
+    basis: Basis,
+    fold: bool,
+    degree: usize,
+) -> Outline
+    requires { ⌜ firstRefusal (settingsTests fold parity degree) ≡ 0 ⌝ }
+    ensures { λ r. ⌜ r ≡ outlineFor strategy (plannedParity fold parity) basis (degreeToPlan fold parity degree) ⌝ }
+{
+    let planned = planned_parity(fold, parity);
+    let count = planned_count(fold, parity, degree + 1);
+    outline_of(strategy, planned, basis, count - 1)
 }

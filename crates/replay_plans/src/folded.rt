@@ -2,6 +2,7 @@
 use crate::settings::match_number;
 use crate::settings::read_settings;
 use crate::settings::wide;
+use crate::sizes::sizes_agree;
 use firrozun::Head;
 use firrozun::Planned;
 use firrozun::transform_number;
@@ -83,6 +84,9 @@ pub fn decompose_folded_agrees(line: &[u8], at: usize) -> bool {
     let s = settings.strategy;
     let c = first_wholes(&coeffs, list.count);
     let ours = firrozun::plan(s, p, b, true, c, &mut out, &mut bounds, &mut steps);
+    if !sizes_agree(settings, true, list.count, ours) {
+        return false;
+    }
     if refused(line, answer.next) {
         return is_refused(ours);
     }

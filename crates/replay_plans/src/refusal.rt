@@ -3,6 +3,7 @@ use crate::settings::Settings;
 use crate::settings::match_number;
 use crate::settings::read_fold;
 use crate::settings::read_settings;
+use crate::sizes::sizes_agree;
 use firrozun::Head;
 use firrozun::Planned;
 use firrozun::basis_number;
@@ -91,5 +92,6 @@ pub fn plan_refused_agrees(line: &[u8], at: usize) -> bool {
     );
     let head = ours.head;
     let refusal = match_number(line, answer.next, ours.refusal as usize);
-    is_zero(head) && refusal.ok && ends(line, refusal.next)
+    let sized = sizes_agree(settings, fold.value, list.count, ours);
+    is_zero(head) && sized && refusal.ok && ends(line, refusal.next)
 }

@@ -2,6 +2,7 @@
 use crate::settings::match_number;
 use crate::settings::read_fold;
 use crate::settings::read_settings;
+use crate::sizes::sizes_agree;
 use recording::ends;
 use recording::first_wholes;
 use recording::read_number;
@@ -32,5 +33,7 @@ pub fn plan_value_agrees(line: &[u8], at: usize) -> bool {
     let head = ours.head;
     let walked = firrozun::trial_walk(head, &out, &bounds, &steps, point.value, modulus.value);
     let remainder = match_number(line, answer.next, walked.remainder as usize);
-    ours.refusal == 0 && walked.refusal == 0 && remainder.ok && ends(line, remainder.next)
+    let sized = sizes_agree(settings, fold.value, list.count, ours);
+    let made = ours.refusal == 0 && walked.refusal == 0 && sized;
+    made && remainder.ok && ends(line, remainder.next)
 }

@@ -13,6 +13,7 @@ use Rattle.lists.specs.Tree.{Tree, treeOf, relists}
 use Rattle.lists.specs.Arrange.{leavesOf, lengthsOf}
 use Rattle.plan.specs.PlanSteps.{lastLength, lastPlain}
 use Rattle.plan.specs.Reported.{allowedIn}
+use Rattle.plan.specs.PlanSizes.{stepCount}
 use Rattle.plan.specs.declared.outline.Totals.{Totals}
 use Rattle.plan.specs.declared.outline.Outline.{Outline}
 
@@ -28,14 +29,16 @@ lowTotals parity degree split = record {
   last = 2 ^ split;
 }
 
--- of a degree at a split: the split, the rule of kind 4, the number of needed powers, and the totals of the lists
+-- of a degree at a split: the split, the rule of kind 4, the number of needed powers, the allowed powers over all lists, and the sizes
 abbrev pub outlineAt : (leading : Bool) → Parity → Basis → (degree split : ℕ) → Outline
 outlineAt leading parity basis degree split = record {
   split = split;
   plain = lastPlain degree (treeOf leading degree degree split);
   powers = neededCount parity basis degree split;
-  lists = leavesOf (treeOf leading degree degree split);
   pt = allowedIn parity (lengthsOf (treeOf leading degree degree split) (suc degree));
+  coefficients = suc degree;
+  lists = leavesOf (treeOf leading degree degree split);
+  steps = stepCount (neededCount parity basis degree split) (leavesOf (treeOf leading degree degree split));
 }
 
 -- by a strategy

@@ -75,22 +75,9 @@ add-t18 c =
     let deepest = depth-bounds (start .args .strategy) (start .args .degree) (record { from = degrees .from; to = omega (arith, degrees .to) }) in
     omega (arith, cost-most (transform .planned-transform .result), cost .cost-of .ensures, depth .depth-from-one .ensures, deepest .to)
 
-add-t19 : tie.Need-add-t19
-add-t19 c = search needs
-
-add-t20 : tie.Need-add-t20
-add-t20 c =
-    let range = known (c .before .before .before .before .before .before .before .before) in
-    omega (arith, range .powers, range .at-most)
-
-add-t21 : tie.Need-add-t21
-add-t21 c =
-    let range = known (c .before .before .before .before .before .before .before .before) in
-    omega (arith, range .powers, range .at-most)
-
 returns : tie.Need-returns
 returns c =
-    let power = c .before .before .before .before in
+    let power = c .before .before .before in
     let depth = power .before in
     let cost = depth .before in
     let plain = cost .before in
@@ -121,7 +108,4 @@ head-of-spec =
     add-t16
     add-t17
     add-t18
-    add-t19
-    add-t20
-    add-t21
     returns)

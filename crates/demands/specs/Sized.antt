@@ -1,0 +1,49 @@
+-- Request Q-1, "Buffer sizes before the curve is there": what the sizes of a degree and its settings say of every plan call of that degree with these
+-- settings.
+use mathlib.Core.Path.{_≡_}
+use mathlib.Core.Bool.{Bool, true, false}
+use mathlib.Core.List.{List, [], _∷_}
+use mathlib.Core.Logic.{_↔_}
+use Prim.Native.Nat.{ℕ, _*_, _≤_, _<_}
+use lib.IntN.{ℤ}
+use lib.ListN.{length}
+use Rattle.algebra.specs.declared.Basis.{Basis}
+use Rattle.algebra.specs.declared.Parity.{Parity}
+use Rattle.number.specs.Refusal.{firstRefusal}
+use Rattle.number.specs.Tests.{degreeOf, noRoom, noBoundaries, noSteps}
+use Rattle.counts.specs.declared.choice.SplitStrategy.{SplitStrategy}
+use Rattle.plan.specs.PlanCall.{settingsTests, inputTests, Accepted, PlanCall}
+use Rattle.plan.specs.PlanSizes.{sizesIn, sizesCall}
+use Rattle.plan.specs.declared.call.Planned.{Planned}
+use Rattle.plan.specs.declared.sizes.PlanSizes.{PlanSizes}
+use Rattle.demands.specs.Total.{numbersOf}
+
+-- three buffers of at least these sizes: a place for each coefficient, a boundary for each list, four numbers for each step
+pub record HasSizes (sizes : PlanSizes) (out : List ℤ) (bounds steps : List ℕ) : Type 0 where
+  pub coefficients : sizes .coefficients ≤ length out
+  pub boundaries : sizes .lists ≤ length bounds
+  pub numbers : 4 * sizes .steps ≤ length steps
+
+pub record Sized (folded : Bool) (parity : Parity) (c out : List ℤ) (bounds steps : List ℕ) (sizes : PlanSizes) (r : Planned) : Type 0 where
+  -- a plan's head tells these sizes
+  pub head-sizes : r .refusal ≡ 0 → sizesIn (r .head) ≡ sizes
+  -- a polynomial that passes every test ahead of 21 is planned exactly if the three buffers are at least as long
+  pub planned-if-long : Accepted folded parity c → (r .refusal ≡ 0) ↔ HasSizes sizes out bounds steps
+  -- else the first buffer that is shorter is refused
+  pub short-refused : Accepted folded parity c → r .refusal
+      ≡ firstRefusal (noRoom (length out) (sizes .coefficients) ∷ noBoundaries (length bounds) (sizes .lists) ∷ noSteps (length steps) (sizes .steps) ∷ [])
+  -- and buffers as long are never refused, whatever the polynomial: the tests ahead of 21 decide
+  pub long-decides : HasSizes sizes out bounds steps → r .refusal ≡ firstRefusal (inputTests folded parity c)
+  pub never-short : HasSizes sizes out bounds steps → r .refusal < 21
+  -- settings that are refused here are refused there with the same number
+  pub settings-refused : 0 < sizes .refusal → r .refusal ≡ sizes .refusal
+
+abbrev pub PlansSized : Type 0
+PlansSized = (strategy : SplitStrategy) (parity : Parity) (basis : Basis) (folded : Bool) (c out : List ℤ) (bounds steps : List ℕ) (r : Planned)
+    (out′ : List ℤ) (bounds′ steps′ : List ℕ) → PlanCall strategy parity basis folded c out bounds steps r out′ bounds′ steps′
+    → Sized folded parity c out bounds steps (sizesCall strategy parity basis folded (degreeOf c)) r
+
+-- the refusal numbers of the sizes, in order
+pub record SizesOrder (parity : Parity) (degree : ℕ) : Type 0 where
+  pub unfolded : numbersOf (settingsTests false parity degree) ≡ 2 ∷ 1 ∷ []
+  pub with-folding : numbersOf (settingsTests true parity degree) ≡ 2 ∷ 1 ∷ 5 ∷ 6 ∷ []
