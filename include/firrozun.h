@@ -149,6 +149,14 @@ typedef struct {
     size_t lists;        /* boundaries written to `bounds` */
 } firrozun_listed;
 
+/* How many coefficients, lists and steps a plan has: its buffers take `coefficients`, `lists` and 4 * `steps` places. */
+typedef struct {
+    uint8_t refusal;
+    size_t coefficients;
+    size_t lists;
+    size_t steps;
+} firrozun_sizes;
+
 /* What a plan is of, its costs, and how many coefficients, lists and steps it has. Parity and degree are those of what is planned: with folding
  * the fold, of parity full. */
 typedef struct {
@@ -231,10 +239,16 @@ firrozun_listed firrozun_decompose_bsgs(uint8_t strategy, uint8_t parity, uint8_
 firrozun_listed firrozun_decompose_bsgs_f64(uint8_t strategy, uint8_t parity, uint8_t basis, const double *c, size_t c_len, double *out,
                                             size_t out_len, uint16_t *bounds, size_t bounds_len);
 
-/* ---- the plan call and the trial walk */
+/* ---- the sizes of a plan, the plan call and the trial walk */
+
+/* The sizes of every plan of this degree with these settings, before there are coefficients. A polynomial that passes the tests ahead of 21 is planned
+ * exactly if the three buffers have at least so many places. Refusals 43, 2 (above 4,095), 1, with folding 5, 6: then firrozun_plan, too, refuses
+ * with this number every polynomial of this degree. */
+firrozun_sizes firrozun_plan_sizes(uint8_t strategy, uint8_t parity, uint8_t basis, uint8_t fold, size_t degree);
 
 /* Plans a whole polynomial, or with `fold` its fold: the head in the answer, the lists in `out` and `bounds` as firrozun_decompose_bsgs leaves them,
- * and in `steps` four numbers for each step. FIRROZUN_COEFFICIENT_ROOM, FIRROZUN_BOUNDARY_ROOM and FIRROZUN_STEP_ROOM places are always enough.
+ * and in `steps` four numbers for each step. firrozun_plan_sizes tells how many places the buffers need; FIRROZUN_COEFFICIENT_ROOM,
+ * FIRROZUN_BOUNDARY_ROOM and FIRROZUN_STEP_ROOM are always enough.
  * Refusals 43, 2 (above 4,095), 1, with folding 5, 6, then 4, 3, 21, 22, 23. */
 firrozun_planned firrozun_plan(uint8_t strategy, uint8_t parity, uint8_t basis, uint8_t fold, const int64_t *c, size_t c_len, int64_t *out,
                                size_t out_len, uint16_t *bounds, size_t bounds_len, uint16_t *steps, size_t steps_len);

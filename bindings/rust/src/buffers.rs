@@ -166,6 +166,40 @@ impl Head {
     }
 }
 
+/// How many coefficients, lists and steps a plan has: what its buffers must hold.
+///
+/// ```
+/// use firrozun::buffers::{plan_sizes, PlanSizes};
+/// use firrozun::{Basis, Parity, SplitStrategy};
+/// let sizes = plan_sizes(SplitStrategy::MinDepth, Parity::Full, Basis::Monomial, false, 4)?;
+/// assert_eq!(sizes, PlanSizes { coefficients: 5, lists: 2, steps: 6 });
+/// # Ok::<(), firrozun::Refusal>(())
+/// ```
+#[derive(Clone, Copy, Debug, PartialEq, Eq)]
+pub struct PlanSizes {
+    /// Places of the coefficient buffer.
+    pub coefficients: usize,
+    /// Places of the boundary buffer.
+    pub lists: usize,
+    /// Steps, each of four numbers: [`step_places`](Self::step_places) is what the step buffer needs.
+    pub steps: usize,
+}
+
+impl PlanSizes {
+    /// Places of the step buffer: four for each step.
+    ///
+    /// ```
+    /// # use firrozun::buffers::plan_sizes;
+    /// # use firrozun::{Basis, Parity, SplitStrategy};
+    /// let sizes = plan_sizes(SplitStrategy::MinDepth, Parity::Full, Basis::Monomial, false, 4)?;
+    /// assert_eq!(sizes.step_places(), 24);
+    /// # Ok::<(), firrozun::Refusal>(())
+    /// ```
+    pub fn step_places(self) -> usize {
+        self.steps.saturating_mul(4)
+    }
+}
+
 /// The three buffers of a plan, lent to be written.
 ///
 /// ```
@@ -245,6 +279,50 @@ pub fn decompose_bsgs_into<F: Coefficient>(
     })
 }
 
+/// The sizes of every plan of this degree with these settings, before there are coefficients.
+///
+/// A polynomial that is not refused otherwise is planned exactly if its buffers are at least so long.
+///
+/// Refused: 2, 1, with folding 5, 6, in this order. Then [`plan_into`], too, refuses every polynomial of this degree.
+///
+/// ```
+/// use firrozun::buffers::{plan_into, plan_sizes, PlanBuffers};
+/// use firrozun::{Basis, Parity, Refusal, SplitStrategy};
+/// let odd = |degree| plan_sizes(SplitStrategy::MinMult, Parity::Odd, Basis::Chebyshev, true, degree);
+/// let sizes = odd(3)?;
+/// let (mut coefficients, mut boundaries) = (vec![0; sizes.coefficients], vec![0; sizes.lists]);
+/// let mut steps = vec![0; sizes.step_places()];
+/// let buffers = PlanBuffers { coefficients: &mut coefficients, boundaries: &mut boundaries, steps: &mut steps };
+/// let head = plan_into(SplitStrategy::MinMult, Parity::Odd, Basis::Chebyshev, true, &[0, 1, 0, 2], buffers)?;
+/// assert_eq!((head.coefficients, head.lists, head.steps), (sizes.coefficients, sizes.lists, sizes.steps));
+/// assert_eq!(odd(2), Err(Refusal::FoldLow));
+/// # Ok::<(), firrozun::Refusal>(())
+/// ```
+pub fn plan_sizes(
+    strategy: SplitStrategy,
+    parity: Parity,
+    basis: Basis,
+    fold: bool,
+    degree: usize,
+) -> Result<PlanSizes, Refusal> {
+    let answer = ffi::plan_sizes(settings(strategy, parity, basis, fold), degree);
+    Refusal::test(answer.refusal)?;
+    Ok(PlanSizes {
+        coefficients: answer.coefficients,
+        lists: answer.lists,
+        steps: answer.steps,
+    })
+}
+
+fn settings(strategy: SplitStrategy, parity: Parity, basis: Basis, fold: bool) -> Settings {
+    Settings {
+        strategy: strategy.number(),
+        parity: parity.number(),
+        basis: basis.number(),
+        fold: u8::from(fold),
+    }
+}
+
 /// Plans a polynomial with whole coefficients into lent buffers. [`Plan`](crate::Plan) is the same with buffers of its own.
 ///
 /// Refused: 2, 1, with folding 5, 6, then 4, 3, 21, 22, 23, in this order.
@@ -273,14 +351,8 @@ pub fn plan_into(
     coeffs: &[i64],
     buffers: PlanBuffers<'_>,
 ) -> Result<Head, Refusal> {
-    let settings = Settings {
-        strategy: strategy.number(),
-        parity: parity.number(),
-        basis: basis.number(),
-        fold: u8::from(fold),
-    };
     let answer = ffi::plan(
-        settings,
+        settings(strategy, parity, basis, fold),
         coeffs,
         buffers.coefficients,
         buffers.boundaries,

@@ -90,6 +90,15 @@ pub struct CListed {
 
 #[repr(C)]
 #[derive(Clone, Copy, Debug, PartialEq)]
+pub struct CSizes {
+    pub refusal: u8,
+    pub coefficients: usize,
+    pub lists: usize,
+    pub steps: usize,
+}
+
+#[repr(C)]
+#[derive(Clone, Copy, Debug, PartialEq)]
 pub struct CHead {
     pub basis: u8,
     pub parity: u8,
@@ -184,6 +193,7 @@ extern "C" {
         bounds: *mut u16,
         bounds_len: usize,
     ) -> CListed;
+    fn firrozun_plan_sizes(strategy: u8, parity: u8, basis: u8, fold: u8, degree: usize) -> CSizes;
     fn firrozun_plan(
         strategy: u8,
         parity: u8,
@@ -317,13 +327,26 @@ calls_on!(
     decompose_bsgs_f64 firrozun_decompose_bsgs_f64
 );
 
-/// The plan call's settings as the library takes them.
+/// A plan's settings as the library takes them.
 #[derive(Clone, Copy)]
 pub struct Settings {
     pub strategy: u8,
     pub parity: u8,
     pub basis: u8,
     pub fold: u8,
+}
+
+pub fn plan_sizes(settings: Settings, degree: usize) -> CSizes {
+    // SAFETY: the call takes and answers numbers alone, and is proved for every number.
+    unsafe {
+        firrozun_plan_sizes(
+            settings.strategy,
+            settings.parity,
+            settings.basis,
+            settings.fold,
+            degree,
+        )
+    }
 }
 
 pub fn plan(

@@ -1,6 +1,6 @@
 //! A plan with memory of its own, and its steps.
 
-use crate::buffers::{plan_into, trial_walk, Head, PlanBuffers, COEFFICIENT_ROOM};
+use crate::buffers::{plan_into, plan_sizes, trial_walk, Head, PlanBuffers};
 use crate::kinds::{Basis, Parity, SplitStrategy};
 use crate::refusal::Refusal;
 
@@ -51,23 +51,18 @@ impl Plan {
         strategy: SplitStrategy,
         fold: bool,
     ) -> Result<Self, Refusal> {
-        // n coefficients make at most n lists and n − 1 powers, so fewer than 3n steps of four numbers. More than 4,096 coefficients
-        // are refused before a buffer is looked at.
-        let places = coeffs.len().min(COEFFICIENT_ROOM);
-        let mut coefficients = vec![0; places];
-        let mut boundaries = vec![0; places];
-        let mut steps = vec![0; 12 * places];
+        // What refuses the sizes refuses the plan, with the same number and ahead of all else.
+        let degree = coeffs.len().saturating_sub(1);
+        let sizes = plan_sizes(strategy, parity, basis, fold, degree)?;
+        let mut coefficients = vec![0; sizes.coefficients];
+        let mut boundaries = vec![0; sizes.lists];
+        let mut steps = vec![0; sizes.step_places()];
         let buffers = PlanBuffers {
             coefficients: &mut coefficients,
             boundaries: &mut boundaries,
             steps: &mut steps,
         };
         let head = plan_into(strategy, parity, basis, fold, coeffs, buffers)?;
-        coefficients.truncate(head.coefficients);
-        boundaries.truncate(head.lists);
-        steps.truncate(head.steps.saturating_mul(4));
-        boundaries.shrink_to_fit();
-        steps.shrink_to_fit();
         Ok(Self {
             head,
             coefficients,

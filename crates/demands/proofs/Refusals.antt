@@ -1,8 +1,8 @@
 -- The plan call's tests (docs/RULES.md, "Refusals"), ahead of 21 and from there on: all pass exactly if the polynomial is accepted and the buffers
 -- are long enough.
-use mathlib.Core.Path.{_≡_, refl, sym, _∙_}
-use mathlib.Core.Bool.{Bool, true, false}
-use mathlib.Core.List.{List, [], _∷_, _++_}
+use mathlib.Core.Path.{_≡_, sym, _∙_}
+use mathlib.Core.Bool.{Bool}
+use mathlib.Core.List.{List, [], _∷_}
 use Prim.Native.Nat.{ℕ, zero, suc, _*_}
 use native.Mathlib.Omega.{arith}
 use borrow.Author.Tests.{ltb-false, le-ltb}
@@ -10,7 +10,7 @@ use lib.IntN.{ℤ}
 use lib.ListN.{length}
 use Rattle.algebra.specs.declared.Basis.{Basis}
 use Rattle.algebra.specs.declared.Parity.{Parity}
-use Rattle.number.specs.Refusal.{Test, firstRefusal, unlessRefused, Numbered}
+use Rattle.number.specs.Refusal.{Test, firstRefusal, unlessRefused}
 use Rattle.number.specs.Tests.{noRoom, noBoundaries, noSteps}
 use Rattle.number.proofs.Refusal.{none-holds, first-of-more, first-passed}
 use Rattle.counts.specs.declared.choice.SplitStrategy.{SplitStrategy}

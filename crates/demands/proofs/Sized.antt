@@ -1,10 +1,10 @@
 -- The sizes of degree and settings are those of every plan (request Q-1). What is planned of a polynomial has the degree that its own degree and the
 -- settings say, so the head tells these sizes, and the tests of the buffers are made against them; and the tests of the settings are the first that a
 -- plan call makes.
-use mathlib.Core.Path.{_≡_, refl, ap, sym, subst, _∙_}
+use mathlib.Core.Path.{_≡_, refl, ap, sym, _∙_}
 use mathlib.Core.Bool.{Bool}
 use mathlib.Core.List.{List, [], _∷_}
-use Prim.Native.Nat.{ℕ, zero, suc, _-_, _*_, _≤_, _<_}
+use Prim.Native.Nat.{ℕ, zero, suc, _-_, _<_}
 use native.Mathlib.Omega.{arith}
 use lib.IntN.{ℤ}
 use lib.ListN.{length}
@@ -12,16 +12,16 @@ use Rattle.algebra.specs.declared.Basis.{Basis}
 use Rattle.algebra.specs.declared.Parity.{Parity}
 use Rattle.number.specs.Refusal.{Test, firstRefusal}
 use Rattle.number.specs.Tests.{degreeOf, noRoom, noBoundaries, noSteps}
-use Rattle.number.proofs.Refusal.{first-kept, first-most, when-refused, when-accepted}
+use Rattle.number.proofs.Refusal.{first-kept, first-most, when-accepted}
 use Rattle.counts.specs.declared.choice.SplitStrategy.{SplitStrategy}
 use Rattle.plan.specs.PlanCall.{plannedParity, plannedTransform, settingsTests, inputTests, Accepted, plannedDegree, headFor, planRefusal}
-use Rattle.plan.specs.PlanSizes.{degreeToPlan, sizesIn, sizesOf, noSizes, sizesRefusal, sizesCall}
+use Rattle.plan.specs.PlanSizes.{degreeToPlan, sizesIn, sizesOf, sizesRefusal, sizesCall}
 use Rattle.plan.specs.declared.call.Planned.{Planned}
 use Rattle.plan.specs.declared.sizes.PlanSizes.{PlanSizes}
 use Rattle.plan.proofs.HeadCounts.{head-sizes}
 use Rattle.plan.proofs.PlanTests.{coefficientTests, settings-accepted, planned-length, degree-planned, inputs-to}
 use Rattle.demands.specs.Accepts.{LongEnough}
-use Rattle.demands.specs.Sized.{HasSizes, Sized, PlansSized, SizesOrder}
+use Rattle.demands.specs.Sized.{HasSizes, PlansSized, SizesOrder}
 use Rattle.demands.proofs.Refusals.{refusal-of, bufferTests, late-refusal, plan-made, made-accepted, made-long}
 use Rattle.demands.proofs.Right.{plans-right}
 use Rattle.demands.proofs.Total.{refusal-is}

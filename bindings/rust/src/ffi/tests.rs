@@ -125,7 +125,7 @@ fn unknown_kinds_in_the_calls_on_coefficients() {
 }
 
 #[test]
-fn unknown_kinds_in_plan_and_walk() {
+fn unknown_kinds_in_sizes_plan_and_walk() {
     let none = CPlanned {
         refusal: 43,
         head: NO_HEAD,
@@ -137,14 +137,24 @@ fn unknown_kinds_in_plan_and_walk() {
         fold,
     };
     let (mut out, mut bounds, mut steps) = ([9; 8], [9; 8], [9; 64]);
-    let mut planned = |s| plan(s, &[1, 2, 3], &mut out, &mut bounds, &mut steps);
+    let no_sizes = CSizes {
+        refusal: 43,
+        coefficients: 0,
+        lists: 0,
+        steps: 0,
+    };
+    let mut refused = |s| {
+        // A degree that is refused too: 43 comes first.
+        assert_eq!(plan_sizes(s, 4096), no_sizes);
+        assert_eq!(plan(s, &[1, 2, 3], &mut out, &mut bounds, &mut steps), none);
+    };
     for n in unknown(2) {
-        assert_eq!(planned(settings(n, 0, 0, 0)), none);
-        assert_eq!(planned(settings(0, 0, n, 0)), none);
-        assert_eq!(planned(settings(0, 0, 0, n)), none);
+        refused(settings(n, 0, 0, 0));
+        refused(settings(0, 0, n, 0));
+        refused(settings(0, 0, 0, n));
     }
     for n in unknown(3) {
-        assert_eq!(planned(settings(0, n, 0, 0)), none);
+        refused(settings(0, n, 0, 0));
     }
     assert_eq!((out, bounds, steps), ([9; 8], [9; 8], [9; 64]));
 

@@ -9,7 +9,6 @@ use Rattle.number.specs.Limits.{planLimit}
 use Rattle.number.specs.inside.Between.{Between}
 use Rattle.plan.specs.PlanSizes.{degreeToPlan}
 use Rattle.plan.specs.inside.Outlines.{outlineFor}
-use Rattle.plan.specs.inside.Filling.{plannedCount}
 use Rattle.plan.proofs.PlanTests.{SettingsPass, settings-pass, degree-range, degree-planned}
 use Rattle.plan.proofs.outline.planned_outline.Statement.{statement}
 use Rattle.plan.proofs.outline.planned_outline.Tie as tie

@@ -1,10 +1,8 @@
 -- `plan::sizes::plan_sizes` meets its contract: it makes the tests of degree and settings, and past them the sizes are those of the outline of what is
 -- planned.
-use mathlib.Core.Path.{sym, ap, _∙_}
-use Prim.Native.Nat.{ℕ}
+use mathlib.Core.Path.{ap, _∙_}
 use native.Mathlib.Omega.{arith}
 use borrow.Author.Needs.{needs}
-use Rattle.number.specs.Refusal.{unlessRefused}
 use Rattle.number.proofs.Refusal.{when-refused, when-accepted}
 use Rattle.plan.specs.PlanSizes.{noSizes, sizesRefusal, sizesOf, sizesCall}
 use Rattle.plan.specs.declared.outline.Outline.{Outline}
