@@ -2,7 +2,7 @@
 -- are long enough.
 use mathlib.Core.Path.{_≡_, sym, _∙_}
 use mathlib.Core.Bool.{Bool}
-use mathlib.Core.List.{List, [], _∷_}
+use mathlib.Core.List.{List}
 use Prim.Native.Nat.{ℕ, zero, suc, _*_}
 use native.Mathlib.Omega.{arith}
 use borrow.Author.Tests.{ltb-false, le-ltb}
@@ -11,11 +11,10 @@ use lib.ListN.{length}
 use Rattle.algebra.specs.declared.Basis.{Basis}
 use Rattle.algebra.specs.declared.Parity.{Parity}
 use Rattle.number.specs.Refusal.{Test, firstRefusal, unlessRefused}
-use Rattle.number.specs.Tests.{noRoom, noBoundaries, noSteps}
 use Rattle.number.proofs.Refusal.{none-holds, first-of-more, first-passed}
 use Rattle.counts.specs.declared.choice.SplitStrategy.{SplitStrategy}
 use Rattle.walk.specs.declared.plan.Head.{Head}
-use Rattle.plan.specs.PlanCall.{inputTests, Accepted, headFor, planRefusal}
+use Rattle.plan.specs.PlanCall.{inputTests, Accepted, bufferTests, headFor, planRefusal}
 use Rattle.plan.proofs.PlanTests.{inputs-numbered}
 use Rattle.demands.specs.Accepts.{LongEnough}
 
@@ -33,14 +32,14 @@ module _ (strategy : SplitStrategy) (parity : Parity) (basis : Basis) (folded : 
   head = headFor strategy parity basis folded c
 
   -- 21, 22, 23
-  abbrev pub bufferTests : List Test
-  bufferTests = noRoom (length out) (head .coefficients) ∷ noBoundaries (length bounds) (head .lists) ∷ noSteps (length steps) (head .steps) ∷ []
+  abbrev pub lateTests : List Test
+  lateTests = bufferTests (head .coefficients) (head .lists) (head .steps) (length out) (length bounds) (length steps)
 
-  pub late-refusal : Accepted folded parity c → planRefusal strategy parity basis folded c out bounds steps ≡ firstRefusal bufferTests
+  pub late-refusal : Accepted folded parity c → planRefusal strategy parity basis folded c out bounds steps ≡ firstRefusal lateTests
   unfolding planRefusal
-  late-refusal accepted = first-of-more (inputTests folded parity c) bufferTests (inputs-numbered folded parity c) accepted
+  late-refusal accepted = first-of-more (inputTests folded parity c) lateTests (inputs-numbered folded parity c) accepted
 
-  buffers-pass : LongEnough strategy parity basis folded c out bounds steps → firstRefusal bufferTests ≡ 0
+  buffers-pass : LongEnough strategy parity basis folded c out bounds steps → firstRefusal lateTests ≡ 0
   buffers-pass long = rw (
     le-ltb (length out) (head .coefficients) (long .coefficients),
     le-ltb (length bounds) (head .lists) (long .boundaries),
@@ -53,12 +52,12 @@ module _ (strategy : SplitStrategy) (parity : Parity) (basis : Basis) (folded : 
 
   pub made-accepted : planRefusal strategy parity basis folded c out bounds steps ≡ 0 → Accepted folded parity c
   unfolding planRefusal
-  made-accepted made = first-passed (inputTests folded parity c) bufferTests (inputs-numbered folded parity c) made
+  made-accepted made = first-passed (inputTests folded parity c) lateTests (inputs-numbered folded parity c) made
 
   pub made-long : planRefusal strategy parity basis folded c out bounds steps ≡ 0 → LongEnough strategy parity basis folded c out bounds steps
   made-long made =
-      let late : firstRefusal bufferTests ≡ 0 = sym (late-refusal (made-accepted made)) ∙ made in
-      let tests = none-holds bufferTests (omega arith, (omega arith, (omega arith, tt))) late in
+      let late : firstRefusal lateTests ≡ 0 = sym (late-refusal (made-accepted made)) ∙ made in
+      let tests = none-holds lateTests (omega arith, (omega arith, (omega arith, tt))) late in
       record {
         coefficients = ltb-false (length out) (head .coefficients) (tests .0);
         boundaries = ltb-false (length bounds) (head .lists) (tests .1 .0);

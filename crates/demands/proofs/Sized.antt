@@ -3,7 +3,7 @@
 -- plan call makes.
 use mathlib.Core.Path.{_≡_, refl, ap, sym, _∙_}
 use mathlib.Core.Bool.{Bool}
-use mathlib.Core.List.{List, [], _∷_}
+use mathlib.Core.List.{List}
 use Prim.Native.Nat.{ℕ, zero, suc, _-_, _<_}
 use native.Mathlib.Omega.{arith}
 use lib.IntN.{ℤ}
@@ -11,25 +11,25 @@ use lib.ListN.{length}
 use Rattle.algebra.specs.declared.Basis.{Basis}
 use Rattle.algebra.specs.declared.Parity.{Parity}
 use Rattle.number.specs.Refusal.{Test, firstRefusal}
-use Rattle.number.specs.Tests.{degreeOf, noRoom, noBoundaries, noSteps}
+use Rattle.number.specs.Tests.{degreeOf}
 use Rattle.number.proofs.Refusal.{first-kept, first-most, when-accepted}
 use Rattle.counts.specs.declared.choice.SplitStrategy.{SplitStrategy}
-use Rattle.plan.specs.PlanCall.{plannedParity, plannedTransform, settingsTests, inputTests, Accepted, plannedDegree, headFor, planRefusal}
+use Rattle.plan.specs.PlanCall.{plannedParity, plannedTransform, settingsTests, coefficientTests, inputTests, Accepted, bufferTests, plannedDegree}
+use Rattle.plan.specs.PlanCall.{headFor, planRefusal}
 use Rattle.plan.specs.PlanSizes.{degreeToPlan, sizesIn, sizesOf, sizesRefusal, sizesCall}
 use Rattle.plan.specs.declared.call.Planned.{Planned}
 use Rattle.plan.specs.declared.sizes.PlanSizes.{PlanSizes}
 use Rattle.plan.proofs.HeadCounts.{head-sizes}
-use Rattle.plan.proofs.PlanTests.{coefficientTests, settings-accepted, planned-length, degree-planned, inputs-to}
+use Rattle.plan.proofs.PlanTests.{settings-accepted, planned-length, degree-planned, inputs-to}
 use Rattle.demands.specs.Accepts.{LongEnough}
 use Rattle.demands.specs.Sized.{HasSizes, PlansSized, SizesOrder}
-use Rattle.demands.proofs.Refusals.{refusal-of, bufferTests, late-refusal, plan-made, made-accepted, made-long}
+use Rattle.demands.proofs.Refusals.{refusal-of, lateTests, late-refusal, plan-made, made-accepted, made-long}
 use Rattle.demands.proofs.Right.{plans-right}
 use Rattle.demands.proofs.Total.{refusal-is}
 
 -- the tests of three buffers against sizes
 abbrev testsOf : PlanSizes → (out : List ℤ) → (bounds steps : List ℕ) → List Test
-testsOf sizes out bounds steps =
-    noRoom (length out) (sizes .coefficients) ∷ noBoundaries (length bounds) (sizes .lists) ∷ noSteps (length steps) (sizes .steps) ∷ []
+testsOf sizes out bounds steps = bufferTests (sizes .coefficients) (sizes .lists) (sizes .steps) (length out) (length bounds) (length steps)
 
 module _ (strategy : SplitStrategy) (parity : Parity) (basis : Basis) (folded : Bool) (c : List ℤ) where
   abbrev sizes : PlanSizes
@@ -90,7 +90,7 @@ module _ (strategy : SplitStrategy) (parity : Parity) (basis : Basis) (folded : 
     settings-first some =
         let early : firstRefusal (inputTests folded parity c) ≡ firstRefusal (settingsTests folded parity (degreeOf c)) =
         first-kept (settingsTests folded parity (degreeOf c)) (coefficientTests parity c) (omega (arith, sizes-refusal, some)) in
-        first-kept (inputTests folded parity c) (bufferTests strategy parity basis folded c out bounds steps)
+        first-kept (inputTests folded parity c) (lateTests strategy parity basis folded c out bounds steps)
         (omega (arith, early, sizes-refusal, some))
         ∙ early
         ∙ sym sizes-refusal

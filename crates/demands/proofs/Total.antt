@@ -57,7 +57,7 @@ use Rattle.plan.specs.declared.sizes.PlanSizes.{PlanSizes}
 use Rattle.demands.specs.Total.{Ends, answers, refuses, ZeroHead, PlansTotal, PlansMade, PlanOrder, FoldsTotal, ListsTotal, TrialAnswered}
 use Rattle.demands.specs.Total.{TrialsTotal, InterpolationsTotal, NumbersTotal}
 use Rattle.plan.proofs.PlanTests.{settings-numbered, inputs-numbered}
-use Rattle.demands.proofs.Refusals.{refusal-of, bufferTests, plan-made, made-accepted, made-long}
+use Rattle.demands.proofs.Refusals.{refusal-of, lateTests, plan-made, made-accepted, made-long}
 use Rattle.demands.proofs.Right.{plans-right}
 
 -- ---- a call by its tests
@@ -81,7 +81,7 @@ module _ (strategy : SplitStrategy) (parity : Parity) (basis : Basis) (folds : B
 
   tests-numbered : Numbered (planTests strategy parity basis folds c out bounds steps)
   tests-numbered =
-      numbered-append (inputTests folds parity c) (bufferTests strategy parity basis folds c out bounds steps) (inputs-numbered folds parity c)
+      numbered-append (inputTests folds parity c) (lateTests strategy parity basis folds c out bounds steps) (inputs-numbered folds parity c)
       (omega arith, (omega arith, (omega arith, tt)))
 
   pub refusal-is : r .refusal ≡ k

@@ -10,9 +10,9 @@ use lib.ListN.{length}
 use Rattle.algebra.specs.declared.Basis.{Basis}
 use Rattle.algebra.specs.declared.Parity.{Parity}
 use Rattle.number.specs.Refusal.{firstRefusal}
-use Rattle.number.specs.Tests.{degreeOf, noRoom, noBoundaries, noSteps}
+use Rattle.number.specs.Tests.{degreeOf}
 use Rattle.counts.specs.declared.choice.SplitStrategy.{SplitStrategy}
-use Rattle.plan.specs.PlanCall.{settingsTests, inputTests, Accepted, PlanCall}
+use Rattle.plan.specs.PlanCall.{settingsTests, inputTests, Accepted, bufferTests, PlanCall}
 use Rattle.plan.specs.PlanSizes.{sizesIn, sizesCall}
 use Rattle.plan.specs.declared.call.Planned.{Planned}
 use Rattle.plan.specs.declared.sizes.PlanSizes.{PlanSizes}
@@ -31,7 +31,7 @@ pub record Sized (folded : Bool) (parity : Parity) (c out : List ℤ) (bounds st
   pub planned-if-long : Accepted folded parity c → (r .refusal ≡ 0) ↔ HasSizes sizes out bounds steps
   -- else the first buffer that is shorter is refused
   pub short-refused : Accepted folded parity c → r .refusal
-      ≡ firstRefusal (noRoom (length out) (sizes .coefficients) ∷ noBoundaries (length bounds) (sizes .lists) ∷ noSteps (length steps) (sizes .steps) ∷ [])
+      ≡ firstRefusal (bufferTests (sizes .coefficients) (sizes .lists) (sizes .steps) (length out) (length bounds) (length steps))
   -- and buffers as long are never refused, whatever the polynomial: the tests ahead of 21 decide
   pub long-decides : HasSizes sizes out bounds steps → r .refusal ≡ firstRefusal (inputTests folded parity c)
   pub never-short : HasSizes sizes out bounds steps → r .refusal < 21

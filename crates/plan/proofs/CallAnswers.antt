@@ -18,11 +18,11 @@ use Rattle.number.proofs.Refusal.{first-kept, first-of-more, when-refused, when
 use Rattle.counts.specs.declared.choice.SplitStrategy.{SplitStrategy}
 use Rattle.walk.specs.declared.plan.Head.{Head}
 use Rattle.plan.specs.PlanHead.{headOf, noHead}
-use Rattle.plan.specs.PlanCall.{plannedParity, plannedTransform, inputTests, Accepted, headFor, planRefusal}
+use Rattle.plan.specs.PlanCall.{plannedParity, plannedTransform, inputTests, Accepted, bufferTests, headFor, planRefusal}
 use Rattle.plan.specs.PlanCall.{planAnswer, planCoefficients, planBoundaries, planNumbers, PlanCall}
 use Rattle.plan.specs.PlanSizes.{degreeToPlan}
 use Rattle.plan.specs.inside.Outlines.{outlineFor}
-use Rattle.plan.specs.inside.Filling.{plannedCount, bufferTests, bufferRefusal, PlanFits, PlanPut}
+use Rattle.plan.specs.inside.Filling.{plannedCount, bufferRefusal, PlanFits, PlanPut}
 use Rattle.plan.specs.declared.call.Planned.{Planned}
 use Rattle.plan.specs.declared.outline.Outline.{Outline}
 use Rattle.plan.proofs.PlanTests.{inputs-numbered, passed, planned-length, degree-range, degree-planned, count-planned, buffers-fit}
@@ -81,7 +81,9 @@ module _ (strategy : SplitStrategy) (parity : Parity) (basis : Basis) (folded : 
     -- then those of the buffers decide
     late : refusal ≡ bufferRefusal head (length out) (length bounds) (length steps)
     unfolding planRefusal bufferRefusal
-    late = first-of-more (inputTests folded parity c) (bufferTests head (length out) (length bounds) (length steps)) (inputs-numbered folded parity c) accepted
+    late =
+        let later = bufferTests (head .coefficients) (head .lists) (head .steps) (length out) (length bounds) (length steps) in
+        first-of-more (inputTests folded parity c) later (inputs-numbered folded parity c) accepted
 
     module _ {count : ℕ} {h : Head} (count-is : count ≡ plannedCount folded parity (length c))
         (h-is : h ≡ headOf strategy (plannedParity folded parity) basis (plannedTransform folded parity basis) (count - 1)) where

@@ -2,7 +2,7 @@
 -- planned is then within the limits.
 use mathlib.Core.Path.{_≡_, refl, sym, _∙_}
 use mathlib.Core.Bool.{Bool, true, false, cond, true≢false, false≢true}
-use mathlib.Core.List.{List, [], _∷_}
+use mathlib.Core.List.{List}
 use Prim.Native.Nat.{ℕ, suc, _-_, _*_, _/_, _≤_, _<_}
 use native.Mathlib.Omega.{arith}
 use borrow.Author.Tests.{lt-ltb, le-ltb, ltb-false, leb-true, eqb-false, not-false}
@@ -18,17 +18,17 @@ use Rattle.algebra.specs.declared.Parity.the-variants.{Full, Even, Odd}
 use Rattle.algebra.proofs.FoldPlaces.{fold-length}
 use Rattle.number.specs.Limits.{planLimit, sumLimit}
 use Rattle.number.specs.Numbers.{wholeNumbers}
-use Rattle.number.specs.Refusal.{Test, Numbered, firstRefusal}
-use Rattle.number.specs.Tests.{degreeOf, isFull, leastFolded, wrongParity, tooLarge}
+use Rattle.number.specs.Refusal.{Numbered, firstRefusal}
+use Rattle.number.specs.Tests.{degreeOf, isFull, leastFolded}
 use Rattle.number.specs.inside.Between.{Between}
 use Rattle.number.specs.inside.Room.{SumByLengthTo53}
 use Rattle.number.proofs.Refusal.{NumbersTo, none-holds, first-of-more, first-passed}
 use Rattle.lists.proofs.SumByLength.{sum-by-length-start}
 use Rattle.lists.proofs.Bounds.{fold-sum-by-length}
 use Rattle.walk.specs.declared.plan.Head.{Head}
-use Rattle.plan.specs.PlanCall.{plannedCoefficients, settingsTests, inputTests, Accepted}
+use Rattle.plan.specs.PlanCall.{plannedCoefficients, settingsTests, coefficientTests, inputTests, Accepted, bufferTests}
 use Rattle.plan.specs.PlanSizes.{degreeToPlan}
-use Rattle.plan.specs.inside.Filling.{plannedCount, bufferTests, bufferRefusal}
+use Rattle.plan.specs.inside.Filling.{plannedCount, bufferRefusal}
 
 -- ---- degree and settings
 
@@ -100,10 +100,6 @@ planned-length false parity basis c = refl
 
 -- ---- the input
 
--- the tests of the coefficients: 4, 3
-abbrev pub coefficientTests : Parity → List ℤ → List Test
-coefficientTests parity c = wrongParity wholeNumbers parity c ∷ tooLarge wholeNumbers c ∷ []
-
 pub inputs-numbered : (folded : Bool) (parity : Parity) (c : List ℤ) → Numbered (inputTests folded parity c)
 inputs-numbered true parity c = (omega arith, (omega arith, (omega arith, (omega arith, (omega arith, (omega arith, tt))))))
 inputs-numbered false parity c = (omega arith, (omega arith, (omega arith, (omega arith, tt))))
@@ -168,7 +164,7 @@ pub buffers-fit : (head : Head) (room boundaries numbers : ℕ) → bufferRefusa
     → BuffersFit head room boundaries numbers
 unfolding bufferRefusal
 buffers-fit head room boundaries numbers accepted =
-    let tests = bufferTests head room boundaries numbers in
+    let tests = bufferTests (head .coefficients) (head .lists) (head .steps) room boundaries numbers in
     let numbered : Numbered tests = (omega arith, (omega arith, (omega arith, tt))) in
     let none = none-holds tests numbered accepted in
     record {

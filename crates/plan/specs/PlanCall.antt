@@ -53,14 +53,23 @@ foldableTests false parity degree = []
 abbrev pub settingsTests : (folded : Bool) → Parity → (degree : ℕ) → List Test
 settingsTests folded parity degree = tooHigh planLimit degree ∷ noDegree degree ∷ foldableTests folded parity degree
 
--- then 4, 3, of the coefficients
+-- 4, 3: the coefficients decide them
+abbrev pub coefficientTests : Parity → List ℤ → List Test
+coefficientTests parity c = wrongParity wholeNumbers parity c ∷ tooLarge wholeNumbers c ∷ []
+
+-- those, then these
 abbrev pub inputTests : (folded : Bool) → Parity → List ℤ → List Test
-inputTests folded parity c =
-    settingsTests folded parity (degreeOf c) ++ (wrongParity wholeNumbers parity c ∷ tooLarge wholeNumbers c ∷ [])
+inputTests folded parity c = settingsTests folded parity (degreeOf c) ++ coefficientTests parity c
 
 -- a polynomial is accepted with its settings if it passes them all
 abbrev pub Accepted : (folded : Bool) → Parity → List ℤ → Type 0
 Accepted folded parity c = firstRefusal (inputTests folded parity c) ≡ 0
+
+-- ---- the tests from 21 on
+
+-- 21, 22, 23: buffers of so many places, for so many coefficients, lists and steps
+abbrev pub bufferTests : (coefficients lists steps : ℕ) → (room boundaries numbers : ℕ) → List Test
+bufferTests coefficients lists steps room boundaries numbers = noRoom room coefficients ∷ noBoundaries boundaries lists ∷ noSteps numbers steps ∷ []
 
 -- ---- the call
 
@@ -94,10 +103,7 @@ module _ (strategy : SplitStrategy) (parity : Parity) (basis : Basis) (folded : 
     abbrev pub planTests : List Test
     planTests =
         inputTests folded parity c
-        ++ (noRoom (length out) (headFor .coefficients)
-        ∷ noBoundaries (length bounds) (headFor .lists)
-        ∷ noSteps (length steps) (headFor .steps)
-        ∷ [])
+        ++ bufferTests (headFor .coefficients) (headFor .lists) (headFor .steps) (length out) (length bounds) (length steps)
 
     unfoldable pub planRefusal : ℕ
     planRefusal = firstRefusal planTests

@@ -1,7 +1,7 @@
 -- What the functions of the plan call ask of one another and leave (docs/RULES.md, "Steps and the walk" and "Refusals").
 use mathlib.Core.Path.{_≡_}
 use mathlib.Core.Bool.{Bool, true, false}
-use mathlib.Core.List.{List, [], _∷_}
+use mathlib.Core.List.{List}
 use Prim.Native.Nat.{ℕ, _-_, _*_, _≤_}
 use lib.IntN.{ℤ}
 use lib.ListN.{length}
@@ -11,8 +11,8 @@ use Rattle.algebra.specs.Magnitude.{sumAbs}
 use Rattle.algebra.specs.declared.Basis.{Basis}
 use Rattle.algebra.specs.declared.Parity.{Parity}
 use Rattle.number.specs.Limits.{planLimit, sumLimit}
-use Rattle.number.specs.Refusal.{Test, firstRefusal}
-use Rattle.number.specs.Tests.{degreeOf, noRoom, noBoundaries, noSteps}
+use Rattle.number.specs.Refusal.{firstRefusal}
+use Rattle.number.specs.Tests.{degreeOf}
 use Rattle.number.specs.inside.Between.{Between}
 use Rattle.number.specs.inside.Folding.{Foldable}
 use Rattle.counts.specs.declared.choice.SplitStrategy.{SplitStrategy}
@@ -20,7 +20,7 @@ use Rattle.lists.specs.Tree.{planTree}
 use Rattle.lists.specs.Arrange.{leavesOf}
 use Rattle.walk.specs.declared.plan.Head.{Head}
 use Rattle.plan.specs.PlanSteps.{planSteps}
-use Rattle.plan.specs.PlanCall.{plannedCoefficients, plannedParity, coefficientsFor, boundariesFor, numbersFor}
+use Rattle.plan.specs.PlanCall.{plannedCoefficients, plannedParity, bufferTests, coefficientsFor, boundariesFor, numbersFor}
 use Rattle.plan.specs.inside.Outlines.{outlineFor}
 use Rattle.plan.specs.declared.outline.Outline.{Outline}
 
@@ -29,13 +29,10 @@ abbrev pub plannedCount : (folded : Bool) → Parity → (n : ℕ) → ℕ
 plannedCount true parity n = foldedLength parity n
 plannedCount false parity n = n
 
--- the tests of buffers of so many places: 21, 22, 23
-abbrev pub bufferTests : Head → (room boundaries numbers : ℕ) → List Test
-bufferTests head room boundaries numbers =
-    noRoom room (head .coefficients) ∷ noBoundaries boundaries (head .lists) ∷ noSteps numbers (head .steps) ∷ []
-
+-- what buffers of so many places are refused with, for a head
 unfoldable pub bufferRefusal : Head → (room boundaries numbers : ℕ) → ℕ
-bufferRefusal head room boundaries numbers = firstRefusal (bufferTests head room boundaries numbers)
+bufferRefusal head room boundaries numbers =
+    firstRefusal (bufferTests (head .coefficients) (head .lists) (head .steps) room boundaries numbers)
 
 -- a place for each planned coefficient, of which none grows too large
 pub record CoefficientsFit (folded : Bool) (parity : Parity) (c out : List ℤ) : Type 0 where

@@ -8,8 +8,8 @@ use borrow.Author.Tests.{not-true, not-false}
 use Rattle.number.specs.Refusal.{firstRefusal}
 use Rattle.number.specs.Tests.{degreeOf}
 use Rattle.number.proofs.Refusal.{first-kept}
-use Rattle.plan.specs.PlanCall.{settingsTests, inputTests}
-use Rattle.plan.proofs.PlanTests.{coefficientTests, late-input}
+use Rattle.plan.specs.PlanCall.{settingsTests, coefficientTests, inputTests}
+use Rattle.plan.proofs.PlanTests.{late-input}
 use Rattle.plan.proofs.input.input_refusal.Statement.{statement}
 use Rattle.plan.proofs.input.input_refusal.Tie as tie
 
