@@ -3,19 +3,18 @@
 use mathlib.Core.Path.{_≡_, sym, _∙_}
 use mathlib.Core.Bool.{Bool}
 use mathlib.Core.List.{List}
-use Prim.Native.Nat.{ℕ, zero, suc, _*_}
-use native.Mathlib.Omega.{arith}
-use borrow.Author.Tests.{ltb-false, le-ltb}
+use Prim.Native.Nat.{ℕ, zero, suc}
 use lib.IntN.{ℤ}
 use lib.ListN.{length}
 use Rattle.algebra.specs.declared.Basis.{Basis}
 use Rattle.algebra.specs.declared.Parity.{Parity}
 use Rattle.number.specs.Refusal.{Test, firstRefusal, unlessRefused}
-use Rattle.number.proofs.Refusal.{none-holds, first-of-more, first-passed}
+use Rattle.number.proofs.Refusal.{first-of-more, first-passed}
 use Rattle.counts.specs.declared.choice.SplitStrategy.{SplitStrategy}
 use Rattle.walk.specs.declared.plan.Head.{Head}
 use Rattle.plan.specs.PlanCall.{inputTests, Accepted, bufferTests, headFor, planRefusal}
-use Rattle.plan.proofs.PlanTests.{inputs-numbered}
+use Rattle.plan.specs.PlanSizes.{sizesIn}
+use Rattle.plan.proofs.PlanTests.{inputs-numbered, buffers-fit, fit-passes}
 use Rattle.demands.specs.Accepts.{LongEnough}
 
 -- the refusal that an answer carries
@@ -40,11 +39,7 @@ module _ (strategy : SplitStrategy) (parity : Parity) (basis : Basis) (folded : 
   late-refusal accepted = first-of-more (inputTests folded parity c) lateTests (inputs-numbered folded parity c) accepted
 
   buffers-pass : LongEnough strategy parity basis folded c out bounds steps → firstRefusal lateTests ≡ 0
-  buffers-pass long = rw (
-    le-ltb (length out) (head .coefficients) (long .coefficients),
-    le-ltb (length bounds) (head .lists) (long .boundaries),
-    le-ltb (length steps) (4 * head .steps) (long .numbers),
-  )
+  buffers-pass long = fit-passes (sizesIn head) (length out) (length bounds) (length steps) long
 
   pub plan-made : Accepted folded parity c → LongEnough strategy parity basis folded c out bounds steps
       → planRefusal strategy parity basis folded c out bounds steps ≡ 0
@@ -55,11 +50,4 @@ module _ (strategy : SplitStrategy) (parity : Parity) (basis : Basis) (folded : 
   made-accepted made = first-passed (inputTests folded parity c) lateTests (inputs-numbered folded parity c) made
 
   pub made-long : planRefusal strategy parity basis folded c out bounds steps ≡ 0 → LongEnough strategy parity basis folded c out bounds steps
-  made-long made =
-      let late : firstRefusal lateTests ≡ 0 = sym (late-refusal (made-accepted made)) ∙ made in
-      let tests = none-holds lateTests (omega arith, (omega arith, (omega arith, tt))) late in
-      record {
-        coefficients = ltb-false (length out) (head .coefficients) (tests .0);
-        boundaries = ltb-false (length bounds) (head .lists) (tests .1 .0);
-        numbers = ltb-false (length steps) (4 * head .steps) (tests .1 .1 .0);
-      }
+  made-long made = buffers-fit (sizesIn head) (length out) (length bounds) (length steps) (sym (late-refusal (made-accepted made)) ∙ made)

@@ -1,7 +1,7 @@
 -- The sizes of degree and settings are those of every plan (request Q-1). What is planned of a polynomial has the degree that its own degree and the
 -- settings say, so the head tells these sizes, and the tests of the buffers are made against them; and the tests of the settings are the first that a
 -- plan call makes.
-use mathlib.Core.Path.{_≡_, refl, ap, sym, _∙_}
+use mathlib.Core.Path.{_≡_, refl, ap, sym, subst, _∙_}
 use mathlib.Core.Bool.{Bool}
 use mathlib.Core.List.{List}
 use Prim.Native.Nat.{ℕ, zero, suc, _-_, _<_}
@@ -16,13 +16,12 @@ use Rattle.number.proofs.Refusal.{first-kept, first-most, when-accepted}
 use Rattle.counts.specs.declared.choice.SplitStrategy.{SplitStrategy}
 use Rattle.plan.specs.PlanCall.{plannedParity, plannedTransform, settingsTests, coefficientTests, inputTests, Accepted, bufferTests, plannedDegree}
 use Rattle.plan.specs.PlanCall.{headFor, planRefusal}
-use Rattle.plan.specs.PlanSizes.{degreeToPlan, sizesIn, sizesOf, sizesRefusal, sizesCall}
+use Rattle.plan.specs.PlanSizes.{degreeToPlan, sizesIn, sizesOf, HasSizes, sizesRefusal, sizesCall}
 use Rattle.plan.specs.declared.call.Planned.{Planned}
 use Rattle.plan.specs.declared.sizes.PlanSizes.{PlanSizes}
 use Rattle.plan.proofs.HeadCounts.{head-sizes}
 use Rattle.plan.proofs.PlanTests.{settings-accepted, planned-length, degree-planned, inputs-to}
-use Rattle.demands.specs.Accepts.{LongEnough}
-use Rattle.demands.specs.Sized.{HasSizes, PlansSized, SizesOrder}
+use Rattle.demands.specs.Sized.{PlansSized, SizesOrder}
 use Rattle.demands.proofs.Refusals.{refusal-of, lateTests, late-refusal, plan-made, made-accepted, made-long}
 use Rattle.demands.proofs.Right.{plans-right}
 use Rattle.demands.proofs.Total.{refusal-is}
@@ -61,22 +60,11 @@ module _ (strategy : SplitStrategy) (parity : Parity) (basis : Basis) (folded : 
         late-refusal strategy parity basis folded c out bounds steps accepted
         ∙ ap (λ (s : PlanSizes). firstRefusal (testsOf s out bounds steps)) (head-tells accepted)
 
-    long-same : Accepted folded parity c → HasSizes sizes out bounds steps → LongEnough strategy parity basis folded c out bounds steps
-    long-same accepted long =
-        let told : HasSizes (sizesIn (headFor strategy parity basis folded c)) out bounds steps = rw (head-tells accepted) long in
-        record { coefficients = told .coefficients; boundaries = told .boundaries; numbers = told .numbers }
-
-    same-long : Accepted folded parity c → LongEnough strategy parity basis folded c out bounds steps → HasSizes sizes out bounds steps
-    same-long accepted long =
-        let told : HasSizes (sizesIn (headFor strategy parity basis folded c)) out bounds steps =
-        record { coefficients = long .coefficients; boundaries = long .boundaries; numbers = long .numbers } in
-        rw (head-tells accepted) at told
-
-    made-long-enough : Accepted folded parity c → HasSizes sizes out bounds steps → refusal ≡ 0
-    made-long-enough accepted long = plan-made strategy parity basis folded c out bounds steps accepted (long-same accepted long)
+    made-long-enough : Accepted folded parity c → HasSizes sizes (length out) (length bounds) (length steps) → refusal ≡ 0
+    made-long-enough accepted long = plan-made strategy parity basis folded c out bounds steps accepted (rw (head-tells accepted) long)
 
     -- with buffers of these sizes the input decides
-    input-decides : HasSizes sizes out bounds steps → refusal ≡ firstRefusal (inputTests folded parity c)
+    input-decides : HasSizes sizes (length out) (length bounds) (length steps) → refusal ≡ firstRefusal (inputTests folded parity c)
     unfolding planRefusal
     input-decides long = by-input (firstRefusal (inputTests folded parity c)) refl
       where
@@ -106,7 +94,7 @@ plans-sized strategy parity basis folded c out bounds steps r out′ bounds′ s
           let right = plans-right strategy parity basis folded c out bounds steps r out′ bounds′ steps′ accepted long call in
           ap (λ (p : Planned). sizesIn (p .head)) (right .answer) ∙ head-tells strategy parity basis folded c accepted;
       planned-if-long = λ accepted. (
-        λ made. same-long strategy parity basis folded c out bounds steps accepted
+        λ made. subst (λ (s : PlanSizes). HasSizes s (length out) (length bounds) (length steps)) (head-tells strategy parity basis folded c accepted)
             (made-long strategy parity basis folded c out bounds steps (sym same ∙ made)),
         λ long. same ∙ made-long-enough strategy parity basis folded c out bounds steps accepted long,
       );

@@ -3,7 +3,7 @@ use mathlib.Core.Path.{_≡_}
 use mathlib.Core.Bool.{Bool, true}
 use mathlib.Core.Logic.{_↔_}
 use mathlib.Core.List.{List}
-use Prim.Native.Nat.{ℕ, _*_, _^_, _≤_}
+use Prim.Native.Nat.{ℕ, _^_, _≤_}
 use lib.IntN.{ℤ}
 use lib.ListN.{length}
 use Rattle.algebra.specs.Operations.{wholeOps}
@@ -15,6 +15,7 @@ use Rattle.algebra.specs.declared.Parity.the-variants.{Full, Even, Odd}
 use Rattle.number.specs.Tests.{degreeOf}
 use Rattle.counts.specs.declared.choice.SplitStrategy.{SplitStrategy}
 use Rattle.plan.specs.PlanCall.{Accepted, headFor}
+use Rattle.plan.specs.PlanSizes.{sizesIn, HasSizes}
 
 -- folding is for Even from degree 2 on and for Odd from degree 3 on
 abbrev pub Foldable : Parity → (degree : ℕ) → Type 0
@@ -35,9 +36,7 @@ pub record Covered (folded : Bool) (parity : Parity) (c : List ℤ) : Type 0 whe
 abbrev pub CoveredAccepted : Type 0
 CoveredAccepted = (folded : Bool) (parity : Parity) (c : List ℤ) → Accepted folded parity c ↔ Covered folded parity c
 
--- long enough buffers: a place for each coefficient, a boundary for each list, four numbers for each step
-pub record LongEnough (strategy : SplitStrategy) (parity : Parity) (basis : Basis) (folded : Bool) (c out : List ℤ)
-    (bounds steps : List ℕ) : Type 0 where
-  pub coefficients : headFor strategy parity basis folded c .coefficients ≤ length out
-  pub boundaries : headFor strategy parity basis folded c .lists ≤ length bounds
-  pub numbers : 4 * headFor strategy parity basis folded c .steps ≤ length steps
+-- long enough buffers: they have the sizes that the plan's head tells
+abbrev pub LongEnough : SplitStrategy → Parity → Basis → (folded : Bool) → (c out : List ℤ) → (bounds steps : List ℕ) → Type 0
+LongEnough strategy parity basis folded c out bounds steps =
+    HasSizes (sizesIn (headFor strategy parity basis folded c)) (length out) (length bounds) (length steps)

@@ -4,7 +4,7 @@ use mathlib.Core.Path.{_≡_}
 use mathlib.Core.Bool.{Bool, true, false}
 use mathlib.Core.List.{List, [], _∷_}
 use mathlib.Core.Logic.{_↔_}
-use Prim.Native.Nat.{ℕ, _*_, _≤_, _<_}
+use Prim.Native.Nat.{ℕ, _<_}
 use lib.IntN.{ℤ}
 use lib.ListN.{length}
 use Rattle.algebra.specs.declared.Basis.{Basis}
@@ -13,28 +13,23 @@ use Rattle.number.specs.Refusal.{firstRefusal}
 use Rattle.number.specs.Tests.{degreeOf}
 use Rattle.counts.specs.declared.choice.SplitStrategy.{SplitStrategy}
 use Rattle.plan.specs.PlanCall.{settingsTests, inputTests, Accepted, bufferTests, PlanCall}
-use Rattle.plan.specs.PlanSizes.{sizesIn, sizesCall}
+use Rattle.plan.specs.PlanSizes.{sizesIn, HasSizes, sizesCall}
 use Rattle.plan.specs.declared.call.Planned.{Planned}
 use Rattle.plan.specs.declared.sizes.PlanSizes.{PlanSizes}
 use Rattle.demands.specs.Total.{numbersOf}
 
--- three buffers of at least these sizes: a place for each coefficient, a boundary for each list, four numbers for each step
-pub record HasSizes (sizes : PlanSizes) (out : List ℤ) (bounds steps : List ℕ) : Type 0 where
-  pub coefficients : sizes .coefficients ≤ length out
-  pub boundaries : sizes .lists ≤ length bounds
-  pub numbers : 4 * sizes .steps ≤ length steps
-
+-- the sizes of a plan call's degree and settings, held against its buffers and its answer r
 pub record Sized (folded : Bool) (parity : Parity) (c out : List ℤ) (bounds steps : List ℕ) (sizes : PlanSizes) (r : Planned) : Type 0 where
   -- a plan's head tells these sizes
   pub head-sizes : r .refusal ≡ 0 → sizesIn (r .head) ≡ sizes
   -- a polynomial that passes every test ahead of 21 is planned exactly if the three buffers are at least as long
-  pub planned-if-long : Accepted folded parity c → (r .refusal ≡ 0) ↔ HasSizes sizes out bounds steps
+  pub planned-if-long : Accepted folded parity c → (r .refusal ≡ 0) ↔ HasSizes sizes (length out) (length bounds) (length steps)
   -- else the first buffer that is shorter is refused
   pub short-refused : Accepted folded parity c → r .refusal
       ≡ firstRefusal (bufferTests (sizes .coefficients) (sizes .lists) (sizes .steps) (length out) (length bounds) (length steps))
   -- and buffers as long are never refused, whatever the polynomial: the tests ahead of 21 decide
-  pub long-decides : HasSizes sizes out bounds steps → r .refusal ≡ firstRefusal (inputTests folded parity c)
-  pub never-short : HasSizes sizes out bounds steps → r .refusal < 21
+  pub long-decides : HasSizes sizes (length out) (length bounds) (length steps) → r .refusal ≡ firstRefusal (inputTests folded parity c)
+  pub never-short : HasSizes sizes (length out) (length bounds) (length steps) → r .refusal < 21
   -- settings that are refused here are refused there with the same number
   pub settings-refused : 0 < sizes .refusal → r .refusal ≡ sizes .refusal
 

@@ -20,7 +20,7 @@ use Rattle.walk.specs.declared.plan.Head.{Head}
 use Rattle.plan.specs.PlanHead.{headOf, noHead}
 use Rattle.plan.specs.PlanCall.{plannedParity, plannedTransform, inputTests, Accepted, bufferTests, headFor, planRefusal}
 use Rattle.plan.specs.PlanCall.{planAnswer, planCoefficients, planBoundaries, planNumbers, PlanCall}
-use Rattle.plan.specs.PlanSizes.{degreeToPlan}
+use Rattle.plan.specs.PlanSizes.{degreeToPlan, sizesIn}
 use Rattle.plan.specs.inside.Outlines.{outlineFor}
 use Rattle.plan.specs.inside.Filling.{plannedCount, bufferRefusal, PlanFits, PlanPut}
 use Rattle.plan.specs.declared.call.Planned.{Planned}
@@ -106,13 +106,13 @@ module _ (strategy : SplitStrategy) (parity : Parity) (basis : Basis) (folded : 
         module _ (none : k ≡ 0) where
           pub plan-fits : {outline : Outline} → outline ≡ outlineFor strategy (plannedParity folded parity) basis (count - 1)
               → PlanFits strategy parity basis folded count outline c out bounds steps
-          unfolding headOf
+          unfolding headOf bufferRefusal
           plan-fits {outline} outline-for =
               let tests = passed folded parity c accepted in
               let planned = degree-range folded parity (degreeOf c) (tests .settings) in
               let degrees : Between 1 (count - 1) planLimit = rw (count-is, degree-planned folded parity (length c)) planned in
-              let fit = buffers-fit h (length out) (length bounds) (length steps) (sym k-is ∙ none) in
-              let places : suc (count - 1) ≤ length out = subst (λ (x : Head). x .coefficients ≤ length out) h-is (fit .coefficient-room) in
+              let fit = buffers-fit (sizesIn h) (length out) (length bounds) (length steps) (sym k-is ∙ none) in
+              let places : suc (count - 1) ≤ length out = subst (λ (x : Head). x .coefficients ≤ length out) h-is (fit .coefficients) in
               let enough : count ≤ length out = omega arith in
               record {
                 coefficients-fit = record {
@@ -125,8 +125,8 @@ module _ (strategy : SplitStrategy) (parity : Parity) (basis : Basis) (folded : 
                 outline-is = outline-for;
                 degrees = degrees;
                 room = enough;
-                boundary-room = subst (λ (x : Head). x .lists ≤ length bounds) h-is (fit .boundary-room);
-                step-room = subst (λ (x : Head). 4 * x .steps ≤ length steps) h-is (fit .step-room);
+                boundary-room = subst (λ (x : Head). x .lists ≤ length bounds) h-is (fit .boundaries);
+                step-room = subst (λ (x : Head). 4 * x .steps ≤ length steps) h-is (fit .numbers);
               }
             where
               fold-room : folded ≡ true → count ≤ length out → foldedLength parity (length c) ≤ length out

@@ -18,17 +18,17 @@ use Rattle.algebra.specs.declared.Parity.the-variants.{Full, Even, Odd}
 use Rattle.algebra.proofs.FoldPlaces.{fold-length}
 use Rattle.number.specs.Limits.{planLimit, sumLimit}
 use Rattle.number.specs.Numbers.{wholeNumbers}
-use Rattle.number.specs.Refusal.{Numbered, firstRefusal}
+use Rattle.number.specs.Refusal.{Test, Numbered, firstRefusal}
 use Rattle.number.specs.Tests.{degreeOf, isFull, leastFolded}
 use Rattle.number.specs.inside.Between.{Between}
 use Rattle.number.specs.inside.Room.{SumByLengthTo53}
 use Rattle.number.proofs.Refusal.{NumbersTo, none-holds, first-of-more, first-passed}
 use Rattle.lists.proofs.SumByLength.{sum-by-length-start}
 use Rattle.lists.proofs.Bounds.{fold-sum-by-length}
-use Rattle.walk.specs.declared.plan.Head.{Head}
 use Rattle.plan.specs.PlanCall.{plannedCoefficients, settingsTests, coefficientTests, inputTests, Accepted, bufferTests}
-use Rattle.plan.specs.PlanSizes.{degreeToPlan}
-use Rattle.plan.specs.inside.Filling.{plannedCount, bufferRefusal}
+use Rattle.plan.specs.PlanSizes.{degreeToPlan, HasSizes}
+use Rattle.plan.specs.inside.Filling.{plannedCount}
+use Rattle.plan.specs.declared.sizes.PlanSizes.{PlanSizes}
 
 -- ---- degree and settings
 
@@ -155,20 +155,23 @@ steps-short steps numbers short = lt-ltb numbers (4 * steps) (omega arith)
 pub steps-fit : (steps numbers : ℕ) → steps ≤ numbers / 4 → ltb numbers (4 * steps) ≡ false
 steps-fit steps numbers fits = le-ltb numbers (4 * steps) (omega arith)
 
-pub record BuffersFit (head : Head) (room boundaries numbers : ℕ) : Type 0 where
-  pub coefficient-room : head .coefficients ≤ room
-  pub boundary-room : head .lists ≤ boundaries
-  pub step-room : 4 * head .steps ≤ numbers
+-- no test holds exactly where the buffers have the sizes
+module _ (sizes : PlanSizes) (out bounds steps : ℕ) where
+  abbrev tests : List Test
+  tests = bufferTests (sizes .coefficients) (sizes .lists) (sizes .steps) out bounds steps
 
-pub buffers-fit : (head : Head) (room boundaries numbers : ℕ) → bufferRefusal head room boundaries numbers ≡ 0
-    → BuffersFit head room boundaries numbers
-unfolding bufferRefusal
-buffers-fit head room boundaries numbers accepted =
-    let tests = bufferTests (head .coefficients) (head .lists) (head .steps) room boundaries numbers in
-    let numbered : Numbered tests = (omega arith, (omega arith, (omega arith, tt))) in
-    let none = none-holds tests numbered accepted in
-    record {
-      coefficient-room = ltb-false room (head .coefficients) (none .0);
-      boundary-room = ltb-false boundaries (head .lists) (none .1 .0);
-      step-room = ltb-false numbers (4 * head .steps) (none .1 .1 .0);
-    }
+  pub buffers-fit : firstRefusal tests ≡ 0 → HasSizes sizes out bounds steps
+  buffers-fit passed =
+      let none = none-holds tests (omega arith, (omega arith, (omega arith, tt))) passed in
+      record {
+        coefficients = ltb-false out (sizes .coefficients) (none .0);
+        boundaries = ltb-false bounds (sizes .lists) (none .1 .0);
+        numbers = ltb-false steps (4 * sizes .steps) (none .1 .1 .0);
+      }
+
+  pub fit-passes : HasSizes sizes out bounds steps → firstRefusal tests ≡ 0
+  fit-passes fit = rw (
+    le-ltb out (sizes .coefficients) (fit .coefficients),
+    le-ltb bounds (sizes .lists) (fit .boundaries),
+    le-ltb steps (4 * sizes .steps) (fit .numbers),
+  )

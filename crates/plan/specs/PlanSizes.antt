@@ -1,7 +1,7 @@
 -- The sizes of a plan before its curve is there (docs/RULES.md, "The sizes of a plan"): degree and settings alone decide how many coefficients, lists
 -- and steps it has, and so how long its buffers must be.
 use mathlib.Core.Bool.{Bool, true, false}
-use Prim.Native.Nat.{ℕ, suc, _+_, _-_, _/_}
+use Prim.Native.Nat.{ℕ, suc, _+_, _-_, _*_, _/_, _≤_}
 use Rattle.algebra.specs.declared.Basis.{Basis}
 use Rattle.algebra.specs.declared.Parity.{Parity}
 use Rattle.algebra.specs.declared.Parity.the-variants.{Full, Even, Odd}
@@ -50,6 +50,12 @@ sizesIn head = record { refusal = 0; coefficients = head .coefficients; lists = 
 -- after a refusal zeros
 abbrev pub noSizes : (refusal : ℕ) → PlanSizes
 noSizes refusal = record { refusal = refusal; coefficients = 0; lists = 0; steps = 0 }
+
+-- buffers with so many places have these sizes: a place for each coefficient, a boundary for each list, four numbers for each step
+pub record HasSizes (sizes : PlanSizes) (out bounds steps : ℕ) : Type 0 where
+  pub coefficients : sizes .coefficients ≤ out
+  pub boundaries : sizes .lists ≤ bounds
+  pub numbers : 4 * sizes .steps ≤ steps
 
 -- ---- the call
 
