@@ -3,8 +3,9 @@ use Rattle.demands.specs.Demands.{Total, Equal, Right, Demands}
 use Rattle.demands.proofs.Accepts.{covered-accepted}
 use Rattle.demands.proofs.Right.{steps-right, stored-right, plans-right}
 use Rattle.demands.proofs.MadeBefore.{runs-made-before, plans-made-before}
+use Rattle.demands.proofs.Counted.{plans-report, transform-costs}
 use Rattle.demands.proofs.PlainStep.{plans-plain}
-use Rattle.demands.proofs.Counted.{plans-report, transform-costs, min-mult-least}
+use Rattle.demands.proofs.Estimated.{plans-estimated}
 use Rattle.demands.proofs.Total.{plans-total, plans-made, plan-order, folds-total, lists-total, trials-total, interpolations-total, numbers-total}
 use Rattle.demands.proofs.Equal.{published, floats-equal, plans-equal}
 use Rattle.demands.proofs.HeadTold.{heads-told}
@@ -36,7 +37,7 @@ right = record {
   plans-report = plans-report;
   plans-plain = plans-plain;
   transform-costs = transform-costs;
-  min-mult-least = min-mult-least;
+  plans-estimated = plans-estimated;
   heads-told = heads-told;
   plans-fit = plans-fit;
 }

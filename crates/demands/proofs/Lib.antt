@@ -3,12 +3,14 @@ mod PowerRun
 mod TreeRun
 mod PlanRun
 pub mod Refusals
-mod Pairs
+mod LastList
 pub mod Accepts
 pub mod Right
 pub mod MadeBefore
-pub mod PlainStep
 pub mod Counted
+pub mod PlainStep
+mod Pairs
+pub mod Estimated
 pub mod HeadTold
 pub mod Fits
 pub mod Total

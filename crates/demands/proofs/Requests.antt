@@ -1,9 +1,14 @@
 -- The requests that have landed are met: each statement by the theorem of its name.
-use Rattle.demands.specs.Requests.{BufferSizes, Requests}
+use Rattle.demands.specs.Requests.{BufferSizes, LastConstant, Requests}
 use Rattle.demands.proofs.Sized.{plans-sized, sizes-order}
+use Rattle.demands.proofs.PlainStep.{plans-plain}
+use Rattle.demands.proofs.Estimated.{plans-estimated, cheaper-reported}
 
 pub buffer-sizes : BufferSizes
 buffer-sizes = record { plans-sized = plans-sized; sizes-order = sizes-order }
 
+pub last-constant : LastConstant
+last-constant = record { plans-plain = plans-plain; plans-estimated = plans-estimated; cheaper-reported = cheaper-reported }
+
 pub requests : Requests
-requests = record { buffer-sizes = buffer-sizes }
+requests = record { buffer-sizes = buffer-sizes; last-constant = last-constant }

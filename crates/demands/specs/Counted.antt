@@ -3,20 +3,13 @@
 use mathlib.Core.Path.{_≡_}
 use mathlib.Core.Bool.{Bool, true, false}
 use mathlib.Core.List.{List, [], _∷_}
-use Prim.Native.Nat.{ℕ, _+_, _-_, _^_, _≤_}
+use Prim.Native.Nat.{ℕ, _+_, _-_}
 use lib.IntN.{ℤ}
 use lib.ListN.{take}
 use Rattle.algebra.specs.declared.Basis.{Basis}
 use Rattle.algebra.specs.declared.Parity.{Parity}
 use Rattle.algebra.specs.declared.Parity.the-variants.{Even, Odd}
-use Rattle.number.specs.Bits.{bitLen}
-use Rattle.number.specs.Tests.{degreeOf}
-use Rattle.counts.specs.Pair.{pairAt}
-use Rattle.counts.specs.MinMult.{AtMost, minMult}
-use Rattle.counts.specs.Calls.{countsCall}
-use Rattle.counts.specs.declared.pair.Pair.{Pair}
 use Rattle.counts.specs.declared.choice.SplitStrategy.{SplitStrategy}
-use Rattle.counts.specs.declared.choice.SplitStrategy.the-variants.{MinMult}
 use Rattle.walk.specs.Lent.{lentSteps}
 use Rattle.walk.specs.declared.plan.Head.{Head}
 use Rattle.walk.specs.declared.plan.Step.{Step}
@@ -50,27 +43,3 @@ pub record TransformCosts (basis : Basis) : Type 0 where
   pub unfolded : (parity : Parity) → transformCost (plannedTransform false parity basis) ≡ 0
   pub even : transformCost (plannedTransform true Even basis) ≡ 1
   pub odd : transformCost (plannedTransform true Odd basis) ≡ 2
-
--- ---- "In an unfolded MinMult plan the reported pair of counts is that of its split. Every other split from 1 to the degree's bit length has a pair
--- at least as large, encrypted ones compared first."
-
--- the pair that a head reports
-abbrev pub reportedPair : Head → Pair
-reportedPair head = record { ct = head .ct; pt = head .pt }
-
-pub record LeastReported (parity : Parity) (basis : Basis) (degree : ℕ) (head : Head) : Type 0 where
-  -- its split
-  pub split : ℕ
-  pub split-is : split ≡ minMult parity basis degree
-  pub base : head .base ≡ 2 ^ split
-  pub from-one : 1 ≤ split
-  pub to-length : split ≤ bitLen degree
-  -- the pair of its split, which `bsgs_op_counts` answers too
-  pub pair : reportedPair head ≡ pairAt parity basis degree split
-  pub counts : countsCall MinMult parity basis degree ≡ record { refusal = 0; ct = head .ct; pt = head .pt }
-  pub least : (other : ℕ) → 1 ≤ other → other ≤ bitLen degree → AtMost (reportedPair head) (pairAt parity basis degree other)
-
-abbrev pub MinMultLeast : Type 0
-MinMultLeast = (parity : Parity) (basis : Basis) (c out : List ℤ) (bounds steps : List ℕ) (r : Planned) (out′ : List ℤ) (bounds′ steps′ : List ℕ)
-    → Accepted false parity c → LongEnough MinMult parity basis false c out bounds steps
-    → PlanCall MinMult parity basis false c out bounds steps r out′ bounds′ steps′ → LeastReported parity basis (degreeOf c) (r .head)

@@ -10,8 +10,9 @@ use Rattle.counts.specs.declared.choice.SplitStrategy.{SplitStrategy}
 use Rattle.demands.specs.Accepts.{CoveredAccepted}
 use Rattle.demands.specs.Right.{StepsRight, StoredRight, PlansRight}
 use Rattle.demands.specs.MadeBefore.{PlansMadeBefore, RunsMadeBefore}
-use Rattle.demands.specs.Counted.{PlansReport, TransformCosts, MinMultLeast}
+use Rattle.demands.specs.Counted.{PlansReport, TransformCosts}
 use Rattle.demands.specs.PlainStep.{PlansPlain}
+use Rattle.demands.specs.Estimated.{PlansEstimated}
 use Rattle.demands.specs.Total.{PlansTotal, PlansMade, PlanOrder, FoldsTotal, ListsTotal, TrialsTotal, InterpolationsTotal, NumbersTotal}
 use Rattle.demands.specs.Equal.{Published, FloatsEqual, PlansEqual}
 use Rattle.demands.specs.HeadTold.{HeadsTold}
@@ -59,8 +60,9 @@ pub record Right : Type 1 where
   pub plans-plain : PlansPlain
   pub transform-costs : (basis : Basis) → TransformCosts basis
   -- "In an unfolded MinMult plan the reported pair of counts is that of its split. Every other split from 1 to the degree's bit length has a pair at
-  -- least as large, encrypted ones compared first."
-  pub min-mult-least : MinMultLeast
+  -- least as large, encrypted ones compared first." Request Q-2 changed this sentence, and no other: the reported pair is the estimate of its split
+  -- with at most one multiplication moved, and that every other split has one at least as large is said of the estimate.
+  pub plans-estimated : PlansEstimated
   -- the other fields of the head
   pub heads-told : HeadsTold
   -- and every number of a plan fits the buffers' u16

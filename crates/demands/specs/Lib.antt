@@ -6,6 +6,7 @@ pub mod Right
 pub mod MadeBefore
 pub mod Counted
 pub mod PlainStep
+pub mod Estimated
 pub mod HeadTold
 pub mod Fits
 pub mod Starred

@@ -3,29 +3,34 @@ use mathlib.Core.Path.{_≡_, refl}
 use mathlib.Core.Bool.{true, false}
 use mathlib.Core.List.{List, [], _∷_}
 use lib.IntN.{ℤ, pos}
+use lib.ListN.{drop}
 use Rattle.algebra.specs.Allowed.{allows}
 use Rattle.algebra.specs.Cut.{cutAt}
 use Rattle.algebra.specs.Fold.{everySecond, fold}
 use Rattle.algebra.specs.Transform.{transformOf}
 use Rattle.algebra.specs.declared.Basis.the-variants.{Monomial, Chebyshev}
-use Rattle.algebra.specs.declared.Parity.the-variants.{Full, Odd}
+use Rattle.algebra.specs.declared.Parity.the-variants.{Full, Even, Odd}
 use Rattle.algebra.specs.declared.PolynomialInputTransform.the-variants.{Identity, SquareTimesInput}
 use Rattle.number.specs.Bits.{digits, bitLen, topPower, powerBelow, isPowerOfTwo}
 use Rattle.number.specs.Refusal.{unlessRefused}
 use Rattle.number.specs.Split.{partsOf}
 use Rattle.needed.specs.NeededList.{neededList, neededCount}
 use Rattle.needed.specs.inside.Marks.{isTarget, places, markAt, markApart, markParts, sweepAt, sweepFrom, targetMarks, neededMarks, markedFrom}
-use Rattle.counts.specs.PlainCount.{allowedTo}
+use Rattle.counts.specs.Slices.{slicesIn, slicesOf, lastOf}
+use Rattle.counts.specs.PlainCount.{allowedTo, plainCount}
+use Rattle.counts.specs.Pair.{lastIsPlain, pairOf, pairAt}
 use Rattle.counts.specs.MinDepth.{aExceedsB, minDepth}
-use Rattle.counts.specs.Choice.{splitFor}
+use Rattle.counts.specs.MinMult.{better, bestOf, minMult}
+use Rattle.counts.specs.Choice.{splitFor, countsOf}
 use Rattle.counts.specs.Depth.{depthOf}
+use Rattle.counts.specs.Calls.{countsCall}
 use Rattle.counts.specs.declared.choice.SplitStrategy.the-variants.{MinDepth, MinMult}
-use Rattle.lists.specs.Tree.{listedAgain, treeIn, treeOf}
+use Rattle.lists.specs.Tree.{listedAgain, treeIn, treeOf, planTree}
 use Rattle.lists.specs.Arrange.{arranged, leavesOf, lengthsOf, endsOf}
 use Rattle.plan.specs.PlanSteps.{makeStep, loadStep, combineStep, powerSteps, lastLength, lastPlain, combineKind, treeSteps, listSteps, stepsAt}
 use Rattle.plan.specs.PlanSteps.{planSteps}
 use Rattle.plan.specs.Reported.{ofKind, allowedIn, reported}
-use Rattle.plan.specs.PlanHead.{headOf}
+use Rattle.plan.specs.PlanHead.{planCounts, headOf}
 use Rattle.plan.specs.PlanCall.{headFor, coefficientsFor, boundariesFor}
 use Rattle.plan.specs.PlanSizes.{sizesOf, noSizes, sizesCall}
 
@@ -89,6 +94,85 @@ unfolding stepsAt listSteps treeSteps combineKind lastPlain lastLength powerStep
     neededList markedFrom neededMarks sweepFrom targetMarks markParts markApart sweepAt markAt places isTarget allows topPower partsOf powerBelow
     isPowerOfTwo bitLen digits
 steps-7 = refl
+
+-- ---- a last list of one
+
+-- degree 12 has the lists 4, 4, 4, 1: the combine of the last alone, at power 4, has kind 4, and the one at the top, at power 8, kind 3
+pub steps-12 : planSteps MinDepth Full Monomial 12
+    ≡ makeStep 2
+    ∷ makeStep 3
+    ∷ makeStep 4
+    ∷ makeStep 8
+    ∷ loadStep 0
+    ∷ loadStep 1
+    ∷ combineStep 3 4
+    ∷ loadStep 2
+    ∷ loadStep 3
+    ∷ combineStep 4 4
+    ∷ combineStep 3 8
+    ∷ []
+unfolding stepsAt listSteps treeSteps combineKind lastPlain lastLength powerSteps leavesOf treeOf treeIn listedAgain splitFor minDepth aExceedsB
+    neededList markedFrom neededMarks sweepFrom targetMarks markParts markApart sweepAt markAt places isTarget allows topPower partsOf powerBelow
+    isPowerOfTwo bitLen digits
+steps-12 = refl
+
+-- a last list of one that is there since the leading slice, of degree 12, is listed again: degree 124 ends with the lists 16, 4, 4, 4, 1
+pub last-steps-124 : drop 11 (listSteps 124 (planTree MinDepth Full Chebyshev 124))
+    ≡ loadStep 7
+    ∷ loadStep 8
+    ∷ combineStep 3 4
+    ∷ loadStep 9
+    ∷ loadStep 10
+    ∷ combineStep 4 4
+    ∷ combineStep 3 8
+    ∷ combineStep 3 16
+    ∷ combineStep 3 32
+    ∷ combineStep 3 64
+    ∷ []
+unfolding listSteps treeSteps combineKind lastPlain lastLength leavesOf treeOf treeIn listedAgain splitFor minDepth aExceedsB topPower bitLen digits
+last-steps-124 = refl
+
+-- the list of one of an Odd polynomial is one too: degree 12 has the same steps
+pub steps-odd : planSteps MinDepth Odd Monomial 12 ≡ planSteps MinDepth Full Monomial 12
+unfolding stepsAt listSteps treeSteps combineKind lastPlain lastLength powerSteps leavesOf treeOf treeIn listedAgain splitFor minDepth aExceedsB
+    neededList markedFrom neededMarks sweepFrom targetMarks markParts markApart sweepAt markAt places isTarget allows topPower partsOf powerBelow
+    isPowerOfTwo bitLen digits
+steps-odd = refl
+
+-- an Even list of two, at degree 5, stays kind 3, though it has no allowed power
+pub steps-even : planSteps MinDepth Even Monomial 5 ≡ makeStep 2 ∷ makeStep 4 ∷ loadStep 0 ∷ loadStep 1 ∷ combineStep 3 4 ∷ []
+unfolding stepsAt listSteps treeSteps combineKind lastPlain lastLength powerSteps leavesOf treeOf treeIn listedAgain splitFor minDepth aExceedsB
+    neededList markedFrom neededMarks sweepFrom targetMarks markParts markApart sweepAt markAt places isTarget allows topPower partsOf powerBelow
+    isPowerOfTwo bitLen digits
+steps-even = refl
+
+-- MinMult at degree 12: the estimate, and what the plan reports, with one multiplication moved
+pub estimate-12 : countsCall MinMult Full Monomial 12 ≡ record { refusal = 0; ct = 7; pt = 9 }
+unfolding countsCall countsOf splitFor minMult bestOf better pairAt pairOf lastIsPlain slicesOf slicesIn lastOf plainCount allowedTo neededCount
+    neededList markedFrom neededMarks sweepFrom targetMarks markParts markApart sweepAt markAt places isTarget allows topPower unlessRefused partsOf
+    powerBelow isPowerOfTwo bitLen digits
+estimate-12 = refl
+
+pub reported-12 : planCounts MinMult Full Monomial Identity 12 ≡ record { ct = 6; pt = 10 }
+unfolding reported allowedIn ofKind stepsAt listSteps treeSteps combineKind lastPlain lastLength powerSteps leavesOf lengthsOf treeOf treeIn splitFor
+    minMult bestOf better pairAt pairOf lastIsPlain slicesOf slicesIn lastOf plainCount allowedTo neededCount neededList markedFrom neededMarks
+    sweepFrom targetMarks markParts markApart sweepAt markAt places isTarget allows topPower partsOf powerBelow isPowerOfTwo bitLen digits
+reported-12 = refl
+
+-- at degree 4, a power of two, the estimate has moved it already
+pub estimate-4 : countsCall MinMult Full Monomial 4 ≡ record { refusal = 0; ct = 3; pt = 3 }
+unfolding countsCall countsOf splitFor minMult bestOf better pairAt pairOf lastIsPlain slicesOf slicesIn lastOf plainCount allowedTo neededCount
+    neededList markedFrom neededMarks sweepFrom targetMarks markParts markApart sweepAt markAt places isTarget allows topPower unlessRefused partsOf
+    powerBelow isPowerOfTwo bitLen digits
+estimate-4 = refl
+
+pub reported-4 : planCounts MinMult Full Monomial Identity 4 ≡ record { ct = 3; pt = 3 }
+unfolding reported allowedIn ofKind stepsAt listSteps treeSteps combineKind lastPlain lastLength powerSteps leavesOf lengthsOf treeOf treeIn splitFor
+    minMult bestOf better pairAt pairOf lastIsPlain slicesOf slicesIn lastOf plainCount allowedTo neededCount neededList markedFrom neededMarks
+    sweepFrom targetMarks markParts markApart sweepAt markAt places isTarget allows topPower partsOf powerBelow isPowerOfTwo bitLen digits
+reported-4 = refl
+
+-- ---- a fold
 
 -- Odd 0 1 0 2 folded: one list of 1 2, no step but its load, and two multiplications and two levels for the transform
 pub folded-head : headFor MinDepth Odd Monomial true (pos 0 ∷ pos 1 ∷ pos 0 ∷ pos 2 ∷ []) ≡ record {

@@ -11,7 +11,6 @@ use Rattle.algebra.specs.declared.Basis.{Basis}
 use Rattle.algebra.specs.declared.Parity.{Parity}
 use Rattle.algebra.specs.declared.PolynomialInputTransform.{PolynomialInputTransform}
 use Rattle.algebra.specs.declared.PolynomialInputTransform.the-variants.{Identity, Square, SquareTimesInput, ChebyshevT2, ChebyshevT2TimesInput}
-use Rattle.number.specs.Bits.{isPowerOfTwo}
 use Rattle.number.specs.Limits.{planLimit, countLimit}
 use Rattle.number.specs.inside.Between.{Between}
 use Rattle.needed.specs.NeededList.{neededCount}
@@ -58,7 +57,7 @@ module _ (strategy : SplitStrategy) (parity : Parity) (basis : Basis) (degree : 
   -- the outline, number by number
   pub outline-is : {split powers steps : ℕ} {leading plain : Bool} {totals : Totals} → split ≡ splitFor strategy parity basis degree
       → leading ≡ relists strategy → totals ≡ totalsOf parity (treeOf leading degree degree split) (suc degree)
-      → powers ≡ neededCount parity basis degree split → plain ≡ (isPowerOfTwo degree && eqb (totals .last) 1) → steps ≡ stepCount powers (totals .lists)
+      → powers ≡ neededCount parity basis degree split → plain ≡ eqb (totals .last) 1 → steps ≡ stepCount powers (totals .lists)
       → record {
         split = split;
         plain = plain;

@@ -5,7 +5,6 @@ use Prim.Native.Nat.{ℕ, suc, _+_, _-_}
 use lib.Dec.{eqb}
 use Rattle.algebra.specs.declared.Basis.{Basis}
 use Rattle.algebra.specs.declared.Parity.{Parity}
-use Rattle.number.specs.Bits.{isPowerOfTwo}
 use Rattle.number.specs.Split.{partsOf}
 use Rattle.needed.specs.NeededList.{neededList}
 use Rattle.counts.specs.Choice.{splitFor}
@@ -39,9 +38,9 @@ unfoldable pub lastLength : Tree → (n : ℕ) → ℕ
 lastLength leaf n = n
 lastLength (cut p low high) n = lastLength high (n - p)
 
--- whether the last list is plain: it is a constant alone, and the degree is a power of two
+-- whether the last list is plain: it is a constant alone, at any degree (request Q-2)
 unfoldable pub lastPlain : (degree : ℕ) → Tree → Bool
-lastPlain degree tree = isPowerOfTwo degree && eqb (lastLength tree (suc degree)) 1
+lastPlain degree tree = eqb (lastLength tree (suc degree)) 1
 
 -- a combine is of kind 4 where its high side is the last list alone, and that is plain
 unfoldable pub combineKind : (plain : Bool) (high : Tree) → ℕ

@@ -14,10 +14,8 @@ use number::Parity;
 use number::power_of_two;
 use number::top_power;
 ghost use mathlib.Core.Path.{_≡_};
-ghost use mathlib.Core.Bool.{_&&_};
 ghost use Prim.Native.Nat.{suc, _≤_, _<_, _^_};
 ghost use lib.Dec.{eqb};
-ghost use Rattle.number.specs.Bits.{isPowerOfTwo};
 ghost use Rattle.number.specs.Limits.{planLimit, countLimit};
 ghost use Rattle.number.specs.Refusal.{firstRefusal};
 ghost use Rattle.number.specs.inside.Between.{Between};
@@ -101,14 +99,10 @@ fn total_slice(leading: bool, parity: Parity, whole: usize, degree: usize, split
     }
 }
 
-// The rule of kind 4: the degree is a power of two, and the last list a constant alone.
-fn last_plain(degree: usize, last: usize) -> bool
-    requires { ⌜ 0 < degree ⌝ }
-    ensures { λ r. ⌜ r ≡ (isPowerOfTwo degree && eqb last 1) ⌝ }
+// The rule of kind 4: the last list is a constant alone.
+fn last_plain(last: usize) -> bool
+    ensures { λ r. ⌜ r ≡ eqb last 1 ⌝ }
 {
-    if degree != top_power(degree) {
-        return false;
-    }
     last == 1
 }
 
@@ -129,7 +123,7 @@ pub fn outline_of(strategy: SplitStrategy, parity: Parity, basis: Basis, degree:
     let split = split_for_strategy(strategy, parity, basis, degree);
     let totals = total_lists(relists(strategy), parity, degree, degree, split);
     let powers = count_needed(parity, basis, degree, split);
-    let plain = last_plain(degree, totals.last);
+    let plain = last_plain(totals.last);
     let steps = count_steps(powers, totals.lists);
     Outline {
         split,

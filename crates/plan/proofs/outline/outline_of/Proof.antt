@@ -25,7 +25,7 @@ count-needed-requires c κs =
     (split .split-for-strategy .ensures)
 
 last-plain-requires : tie.Need-last-plain-requires
-last-plain-requires c κs = omega (arith, c .before .before .before .before .pre .from)
+last-plain-requires c κs = search needs
 
 count-steps-requires : tie.Need-count-steps-requires
 count-steps-requires c κs =
