@@ -14,6 +14,7 @@ mod large;
 mod layouts;
 mod lines;
 mod printed;
+mod since;
 mod texts;
 mod walked;
 
@@ -49,9 +50,19 @@ fn main() {
         ["both", count, seed] => both::compare(number(count), number(seed)),
         #[cfg(feature = "both")]
         ["bench", rounds, seed] => bench::run(number(rounds) as usize, number(seed)),
+        ["degrees", seed] => {
+            since::degrees(number(seed), BufWriter::new(stdout().lock())).expect("lines")
+        }
+        ["since", before, after] => since(before, after, false),
+        ["since", "--moved", before, after] => since(before, after, true),
         ["walks"] => walked::check(stdin().lock()).expect("lines"),
         _ => usage(),
     }
+}
+
+fn since(before: &str, after: &str, moves: bool) {
+    let open = |name| File::open(name).expect("answers");
+    since::compare(open(before), open(after), moves, stdout().lock()).expect("answers")
 }
 
 fn folder(dir: &str) -> PathBuf {
@@ -62,6 +73,7 @@ fn folder(dir: &str) -> PathBuf {
 fn usage() -> ! {
     eprintln!("usage: oracle gate DIR | oracle large DIR COUNT SEED");
     eprintln!("       oracle lines < LINES | oracle curves COUNT SEED | oracle walks < LINES");
+    eprintln!("       oracle degrees SEED | oracle since [--moved] BEFORE AFTER");
     eprintln!("       oracle both COUNT SEED | oracle bench ROUNDS SEED (with the feature both)");
     std::process::exit(2)
 }

@@ -225,7 +225,7 @@ fn lengths(g: &mut Rng, lines: &mut Vec<Vec<u8>>) {
 }
 
 /// The settings in which plans are made: without folding all, with it `Even` and `Odd`.
-fn settings() -> Vec<String> {
+pub fn settings() -> Vec<String> {
     let mut all = vec![];
     for basis in ["M", "C"] {
         for (parity, folds) in [("F", "N"), ("E", "NY"), ("O", "NY")] {
@@ -277,7 +277,7 @@ fn parity(settings: &str) -> Parity {
 }
 
 /// So many different coefficients about 0.
-fn plan(g: &mut Rng, settings: &str, degree: usize, most: usize) -> Vec<u8> {
+pub fn plan(g: &mut Rng, settings: &str, degree: usize, most: usize) -> Vec<u8> {
     let half = (most / 2) as i64;
     let mut c: Vec<i64> = (0..=degree).map(|_| g.below(most) as i64 - half).collect();
     shape(parity(settings), &mut c);

@@ -265,7 +265,7 @@ impl<'a> Steps<'a> {
             let p = top(d);
             self.part(p - 1, t, false);
             self.part(d - p, t, leading);
-            self.combine(p);
+            self.combine(p, d == p);
         } else if let Some(smaller) = self.relisted(d, t, leading) {
             self.part(d, smaller, leading);
         } else {
@@ -291,9 +291,10 @@ impl<'a> Steps<'a> {
         self.ptct += allowed_powers(self.parity, degree);
     }
 
-    /// High is plain only at the first cut of a degree that is a power of two: no other cut is at the degree itself.
-    fn combine(&mut self, p: usize) {
-        if p == self.degree {
+    /// High is plain where it is a list of one. Such a list is the last: every low part is cut into lists as long as the base.
+    fn combine(&mut self, p: usize, plain: bool) {
+        if plain {
+            assert_eq!(self.loaded, self.lengths.len(), "a list of one is the last");
             print(self.out, b'Q', &[p]);
             self.ptct += 1;
         } else {

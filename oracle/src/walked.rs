@@ -121,6 +121,7 @@ fn plan(g: &mut Rng, line: &[u8], text: &str) -> String {
     };
     assert_eq!(plan.head[2], transform, "transform");
     plan.shape(numbers);
+    plan.plain();
     plan.counts(fields[2] == "M", cost);
     plan.depth(fields[2] == "M", cost);
     fields[..4].join("\t")
@@ -255,7 +256,8 @@ impl Plan {
         steps.map(|s| s.1[0]).collect()
     }
 
-    /// The reported pair by the steps; and by the Rust's estimate, which leaves relisting out.
+    /// The reported pair by the steps; and by the Rust's estimate, which leaves relisting out, and moves the multiplication of a last
+    /// list of one only at a power of two.
     fn counts(&self, min_mult: bool, cost: usize) {
         let ctct = self.numbers_of("PG").len();
         let powers = self
@@ -273,11 +275,26 @@ impl Plan {
         let more = self.lists.len() - slices(self.head[0], self.head[1]);
         assert!(more == 0 || !min_mult, "MinMult lists nothing again");
         let less = if self.parity == Parity::Odd { 0 } else { more };
+        let lengths: Vec<usize> = self.lists.iter().map(|l| l.len()).collect();
+        let moved = moved(self.head[0], &lengths);
         assert_eq!(
             (ctct, ptct),
-            (ct + more, pt - less),
-            "the estimate and relisting"
+            (ct + more - moved, pt - less + moved),
+            "the estimate, relisting and a last list of one"
         );
+    }
+
+    /// A last list of one after another list is combined by Q, right behind its load; no other combine is.
+    fn plain(&self) {
+        let last = self.lists.len() - 1;
+        let lone = last > 0 && self.lists[last].len() == 1;
+        let load = self.steps.iter().position(|s| *s == ('B', vec![last]));
+        let behind = load.expect("the last list is loaded") + 1;
+        let plain: Vec<usize> = (0..self.steps.len())
+            .filter(|&i| self.steps[i].0 == 'Q')
+            .collect();
+        let expected = if lone { vec![behind] } else { vec![] };
+        assert_eq!(plain, expected, "plain combines");
     }
 
     fn depth(&self, min_mult: bool, cost: usize) {
@@ -295,4 +312,11 @@ pub fn slices(degree: usize, base: usize) -> usize {
     }
     let p = 1 << degree.ilog2();
     slices(p - 1, base) + slices(degree - p, base)
+}
+
+/// How many multiplications a plan moves from ct-ct to pt-ct beside the estimate: that of a last list of one after another list, but at a
+/// power of two the estimate has moved it.
+pub fn moved(degree: usize, lengths: &[usize]) -> usize {
+    let lone = lengths.len() > 1 && lengths.last() == Some(&1);
+    (lone && !degree.is_power_of_two()) as usize
 }

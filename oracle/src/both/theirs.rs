@@ -6,7 +6,7 @@ use super::call::*;
 use super::rules::{Refusal, refusal};
 use crate::calls::{Basis, Form, Parity, SplitStrategy, ask, bit_len};
 use crate::layouts::polynomial_evaluation as rust;
-use crate::walked::slices;
+use crate::walked::{moved, slices};
 
 /// Its answer in words. If it refuses, and where only we do, the number is that of docs/RULES.md.
 pub fn answer(call: &Call) -> Answer {
@@ -109,14 +109,17 @@ fn lists(call: &Call, cut: &rust::BSGSPolynomial<Vec<f64>>, w: &mut Words) {
     }
 }
 
-/// The pair that a plan reports: the published estimate, which leaves relisting and the transform out, with both put in.
+/// The pair that a plan reports: the published estimate, which leaves relisting and the transform out, with both put in, and with the
+/// multiplication of a last list of one moved.
 fn counts(strategy: SplitStrategy, cut: &rust::BSGSPolynomial<Vec<f64>>, w: &mut Words) {
     let (ct, pt) = rust::bsgs_op_counts(cut.degree(), strategy, cut.parity(), cut.basis());
     let more = cut.baby_steps().len() - slices(cut.degree(), cut.base());
     let less = if cut.parity() == Parity::Odd { 0 } else { more };
     let transform = cut.eval_depth() - rust::bsgs_eval_depth(cut.degree(), strategy);
-    w.number(ct + more + transform);
-    w.number(pt - less);
+    let lengths: Vec<usize> = cut.baby_steps().iter().map(|l| l.len()).collect();
+    let moved = moved(cut.degree(), &lengths);
+    w.number(ct + more + transform - moved);
+    w.number(pt - less + moved);
 }
 
 /// The remainder of the sum of c_j times power j at the point, exact: a modulus is below 2^31.
