@@ -52,7 +52,7 @@ extern "C" {
 #define FIRROZUN_STEP_MAKE 1          /* 1 n a b: makes power n from powers a and b */
 #define FIRROZUN_STEP_LOAD 2          /* 2 i 0 0: pushes the value of list i, counted from 0 */
 #define FIRROZUN_STEP_COMBINE 3       /* 3 p 0 0: takes high, then low, and pushes high * (power p) + low, two ciphertexts multiplied */
-#define FIRROZUN_STEP_COMBINE_PLAIN 4 /* 4 p 0 0: the same, where high is plain */
+#define FIRROZUN_STEP_COMBINE_PLAIN 4 /* 4 p 0 0: the same, where high is the last list alone and that a constant: a plaintext */
 
 /* ---- refusals */
 

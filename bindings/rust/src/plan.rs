@@ -221,7 +221,7 @@ pub enum Step {
         /// The power that high is multiplied by.
         power: u16,
     },
-    /// The same, where high is plain, so that the multiplication is of an encrypted number and a plain one.
+    /// The same, where high is the last list alone and that a constant, so that the multiplication is of an encrypted number and a plain one.
     CombinePlain {
         /// The power that high is multiplied by.
         power: u16,

@@ -12,7 +12,7 @@ use Rattle.counts.specs.Slices.{slicesOf, lastOf}
 use Rattle.counts.specs.PlainCount.{plainCount}
 use Rattle.counts.specs.declared.pair.Pair.{Pair}
 
--- whether the last combine is plain: there are two or more slices, the last has degree 0, and the degree is a power of two
+-- whether the estimate takes the last combine to be plain: there are two or more slices, the last has degree 0, and the degree is a power of two
 unfoldable pub lastIsPlain : (degree slices last : ℕ) → Bool
 lastIsPlain degree slices last = leb 2 slices && (eqb last 0 && isPowerOfTwo degree)
 

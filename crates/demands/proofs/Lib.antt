@@ -11,6 +11,7 @@ pub mod Counted
 pub mod PlainStep
 mod Pairs
 pub mod Estimated
+pub mod StoredEarlier
 pub mod HeadTold
 pub mod Fits
 pub mod Total

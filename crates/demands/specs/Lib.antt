@@ -7,6 +7,7 @@ pub mod MadeBefore
 pub mod Counted
 pub mod PlainStep
 pub mod Estimated
+pub mod StoredEarlier
 pub mod HeadTold
 pub mod Fits
 pub mod Starred

@@ -5,6 +5,7 @@ use Rattle.algebra.specs.declared.Parity.{Parity}
 use Rattle.demands.specs.Sized.{PlansSized, SizesOrder}
 use Rattle.demands.specs.PlainStep.{PlansPlain}
 use Rattle.demands.specs.Estimated.{PlansEstimated, CheaperReported}
+use Rattle.demands.specs.StoredEarlier.{EarlierRight}
 
 -- Q-1. Buffer sizes before the curve is there.
 pub record BufferSizes : Type 0 where
@@ -23,6 +24,8 @@ pub record LastConstant : Type 0 where
   pub plans-estimated : PlansEstimated
   -- It is not so of reported pairs: an example.
   pub cheaper-reported : CheaperReported
+  -- "Stored plans must keep their meaning": those that were stored before, too.
+  pub earlier-right : EarlierRight
 
 pub record Requests : Type 0 where
   pub buffer-sizes : BufferSizes
