@@ -195,7 +195,8 @@ firrozun_split firrozun_min_depth_split(size_t degree);
 /* MinMult's split of a degree. Refusals 43, 2 (above 4,095). */
 firrozun_split firrozun_min_mult_split(uint8_t parity, uint8_t basis, size_t degree);
 
-/* The counts of multiplications at the split that the strategy chooses; none at degree 0. Refusals 43, 2 (above 4,095). */
+/* The counts of multiplications at the split that the strategy chooses, as poulpy estimates them; none at degree 0. A plan's head has the
+   counts of its own steps, which may be others (degree 12). Refusals 43, 2 (above 4,095). */
 firrozun_counts firrozun_bsgs_op_counts(uint8_t strategy, uint8_t parity, uint8_t basis, size_t degree);
 
 /* The depth of an evaluation; 0 at degree 0. Refusals 43, 2 (above 4,294,967,295). */

@@ -53,7 +53,9 @@ pub fn min_mult_split(degree: usize, parity: Parity, basis: Basis) -> Result<usi
 
 /// How many multiplications a plan has at the strategy's split: of two encrypted numbers, and of an encrypted and a plain one.
 ///
-/// As in poulpy, relisting is left out: for `MinDepth` the [`Plan`](crate::Plan) may report another pair, that of its own steps.
+/// This is poulpy's estimate. A [`Plan`](crate::Plan) reports the pair of its own steps, which may be another: for `MinDepth` the estimate
+/// leaves relisting out, and a last list of one after another list is a plain multiplication in a plan, in the estimate only if the degree
+/// is a power of two. Degree 12 has the estimate (7, 9), and its plan reports (6, 10).
 ///
 /// Refused: 2 for a degree above 4,095.
 ///

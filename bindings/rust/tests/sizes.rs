@@ -3,24 +3,9 @@
 
 mod common;
 
-use common::{BASES, PARITIES, STRATEGIES};
+use common::{settings, Settings};
 use firrozun::buffers::{plan_into, plan_sizes, Head, PlanBuffers, PlanSizes};
-use firrozun::{Basis, Parity, Refusal, SplitStrategy};
-
-type Settings = (SplitStrategy, Parity, Basis, bool);
-
-/// Every setting: 2 strategies, 3 parities, 2 bases, folded or not.
-fn settings() -> impl Iterator<Item = Settings> {
-    STRATEGIES.into_iter().flat_map(|strategy| {
-        PARITIES.into_iter().flat_map(move |parity| {
-            BASES.into_iter().flat_map(move |basis| {
-                [false, true]
-                    .into_iter()
-                    .map(move |fold| (strategy, parity, basis, fold))
-            })
-        })
-    })
-}
+use firrozun::{Parity, Refusal};
 
 /// The plan of `curve` in so many places of each buffer.
 fn planned(

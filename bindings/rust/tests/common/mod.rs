@@ -14,6 +14,21 @@ pub const TRANSFORMS: [PolynomialInputTransform; 5] = [
     PolynomialInputTransform::ChebyshevT2TimesInput,
 ];
 
+pub type Settings = (SplitStrategy, Parity, Basis, bool);
+
+/// Every setting: 2 strategies, 3 parities, 2 bases, folded or not.
+pub fn settings() -> impl Iterator<Item = Settings> {
+    STRATEGIES.into_iter().flat_map(|strategy| {
+        PARITIES.into_iter().flat_map(move |parity| {
+            BASES.into_iter().flat_map(move |basis| {
+                [false, true]
+                    .into_iter()
+                    .map(move |fold| (strategy, parity, basis, fold))
+            })
+        })
+    })
+}
+
 /// A generator of numbers (splitmix64). The same seed gives the same numbers.
 pub struct Numbers(pub u64);
 
