@@ -24,7 +24,8 @@ use Rattle.demands.specs.Counted.{lengthsFrom}
 abbrev pub loneLast : (lengths : List ℕ) → Bool
 loneLast lengths = leb 2 (length lengths) && eqb (lastOf lengths) 1
 
--- "is combined by kind 4": of so many lists the last is loaded and at once combined by a step of kind 4, and no other step is of kind 4
+-- "is combined by kind 4": of so many lists the last is loaded, and the next step is of kind 4, so that its high value is that of this list alone. No
+-- other step is of kind 4.
 pub record LoneCombined (degree lists : ℕ) (steps : List Step) : Type 0 where
   pub before : List Step
   pub after : List Step
