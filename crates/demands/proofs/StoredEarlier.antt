@@ -63,7 +63,8 @@ module _ (parity : Parity) (basis : Basis) (lists : Lists) where
   unfolding runOf
   run-alike [] state = refl
   run-alike (step ∷ steps) state =
-      ap (λ (o : Option (State ℤ)). o then λ next. runOf exactRules parity basis lists (map anyCombine steps) next) (kind-alike (step .kind) (step .x) (step .y) (step .z) state)
+      ap (λ (o : Option (State ℤ)). o then λ next. runOf exactRules parity basis lists (map anyCombine steps) next)
+      (kind-alike (step .kind) (step .x) (step .y) (step .z) state)
       ∙ then-alike (stepOf exactRules parity basis lists step state) (run-alike steps)
 
   walk-alike : (steps others : List Step) (y : ℤ) → map anyCombine steps ≡ map anyCombine others

@@ -28,7 +28,6 @@ pub record StoredEarlier (strategy : SplitStrategy) (parity : Parity) (basis : B
   pub transform-is : head .transform ≡ plannedTransform folded parity basis
   pub coefficient-count : head .coefficients ≡ headFor strategy parity basis folded c .coefficients
   pub list-count : head .lists ≡ headFor strategy parity basis folded c .lists
-  pub step-count : head .steps ≡ headFor strategy parity basis folded c .steps
   pub more-coefficients : List ℤ
   pub more-bounds : List ℕ
   pub coefficients-are : coefficients ≡ coefficientsFor strategy parity basis folded c ++ more-coefficients
