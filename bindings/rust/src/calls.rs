@@ -55,7 +55,7 @@ pub fn min_mult_split(degree: usize, parity: Parity, basis: Basis) -> Result<usi
 ///
 /// This is poulpy's estimate. A [`Plan`](crate::Plan) reports the pair of its own steps, which may be another: for `MinDepth` the estimate
 /// leaves relisting out, and a last list of one after another list is a plain multiplication in a plan, in the estimate only if the degree
-/// is a power of two. Degree 12 has the estimate (7, 9), and its plan reports (6, 10).
+/// is a power of two. With parity `Full` degree 12 has the estimate (7, 9), and its plan reports (6, 10).
 ///
 /// Refused: 2 for a degree above 4,095.
 ///

@@ -59,7 +59,8 @@ tally-range parity degree split is = rw is (in-range parity split (bitLen degree
 
 -- ---- tallies
 
-last-append : (low high : List ℕ) → 0 < length high → lastOf (low ++ high) ≡ lastOf high
+-- the last of two lists one after another
+pub last-append : (low high : List ℕ) → 0 < length high → lastOf (low ++ high) ≡ lastOf high
 unfolding lastOf
 last-append [] high nonempty = refl
 last-append (d ∷ []) [] nonempty = absurd (omega arith)

@@ -19,7 +19,7 @@ slicesIn (suc cuts) degree split =
 unfoldable pub slicesOf : (degree split : ℕ) → List ℕ
 slicesOf degree split = slicesIn (bitLen degree) degree split
 
--- the degree of the last slice
+-- the last of some numbers: of the degrees of slices, that of the last slice
 unfoldable pub lastOf : (slices : List ℕ) → ℕ
 lastOf [] = 0
 lastOf (degree ∷ []) = degree

@@ -16,7 +16,7 @@ pub struct Pair {
     pub pt: usize,
 }
 
-// Whether the last combine is plain: one multiplication then moves from ct-ct to pt-ct.
+// Whether the estimate takes the last combine to be plain: one multiplication then moves from ct-ct to pt-ct.
 fn last_is_plain(degree: usize, slices: usize, last: usize) -> bool
     requires { ⌜ Between 1 degree degreeLimit ⌝ }
     ensures { λ r. ⌜ r ≡ lastIsPlain degree slices last ⌝ }

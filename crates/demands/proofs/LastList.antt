@@ -15,6 +15,7 @@ use lib.Pow.{pow-mono, pow-add}
 use Rattle.algebra.specs.declared.Basis.{Basis}
 use Rattle.algebra.specs.declared.Parity.{Parity}
 use Rattle.counts.specs.Slices.{lastOf}
+use Rattle.counts.proofs.TallyLaws.{last-append}
 use Rattle.lists.specs.Tree.{Tree, leaf, cut, treeOf}
 use Rattle.lists.specs.TreeFacts.{Sound}
 use Rattle.lists.specs.Arrange.{leavesOf, lengthsOf}
@@ -31,14 +32,6 @@ pub leaves-length : (tree : Tree) (n : ℕ) → leavesOf tree ≡ length (length
 unfolding leavesOf lengthsOf
 leaves-length leaf n = refl
 leaves-length (cut p low high) n = rw length-append (ap₂ _+_ (leaves-length low p) (leaves-length high (n - p)))
-
--- the last of two lists one after another
-last-append : (xs ys : List ℕ) → 0 < length ys → lastOf (xs ++ ys) ≡ lastOf ys
-unfolding lastOf
-last-append [] ys nonempty = refl
-last-append (x ∷ []) [] nonempty = absurd (omega arith)
-last-append (x ∷ []) (y ∷ ys) nonempty = refl
-last-append (x ∷ x′ ∷ xs) ys nonempty = last-append (x′ ∷ xs) ys nonempty
 
 last-length : (tree : Tree) (n : ℕ) → lastLength tree n ≡ lastOf (lengthsOf tree n)
 unfolding lastLength lengthsOf lastOf

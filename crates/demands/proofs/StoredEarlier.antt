@@ -79,7 +79,7 @@ module _ (parity : Parity) (basis : Basis) (lists : Lists) where
 
 -- ---- a lent plan
 
-when-holds : (t : Bool) (o : Option ℤ) (v : ℤ) → when t o ≡ some v → t ≡ true
+when-holds : {X : Type 0} (t : Bool) (o : Option X) (v : X) → when t o ≡ some v → t ≡ true
 when-holds true o v is = refl
 when-holds false o v is = let same : _≡_ {A = ℕ} 0 1 = cc in absurd (omega arith)
 

@@ -20,7 +20,7 @@ use Rattle.plan.specs.declared.call.Planned.{Planned}
 use Rattle.demands.specs.Accepts.{LongEnough}
 use Rattle.demands.specs.Counted.{lengthsFrom}
 
--- "a last list of one, after another list": there are two or more lists, and the last has one number
+-- "a last list of one, after another list": there are two or more lists, and the last of their lengths is 1
 abbrev pub loneLast : (lengths : List ℕ) → Bool
 loneLast lengths = leb 2 (length lengths) && eqb (lastOf lengths) 1
 
