@@ -35,6 +35,8 @@ pub use plan::PlanSizes;
 pub use plan::Planned;
 pub use plan::plan;
 pub use plan::plan_sizes;
+pub use walk::Chain;
 pub use walk::Head;
 pub use walk::Trial;
+pub use walk::heaviest_chain;
 pub use walk::trial_walk;

@@ -1,5 +1,6 @@
 pub mod Options
 mod Modular
+mod NumberLaws
 mod SignedParts
 pub mod PowerLaws
 pub mod SumLaws
@@ -15,3 +16,11 @@ pub mod UsesMade
 pub mod FlatSteps
 pub mod WalksHeld
 pub mod TrialFollows
+pub mod Paths
+pub mod MadeRules
+pub mod StepsWeigh
+mod Alls
+mod RunsWithin
+mod WeightBound
+mod ChainLaws
+pub mod HeaviestChain

@@ -59,3 +59,17 @@ then-some none f r e = let same : _≡_ {A = ℕ} 0 1 = cc in absurd (omega arit
 pub when-some : {X : Type 0} (t : Bool) (o : Option X) (r : X) → when t o ≡ some r → o ≡ some r
 when-some true o r e = e
 when-some false o r e = let same : _≡_ {A = ℕ} 0 1 = cc in absurd (omega arith)
+
+-- ---- whether an answer is there
+
+pub missing-none : {X : Type 0} (o : Option X) → missing o ≡ true → o ≡ none
+missing-none none e = refl
+missing-none (some v) e = let same : _≡_ {A = ℕ} 0 1 = cc in absurd (omega arith)
+
+pub record IsThere {X : Type 0} (o : Option X) : Type 0 where
+  pub value : X
+  pub is : o ≡ some value
+
+pub missing-some : {X : Type 0} (o : Option X) → missing o ≡ false → IsThere o
+missing-some none e = let same : _≡_ {A = ℕ} 0 1 = cc in absurd (omega arith)
+missing-some (some v) e = record { value = v; is = refl }

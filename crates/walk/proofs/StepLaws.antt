@@ -10,7 +10,7 @@ use Rattle.algebra.specs.declared.Basis.{Basis}
 use Rattle.algebra.specs.declared.Parity.{Parity}
 use Rattle.walk.specs.Options.{_then_, when}
 use Rattle.walk.specs.Kinds.{combine, kindOf}
-use Rattle.walk.specs.Rules.{Rules, trialRules}
+use Rattle.walk.specs.Rules.{Rules}
 use Rattle.walk.specs.State.{Powers, Lists, State}
 use Rattle.walk.specs.Make.{makeOf}
 use Rattle.walk.specs.Load.{pushOf, sumFrom, loadOf}
@@ -46,12 +46,6 @@ module _ (𝓡 : Rules ℕ) (plain : Bool) (powers : Powers ℕ) (waiting : List
   pub combine-is : (v : ℕ) → powers p ≡ some v → joinOf 𝓡 plain v waiting ≡ combineOf 𝓡 plain powers waiting p
   unfolding combineOf
   combine-is v e = rw e
-
--- modulo m both kinds combine alike
-pub combine-alike : (m : ℕ) (powers : Powers ℕ) (waiting : List ℕ) (p : ℕ)
-    → combineOf (trialRules m) false powers waiting p ≡ combineOf (trialRules m) true powers waiting p
-unfolding combineOf joinOf
-combine-alike m powers waiting p = refl
 
 -- a turn of the waiting values is a step that leaves the powers
 pub turn-step : {wanted : Option (List ℕ)} {whole : Option (State ℕ)} {r : Turn} (powers : List ℕ) (made : List Bool) → Waits wanted r

@@ -17,4 +17,10 @@ pub mod RunsAlike
 pub mod UsesMade
 pub mod TrialFollows
 pub mod WalksHeld
+pub mod Values
+pub mod Paths
+pub mod MadeRules
+pub mod StepsWeigh
+pub mod Chain
+pub mod HeaviestChain
 pub mod inside

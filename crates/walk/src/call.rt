@@ -1,17 +1,17 @@
 // The trial walk.
 use crate::limits::MODULUS_LIMIT;
+use crate::numbers::Numbers;
+use crate::numbers::point_of;
 use crate::plan::Head;
 use crate::powers::Found;
-use crate::remainder::remainder_of;
 use crate::steps::run_steps;
 use crate::sums::bounds_rise;
 use crate::transform::input_of;
 use crate::transform::output_of;
 ghost use mathlib.Core.Path.{_≡_};
-ghost use Rattle.walk.specs.Rules.{trialRules};
 ghost use Rattle.walk.specs.Lent.{lentWalk};
 ghost use Rattle.walk.specs.Trial.{noTrial, trialOf};
-ghost use Rattle.walk.specs.inside.Modulus.{IsModulus};
+ghost use Rattle.walk.specs.inside.Numbers.{rulesOf, Usable};
 ghost use Rattle.walk.specs.inside.Arrays.{found};
 
 // What a trial walk answers: 0 or the refusal, and the remainder, zero after a refusal.
@@ -30,17 +30,17 @@ fn no_trial(refusal: u8) -> Trial
     }
 }
 
-// The walk of a lent plan modulo m.
-fn walk_lent(
+// The walk of a lent plan.
+pub fn walk_lent(
     head: Head,
     point: i64,
-    m: u64,
+    numbers: Numbers,
     coefficients: &[i64],
     bounds: &[u16],
     steps: &[u16],
 ) -> Found
-    requires { ⌜ IsModulus m ⌝ }
-    ensures { λ r. ⌜ found r ≡ lentWalk (trialRules m) head (now (coefficients .entry)) (now (bounds .entry)) (now (steps .entry)) point ⌝ }
+    requires { ⌜ Usable numbers ⌝ }
+    ensures { λ r. ⌜ found r ≡ lentWalk (rulesOf numbers) head (now (coefficients .entry)) (now (bounds .entry)) (now (steps .entry)) point ⌝ }
 {
     let n = head.coefficients;
     let lists = head.lists;
@@ -58,16 +58,24 @@ fn walk_lent(
     if !bounds_rise(n, used) {
         return Found::Missing;
     }
-    let x = remainder_of(point, m);
+    let x = point_of(numbers, point);
     let transform = head.transform;
-    let y = input_of(transform, x, m);
+    let y = input_of(transform, x, numbers);
     let parity = head.parity;
     let basis = head.basis;
-    let Found::Number(v) = run_steps(parity, basis, count, y, m, &coefficients[..n], used, steps)
-    else {
+    let Found::Number(v) = run_steps(
+        parity,
+        basis,
+        count,
+        y,
+        numbers,
+        &coefficients[..n],
+        used,
+        steps,
+    ) else {
         return Found::Missing;
     };
-    Found::Number(output_of(transform, x, v, m))
+    Found::Number(output_of(transform, x, v, numbers))
 }
 
 // The trial walk: refusal 11 for the modulus, 24 for a plan that the walk can't run.
@@ -87,7 +95,8 @@ pub fn trial_walk(
     if MODULUS_LIMIT < modulus {
         return no_trial(11);
     }
-    let Found::Number(remainder) = walk_lent(head, point, modulus, coefficients, bounds, steps)
+    let numbers = Numbers::Remainders(modulus);
+    let Found::Number(remainder) = walk_lent(head, point, numbers, coefficients, bounds, steps)
     else {
         return no_trial(24);
     };

@@ -1,21 +1,19 @@
 // The powers that were made: 4,096 numbers, and marks of which are there.
 use crate::limits::POWERS;
-use crate::remainder::add_mod;
-use crate::remainder::mul_mod;
-use crate::remainder::opposite;
-use crate::remainder::twice_mod;
+use crate::numbers::Numbers;
+use crate::numbers::one_of;
+use crate::numbers::product;
+use crate::numbers::product_less;
 use number::Basis;
 use number::PLAN_LIMIT;
 use number::distance;
 use number::split_degree;
 ghost use mathlib.Core.Path.{_≡_};
 ghost use mathlib.Core.Option.{some};
-ghost use Prim.Native.Nat.{_%_};
 ghost use Rattle.number.specs.Limits.{countLimit};
 ghost use Rattle.walk.specs.Options.{when};
-ghost use Rattle.walk.specs.Rules.{trialRules};
 ghost use Rattle.walk.specs.Make.{isMakeable, powerFrom, makeOf};
-ghost use Rattle.walk.specs.inside.Modulus.{IsModulus};
+ghost use Rattle.walk.specs.inside.Numbers.{rulesOf, Usable};
 ghost use Rattle.walk.specs.inside.Arrays.{found, powersOf, firstNumbers, firstMarks, FoundPower, FoundMark};
 
 // A number, or none.
@@ -62,12 +60,12 @@ fn power_from(
     basis: Basis,
     a: usize,
     b: usize,
-    m: u64,
+    numbers: Numbers,
     powers: &[u64; POWERS],
     made: &[bool; POWERS],
 ) -> Found
-    requires { ⌜ IsModulus m ⌝ }
-    ensures { λ r. ⌜ found r ≡ powerFrom (trialRules m) basis (powersOf (now (powers .entry)) (now (made .entry))) a b ⌝ }
+    requires { ⌜ Usable numbers ⌝ }
+    ensures { λ r. ⌜ found r ≡ powerFrom (rulesOf numbers) basis (powersOf (now (powers .entry)) (now (made .entry))) a b ⌝ }
 {
     let Found::Number(u) = power_at(a, powers, made) else {
         return Found::Missing;
@@ -75,15 +73,13 @@ fn power_from(
     let Found::Number(v) = power_at(b, powers, made) else {
         return Found::Missing;
     };
-    let product = mul_mod(u, v, m);
     match basis {
-        Basis::Monomial => Found::Number(product),
+        Basis::Monomial => Found::Number(product(numbers, u, v)),
         Basis::Chebyshev => {
             let Found::Number(w) = power_at(distance(a, b), powers, made) else {
                 return Found::Missing;
             };
-            let less = opposite(w, m);
-            Found::Number(add_mod(twice_mod(product, m), less, m))
+            Found::Number(product_less(numbers, u, v, w))
         }
     }
 }
@@ -94,13 +90,13 @@ pub fn make_power(
     n: usize,
     a: usize,
     b: usize,
-    m: u64,
+    numbers: Numbers,
     powers: &mut [u64; POWERS],
     made: &mut [bool; POWERS],
 ) -> bool
-    requires { ⌜ IsModulus m ⌝ }
+    requires { ⌜ Usable numbers ⌝ }
     ensures { λ r. ⌜ when r (some (powersOf (now (powers .exit)) (now (made .exit))))
-        ≡ makeOf (trialRules m) basis (powersOf (now (powers .entry)) (now (made .entry))) n a b ⌝ }
+        ≡ makeOf (rulesOf numbers) basis (powersOf (now (powers .entry)) (now (made .entry))) n a b ⌝ }
 {
     if !is_makeable(n, a, b) {
         return false;
@@ -108,7 +104,7 @@ pub fn make_power(
     if let Found::Number(_) = power_at(n, powers, made) {
         return false;
     }
-    let Found::Number(v) = power_from(basis, a, b, m, powers, made) else {
+    let Found::Number(v) = power_from(basis, a, b, numbers, powers, made) else {
         return false;
     };
     powers[n] = v;
@@ -117,12 +113,12 @@ pub fn make_power(
 }
 
 // Power 0 is 1, power 1 is y.
-pub fn first_powers(y: u64, m: u64) -> [u64; POWERS]
-    requires { ⌜ IsModulus m ⌝ }
-    ensures { λ r. ⌜ r ≡ firstNumbers countLimit (1 % m) y ⌝ }
+pub fn first_powers(y: u64, numbers: Numbers) -> [u64; POWERS]
+    requires { ⌜ Usable numbers ⌝ }
+    ensures { λ r. ⌜ r ≡ firstNumbers countLimit (rulesOf numbers .one) y ⌝ }
 {
     let mut powers = [0u64; POWERS];
-    powers[0] = 1 % m;
+    powers[0] = one_of(numbers);
     powers[1] = y;
     powers
 }

@@ -3,6 +3,7 @@ ghost use mathlib.Core.Path.{_≡_};
 ghost use Prim.Native.Nat.{_-_};
 ghost use Rattle.algebra.specs.Operations.{double};
 ghost use Rattle.algebra.specs.Remainder.{rem, remainders};
+ghost use Rattle.walk.specs.Rules.{trialRules};
 ghost use Rattle.walk.specs.inside.Modulus.{IsModulus};
 
 // The remainder of a whole number, from 0 to m - 1. Below zero it is taken of -(x + 1), which fits for every x.
@@ -44,4 +45,29 @@ pub fn twice_mod(a: u64, m: u64) -> u64
     ensures { λ r. ⌜ r ≡ double (remainders m) a ⌝ }
 {
     mul_mod(2, a, m)
+}
+
+// 2uv - w.
+pub fn product_less_mod(u: u64, v: u64, w: u64, m: u64) -> u64
+    requires { ⌜ IsModulus m ⌝ }
+    ensures { λ r. ⌜ r ≡ trialRules m .productLess u v w ⌝ }
+{
+    let less = opposite(w, m);
+    add_mod(twice_mod(mul_mod(u, v, m), m), less, m)
+}
+
+// A list's sum and c times a power.
+pub fn place_mod(sum: u64, c: i64, power: u64, m: u64) -> u64
+    requires { ⌜ IsModulus m ⌝ }
+    ensures { λ r. ⌜ r ≡ remainders m .add sum (remainders m .mul (rem m c) power) ⌝ }
+{
+    add_mod(sum, mul_mod(remainder_of(c, m), power, m), m)
+}
+
+// High·power + low.
+pub fn combine_mod(power: u64, high: u64, low: u64, m: u64) -> u64
+    requires { ⌜ IsModulus m ⌝ }
+    ensures { λ r. ⌜ r ≡ remainders m .add (remainders m .mul high power) low ⌝ }
+{
+    add_mod(mul_mod(high, power, m), low, m)
 }

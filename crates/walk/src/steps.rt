@@ -1,5 +1,6 @@
 // The steps of a plan, one after another.
 use crate::limits::POWERS;
+use crate::numbers::Numbers;
 use crate::plan::Step;
 use crate::plan::step_at;
 use crate::powers::Found;
@@ -19,16 +20,14 @@ use crate::waiting::refused;
 use number::Basis;
 use number::Parity;
 ghost use mathlib.Core.Path.{_≡_};
-ghost use mathlib.Core.Bool.{false};
 ghost use Prim.Native.Nat.{_*_, _≤_};
 ghost use lib.ListN.{length};
-ghost use Rattle.walk.specs.Rules.{trialRules};
 ghost use Rattle.walk.specs.Load.{loadOf};
 ghost use Rattle.walk.specs.Combine.{combineOf};
 ghost use Rattle.walk.specs.Walk.{stepOf, walkOf};
 ghost use Rattle.walk.specs.Boundaries.{listAt};
 ghost use Rattle.walk.specs.Lent.{stepsFrom};
-ghost use Rattle.walk.specs.inside.Modulus.{IsModulus};
+ghost use Rattle.walk.specs.inside.Numbers.{rulesOf, Usable};
 ghost use Rattle.walk.specs.inside.Arrays.{found, powersOf};
 ghost use Rattle.walk.specs.inside.Waits.{waitingIn, FitsSixteen, Waits};
 ghost use Rattle.walk.specs.inside.Taken.{stateOf, Taken, Runnable};
@@ -37,36 +36,43 @@ ghost use Rattle.walk.specs.inside.Taken.{stateOf, Taken, Runnable};
 fn load(
     parity: Parity,
     i: usize,
-    m: u64,
+    numbers: Numbers,
     w: Waiting,
     coefficients: &[i64],
     bounds: &[u16],
     powers: &[u64; POWERS],
     made: &[bool; POWERS],
 ) -> Turn
-    requires { ⌜ Runnable m (now coefficients) (now bounds) × FitsSixteen w ⌝ }
-    ensures { λ r. ⌜ Waits (loadOf (trialRules m) parity (powersOf (now (powers .entry)) (now (made .entry)))
+    requires { ⌜ Runnable numbers (now coefficients) (now bounds) × FitsSixteen w ⌝ }
+    ensures { λ r. ⌜ Waits (loadOf (rulesOf numbers) parity (powersOf (now (powers .entry)) (now (made .entry)))
         (listAt (now (coefficients .entry)) (now (bounds .entry))) (waitingIn w) i) r ⌝ }
 {
     if bounds.len() <= i {
         return refused(w);
     }
     let list = list_of(i, coefficients, bounds);
-    let Found::Number(v) = sum_list(parity, m, list, powers, made) else {
+    let Found::Number(v) = sum_list(parity, numbers, list, powers, made) else {
         return refused(w);
     };
     push(w, v)
 }
 
-// High and low combined by power p: the same for kinds 3 and 4.
-fn combine(p: usize, m: u64, w: Waiting, powers: &[u64; POWERS], made: &[bool; POWERS]) -> Turn
-    requires { ⌜ IsModulus m × FitsSixteen w ⌝ }
-    ensures { λ r. ⌜ Waits (combineOf (trialRules m) false (powersOf (now (powers .entry)) (now (made .entry))) (waitingIn w) p) r ⌝ }
+// High and low combined by power p.
+fn combine(
+    plain: bool,
+    p: usize,
+    numbers: Numbers,
+    w: Waiting,
+    powers: &[u64; POWERS],
+    made: &[bool; POWERS],
+) -> Turn
+    requires { ⌜ Usable numbers × FitsSixteen w ⌝ }
+    ensures { λ r. ⌜ Waits (combineOf (rulesOf numbers) plain (powersOf (now (powers .entry)) (now (made .entry))) (waitingIn w) p) r ⌝ }
 {
     let Found::Number(v) = power_at(p, powers, made) else {
         return refused(w);
     };
-    join(w, v, m)
+    join(w, plain, v, numbers)
 }
 
 // One step.
@@ -74,20 +80,20 @@ fn take_step(
     parity: Parity,
     basis: Basis,
     step: Step,
-    m: u64,
+    numbers: Numbers,
     w: Waiting,
     coefficients: &[i64],
     bounds: &[u16],
     powers: &mut [u64; POWERS],
     made: &mut [bool; POWERS],
 ) -> Turn
-    requires { ⌜ Runnable m (now coefficients) (now bounds) × FitsSixteen w ⌝ }
-    ensures { λ r. ⌜ Taken (stepOf (trialRules m) parity basis (listAt (now (coefficients .entry)) (now (bounds .entry))) step
+    requires { ⌜ Runnable numbers (now coefficients) (now bounds) × FitsSixteen w ⌝ }
+    ensures { λ r. ⌜ Taken (stepOf (rulesOf numbers) parity basis (listAt (now (coefficients .entry)) (now (bounds .entry))) step
         (stateOf (now (powers .entry)) (now (made .entry)) w)) (now (powers .exit)) (now (made .exit)) r ⌝ }
 {
     let kind = step.kind;
     if kind == 1 {
-        let ok = make_power(basis, step.x, step.y, step.z, m, powers, made);
+        let ok = make_power(basis, step.x, step.y, step.z, numbers, powers, made);
         return Turn { ok, waiting: w };
     }
     if step.y != 0 {
@@ -97,13 +103,22 @@ fn take_step(
         return refused(w);
     }
     if kind == 2 {
-        return load(parity, step.x, m, w, coefficients, bounds, powers, made);
+        return load(
+            parity,
+            step.x,
+            numbers,
+            w,
+            coefficients,
+            bounds,
+            powers,
+            made,
+        );
     }
     if kind == 3 {
-        return combine(step.x, m, w, powers, made);
+        return combine(false, step.x, numbers, w, powers, made);
     }
     if kind == 4 {
-        return combine(step.x, m, w, powers, made);
+        return combine(true, step.x, numbers, w, powers, made);
     }
     refused(w)
 }
@@ -114,16 +129,16 @@ pub fn run_steps(
     basis: Basis,
     count: usize,
     y: u64,
-    m: u64,
+    numbers: Numbers,
     coefficients: &[i64],
     bounds: &[u16],
     steps: &[u16],
 ) -> Found
-    requires { ⌜ Runnable m (now coefficients) (now bounds) × (4 * count ≤ length (now steps)) ⌝ }
-    ensures { λ r. ⌜ found r ≡ walkOf (trialRules m) parity basis (listAt (now (coefficients .entry)) (now (bounds .entry)))
+    requires { ⌜ Runnable numbers (now coefficients) (now bounds) × (4 * count ≤ length (now steps)) ⌝ }
+    ensures { λ r. ⌜ found r ≡ walkOf (rulesOf numbers) parity basis (listAt (now (coefficients .entry)) (now (bounds .entry)))
         (stepsFrom (now (steps .entry)) 0 count) y ⌝ }
 {
-    let mut powers = first_powers(y, m);
+    let mut powers = first_powers(y, numbers);
     let mut made = first_marks();
     let mut w = none_waiting();
     let mut i: usize = 0;
@@ -132,7 +147,7 @@ pub fn run_steps(
             parity,
             basis,
             step_at(i, steps),
-            m,
+            numbers,
             w,
             coefficients,
             bounds,

@@ -1,20 +1,18 @@
 // The lists of a plan, and their values.
 use crate::limits::POWERS;
+use crate::numbers::Numbers;
+use crate::numbers::place;
 use crate::powers::Found;
 use crate::powers::power_at;
-use crate::remainder::add_mod;
-use crate::remainder::mul_mod;
-use crate::remainder::remainder_of;
 use number::Parity;
 use number::is_allowed;
 ghost use mathlib.Core.Path.{_≡_};
 ghost use mathlib.Core.Bool.{true};
 ghost use Prim.Native.Nat.{_<_};
 ghost use lib.ListN.{length};
-ghost use Rattle.walk.specs.Rules.{trialRules};
 ghost use Rattle.walk.specs.Load.{addPlace, sumFrom};
 ghost use Rattle.walk.specs.Boundaries.{rises, startOf, partOf};
-ghost use Rattle.walk.specs.inside.Modulus.{IsModulus};
+ghost use Rattle.walk.specs.inside.Numbers.{rulesOf, Usable};
 ghost use Rattle.walk.specs.inside.Arrays.{found, powersOf};
 
 // Whether the boundaries rise strictly from 0 and none passes `most`.
@@ -55,18 +53,18 @@ pub fn list_of<'a, 'b>(i: usize, coefficients: &'a [i64], bounds: &'b [u16]) -> 
     &coefficients[start..end]
 }
 
-// The sum with c times power j, where the parity allows place j.
+// The sum with place j, where the parity allows place j.
 fn add_place(
     parity: Parity,
     j: usize,
     sum: u64,
     c: i64,
-    m: u64,
+    numbers: Numbers,
     powers: &[u64; POWERS],
     made: &[bool; POWERS],
 ) -> Found
-    requires { ⌜ IsModulus m ⌝ }
-    ensures { λ r. ⌜ found r ≡ addPlace (trialRules m) parity (powersOf (now (powers .entry)) (now (made .entry))) j sum c ⌝ }
+    requires { ⌜ Usable numbers ⌝ }
+    ensures { λ r. ⌜ found r ≡ addPlace (rulesOf numbers) parity (powersOf (now (powers .entry)) (now (made .entry))) j sum c ⌝ }
 {
     if !is_allowed(parity, j) {
         return Found::Number(sum);
@@ -74,24 +72,24 @@ fn add_place(
     let Found::Number(p) = power_at(j, powers, made) else {
         return Found::Missing;
     };
-    Found::Number(add_mod(sum, mul_mod(remainder_of(c, m), p, m), m))
+    Found::Number(place(numbers, sum, c, j, p))
 }
 
 // A list's value.
 pub fn sum_list(
     parity: Parity,
-    m: u64,
+    numbers: Numbers,
     list: &[i64],
     powers: &[u64; POWERS],
     made: &[bool; POWERS],
 ) -> Found
-    requires { ⌜ IsModulus m ⌝ }
-    ensures { λ r. ⌜ found r ≡ sumFrom (trialRules m) parity (powersOf (now (powers .entry)) (now (made .entry))) 0 0 (now (list .entry)) ⌝ }
+    requires { ⌜ Usable numbers ⌝ }
+    ensures { λ r. ⌜ found r ≡ sumFrom (rulesOf numbers) parity (powersOf (now (powers .entry)) (now (made .entry))) 0 (rulesOf numbers .nothing) (now (list .entry)) ⌝ }
 {
     let mut sum: u64 = 0;
     let mut j: usize = 0;
     while j < list.len() {
-        let Found::Number(next) = add_place(parity, j, sum, list[j], m, powers, made) else {
+        let Found::Number(next) = add_place(parity, j, sum, list[j], numbers, powers, made) else {
             return Found::Missing;
         };
         sum = next;

@@ -1,17 +1,15 @@
 // The waiting values.
 use crate::limits::WAITING;
+use crate::numbers::Numbers;
+use crate::numbers::combined;
 use crate::powers::Found;
-use crate::remainder::add_mod;
-use crate::remainder::mul_mod;
 ghost use mathlib.Core.Path.{_≡_};
-ghost use mathlib.Core.Bool.{false};
 ghost use mathlib.Core.List.{[]};
 ghost use mathlib.Core.Option.{none};
-ghost use Rattle.walk.specs.Rules.{trialRules};
 ghost use Rattle.walk.specs.Load.{pushOf};
 ghost use Rattle.walk.specs.Combine.{joinOf};
 ghost use Rattle.walk.specs.Walk.{oneLeft};
-ghost use Rattle.walk.specs.inside.Modulus.{IsModulus};
+ghost use Rattle.walk.specs.inside.Numbers.{rulesOf, Usable};
 ghost use Rattle.walk.specs.inside.Arrays.{found};
 ghost use Rattle.walk.specs.inside.Waits.{waitingIn, FitsSixteen, Waits};
 
@@ -66,10 +64,10 @@ pub fn push(w: Waiting, v: u64) -> Turn
     }
 }
 
-// High and low taken, high·(power p) + low pushed: the same for kinds 3 and 4.
-pub fn join(w: Waiting, power: u64, m: u64) -> Turn
-    requires { ⌜ FitsSixteen w × IsModulus m ⌝ }
-    ensures { λ r. ⌜ Waits (joinOf (trialRules m) false power (waitingIn w)) r ⌝ }
+// High and low taken, and what a power makes of them pushed.
+pub fn join(w: Waiting, plain: bool, power: u64, numbers: Numbers) -> Turn
+    requires { ⌜ FitsSixteen w × Usable numbers ⌝ }
+    ensures { λ r. ⌜ Waits (joinOf (rulesOf numbers) plain power (waitingIn w)) r ⌝ }
 {
     let at = w.count;
     if at < 2 {
@@ -78,7 +76,7 @@ pub fn join(w: Waiting, power: u64, m: u64) -> Turn
     let high = w.values[at - 1];
     let low = w.values[at - 2];
     let mut next = w;
-    next.values[at - 2] = add_mod(mul_mod(high, power, m), low, m);
+    next.values[at - 2] = combined(numbers, plain, power, high, low);
     next.count = at - 1;
     Turn {
         ok: true,

@@ -1,5 +1,5 @@
 -- `walk::call::walk_lent` meets its contract. Each test is one of the definition. Past them the steps run on parts of the buffers, which
--- are what the definition takes of them, and on the remainder of the point; the transform does the rest as the rules do.
+-- are what the definition takes of them, and on the point as the rules take it; the transform does the rest as the rules do.
 use mathlib.Core.Path.{_≡_, sym, _∙_, ap}
 use mathlib.Core.Bool.{true}
 use mathlib.Core.Option.{some}
@@ -11,10 +11,8 @@ use lib.ListN.{length, take}
 use lib.Seq.{length-take-le}
 use mir.Facts.{toZ-ofZ}
 use denote.Ref.{now}
-use Rattle.algebra.specs.Remainder.{rem, remainders}
-use Rattle.algebra.specs.Transform.{inputOf, outputOf}
 use Rattle.walk.specs.Lent.{lentLists, lentSteps, boundsRise}
-use Rattle.walk.specs.Rules.{trialRules}
+use Rattle.walk.specs.inside.Numbers.{rulesOf}
 use Rattle.walk.specs.Boundaries.{rises}
 use Rattle.walk.specs.Walk.{walkOf}
 use Rattle.walk.specs.inside.Arrays.{found}
@@ -38,34 +36,34 @@ fits k = record { coefficients = k .before .before .if1 .left; lists = k .before
 rising : (k : tie.Else4) → let a = from-fourth k .args in boundsRise (a .head) (now (a .bounds)) ≡ true
 rising k = sym (k .before .bounds-rise .ensures) ∙ not-false _ (k .if4 .left)
 
--- the point's remainder
-reduced : (k : tie.After-remainder-of) → let a = from-fourth (k .before) .args in k .remainder-of .result ≡ rem (a .m) (a .point)
+-- the point as a number
+reduced : (k : tie.After-point-of) → let a = from-fourth (k .before) .args in k .point-of .result ≡ rulesOf (a .numbers) .point (a .point)
 reduced k =
     let start = from-fourth (k .before) in
-    k .remainder-of .ensures ∙ ap (rem (start .args .m)) (toZ-ofZ (start .fits .point))
+    k .point-of .ensures ∙ ap (rulesOf (start .args .numbers) .point) (toZ-ofZ (start .fits .point))
 
 -- the steps ran from the input that the point gives
 ran : (k : tie.After-run-steps) → let a = from-fourth (k .before .before .before .before) .args in
     found (k .run-steps .result)
-    ≡ walkOf (trialRules (a .m)) (a .head .parity) (a .head .basis) (lentLists (a .head) (now (a .coefficients)) (now (a .bounds)))
-    (lentSteps (a .head) (now (a .steps))) (inputOf (remainders (a .m)) (a .head .transform) (rem (a .m) (a .point)))
+    ≡ walkOf (rulesOf (a .numbers)) (a .head .parity) (a .head .basis) (lentLists (a .head) (now (a .coefficients)) (now (a .bounds)))
+    (lentSteps (a .head) (now (a .steps))) (rulesOf (a .numbers) .input (a .head .transform) (rulesOf (a .numbers) .point (a .point)))
 ran k =
     let a = from-fourth (k .before .before .before .before) .args in
     k .run-steps .ensures
-    ∙ ap (walkOf (trialRules (a .m)) (a .head .parity) (a .head .basis) (lentLists (a .head) (now (a .coefficients)) (now (a .bounds)))
+    ∙ ap (walkOf (rulesOf (a .numbers)) (a .head .parity) (a .head .basis) (lentLists (a .head) (now (a .coefficients)) (now (a .bounds)))
     (lentSteps (a .head) (now (a .steps))))
-    (k .before .before .input-of .ensures ∙ ap (inputOf (remainders (a .m)) (a .head .transform)) (reduced (k .before .before .before)))
+    (k .before .before .input-of .ensures ∙ ap (rulesOf (a .numbers) .input (a .head .transform)) (reduced (k .before .before .before)))
 
 returns : tie.Need-returns
 returns c = let start = c .before .before .before in
     let a = start .args in
-    few-coefficients (trialRules (a .m)) (a .head) (now (a .coefficients)) (now (a .bounds)) (now (a .steps)) (a .point) (c .if1 .taken)
+    few-coefficients (rulesOf (a .numbers)) (a .head) (now (a .coefficients)) (now (a .bounds)) (now (a .steps)) (a .point) (c .if1 .taken)
 
 returns-2 : tie.Need-returns-2
 returns-2 c =
     let entry = c .before .before .before .before in
     let a = entry .args in
-    few-bounds (trialRules (a .m)) (a .head) (now (a .coefficients)) (now (a .bounds)) (now (a .steps)) (a .point) (c .before .if1 .left)
+    few-bounds (rulesOf (a .numbers)) (a .head) (now (a .coefficients)) (now (a .bounds)) (now (a .steps)) (a .point) (c .before .if1 .left)
     (c .if2 .taken)
 
 returns-3 : tie.Need-returns-3
@@ -73,7 +71,7 @@ returns-3 c =
     let at-if1 = c .before .before in
     let entry = at-if1 .before .before .before in
     let a = entry .args in
-    few-steps (trialRules (a .m)) (a .head) (now (a .coefficients)) (now (a .bounds)) (now (a .steps)) (a .point) (at-if1 .if1 .left)
+    few-steps (rulesOf (a .numbers)) (a .head) (now (a .coefficients)) (now (a .bounds)) (now (a .steps)) (a .point) (at-if1 .if1 .left)
     (c .before .if2 .left) (c .if3 .taken)
 
 slice-aggregate-used : tie.Need-slice-aggregate-used
@@ -92,11 +90,11 @@ returns-4 c =
     let at-shared-slice-known = at-if3 .before .before .before .before in
     let entry = at-shared-slice-known .before in
     let a = entry .args in
-    not-rising (trialRules (a .m)) (a .head) (now (a .coefficients)) (now (a .bounds)) (now (a .steps)) (a .point) (fits at-if3)
+    not-rising (rulesOf (a .numbers)) (a .head) (now (a .coefficients)) (now (a .bounds)) (now (a .steps)) (a .point) (fits at-if3)
     (sym (c .before .bounds-rise .ensures) ∙ not-true _ (c .if4 .taken))
 
-remainder-of-requires : tie.Need-remainder-of-requires
-remainder-of-requires c κs = search needs
+point-of-requires : tie.Need-point-of-requires
+point-of-requires c κs = search needs
 
 input-of-requires : tie.Need-input-of-requires
 input-of-requires c κs = search needs
@@ -117,7 +115,7 @@ run-steps-requires c κs =
     let entry = at-if1 .before .before .before in
     let a = entry .args in (
       record {
-        modulus = entry .pre;
+        usable = entry .pre;
         rising = ap (λ (n : ℕ). rises 0 n (take (a .head .lists) (now (a .bounds))))
             (length-take-le (a .head .coefficients) (now (a .coefficients)) (at-if1 .if1 .left))
             ∙ rising at-if4;
@@ -139,7 +137,7 @@ returns-5 c =
     let at-shared-slice-known = at-if3 .before .before .before .before in
     let entry = at-shared-slice-known .before in
     let a = entry .args in
-    stuck (trialRules (a .m)) (a .head) (now (a .coefficients)) (now (a .bounds)) (now (a .steps)) (a .point) (fits at-if3) (rising at-if4)
+    stuck (rulesOf (a .numbers)) (a .head) (now (a .coefficients)) (now (a .bounds)) (now (a .steps)) (a .point) (fits at-if3) (rising at-if4)
     (sym (ran at-run-steps) ∙ ap found (c .enum-told .given .1))
 
 output-of-requires : tie.Need-output-of-requires
@@ -149,14 +147,14 @@ returns-6 : tie.Need-returns-6
 returns-6 c =
     let at-v = c .before .before in
     let at-run-steps = at-v .before .before in
-    let at-remainder = at-run-steps .before .before .before in
-    let at-if4 = at-remainder .before in
+    let at-point = at-run-steps .before .before .before in
+    let at-if4 = at-point .before in
     let at-if3 = at-if4 .before .before .before in
     let at-shared-slice-known = at-if3 .before .before .before .before in
     let entry = at-shared-slice-known .before in
     let a = entry .args in
-    ap some (c .output-of .ensures ∙ ap (λ (x : ℕ). outputOf (remainders (a .m)) (a .head .transform) x (at-v .v .given .0 .0)) (reduced at-remainder))
-    ∙ walked (trialRules (a .m)) (a .head) (now (a .coefficients)) (now (a .bounds)) (now (a .steps)) (a .point) (fits at-if3)
+    ap some (c .output-of .ensures ∙ ap (λ (x : ℕ). rulesOf (a .numbers) .output (a .head .transform) x (at-v .v .given .0 .0)) (reduced at-point))
+    ∙ walked (rulesOf (a .numbers)) (a .head) (now (a .coefficients)) (now (a .bounds)) (now (a .steps)) (a .point) (fits at-if3)
     (at-v .v .given .0 .0) (rising at-if4) (sym (ran at-run-steps) ∙ ap found (at-v .v .given .1))
 
 pub walk-lent-spec : {M : Type 1} → statement M
@@ -169,7 +167,7 @@ walk-lent-spec =
     slice-aggregate-used
     bounds-rise-requires
     returns-4
-    remainder-of-requires
+    point-of-requires
     input-of-requires
     slice-aggregate-run-steps
     run-steps-requires

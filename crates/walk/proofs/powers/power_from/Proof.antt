@@ -1,17 +1,13 @@
 -- `walk::powers::power_from` meets its contract. What is found of the two parts, and in Chebyshev of the power at their distance, decides
--- as in the definition. Where all are there, the operations are those of the rules, the power at the distance being taken away as its
--- opposite.
+-- as in the definition. Where all are there, the rules make the power.
 use mathlib.Core.Option.{some}
 use mathlib.Core.Path.{_≡_, sym, _∙_, ap}
 use borrow.Author.Needs.{needs}
 use denote.Ref.{now}
-use Rattle.algebra.specs.Operations.{double}
-use Rattle.algebra.specs.Remainder.{remainders}
 use Rattle.algebra.specs.declared.Basis.{Basis}
 use Rattle.walk.specs.inside.Arrays.{found, powersOf}
-use Rattle.walk.specs.Rules.{trialRules}
+use Rattle.walk.specs.inside.Numbers.{rulesOf}
 use Rattle.walk.specs.Make.{powerFrom}
-use Rattle.walk.proofs.Modular.{taken-away}
 use Rattle.walk.proofs.PowerLaws.{no-first, no-second, monomial-product, no-third, chebyshev-product}
 use Rattle.walk.proofs.powers.power_from.Statement.{statement}
 use Rattle.walk.proofs.powers.power_from.Tie as tie
@@ -36,7 +32,7 @@ enum-told c = search needs
 
 returns : tie.Need-returns
 returns c = let a = c .before .before .before .args in
-    let 𝓡 = trialRules (a .m) in
+    let 𝓡 = rulesOf (a .numbers) in
     let powers = powersOf (now (a .powers)) (now (a .made)) in
     no-first 𝓡 powers (a .a) (a .b) (a .basis) (sym (c .before .before .power-at .ensures .is) ∙ ap found (c .enum-told .given .1))
 
@@ -55,16 +51,16 @@ returns-2 c =
     let at-known-told = at-power-at2 .before in
     let entry = at-known-told .before .before .before .before in
     let a = entry .args in
-    let 𝓡 = trialRules (a .m) in
+    let 𝓡 = rulesOf (a .numbers) in
     let powers = powersOf (now (a .powers)) (now (a .made)) in
     no-second 𝓡 powers (a .a) (a .b) (a .basis) _ (first at-known-told)
     (sym (at-power-at2 .power-at2 .ensures .is) ∙ ap found (c .enum-told2 .given .1))
 
-mul-mod-requires : tie.Need-mul-mod-requires
-mul-mod-requires c κs = search needs
-
 enum-told-3 : tie.Need-enum-told-3
 enum-told-3 c = search needs
+
+product-requires : tie.Need-product-requires
+product-requires c κs = search needs
 
 enum-told-4 : tie.Need-enum-told-4
 enum-told-4 c = search needs
@@ -86,55 +82,45 @@ returns-3 c =
     let at-power-at3 = c .before .before in
     let at-distance = at-power-at3 .before in
     let at-enum-told4 = at-distance .before in
-    let at-known-told2 = at-enum-told4 .before .before .before in
+    let at-known-told2 = at-enum-told4 .before .before in
     let at-known-told = at-known-told2 .before .before .before .before in
     let entry = at-known-told .before .before .before .before in
     let a = entry .args in
-    let 𝓡 = trialRules (a .m) in
+    let 𝓡 = rulesOf (a .numbers) in
     let powers = powersOf (now (a .powers)) (now (a .made)) in
     no-third 𝓡 powers (a .a) (a .b) _ _ (first at-known-told) (second at-known-told2)
     (ap powers (sym (at-distance .distance .ensures)) ∙ sym (at-power-at3 .power-at3 .ensures .is) ∙ ap found (c .enum-told5 .given .1))
     ∙ ap (λ (basis : Basis). powerFrom 𝓡 basis powers (a .a) (a .b)) (sym (at-enum-told4 .enum-told4 .given .1))
 
-opposite-requires : tie.Need-opposite-requires
-opposite-requires c κs = search needs
-
-twice-mod-requires : tie.Need-twice-mod-requires
-twice-mod-requires c κs = search needs
-
-add-mod-requires : tie.Need-add-mod-requires
-add-mod-requires c κs = search needs
+product-less-requires : tie.Need-product-less-requires
+product-less-requires c κs = search needs
 
 returns-4 : tie.Need-returns-4
 returns-4 c =
-    let at-mul-mod = c .before .before in
-    let at-known-told2 = at-mul-mod .before in
+    let at-enum-told3 = c .before in
+    let at-known-told2 = at-enum-told3 .before .before in
     let at-known-told = at-known-told2 .before .before .before .before in
     let entry = at-known-told .before .before .before .before in
     let a = entry .args in
-    let 𝓡 = trialRules (a .m) in
+    let 𝓡 = rulesOf (a .numbers) in
     let powers = powersOf (now (a .powers)) (now (a .made)) in
-    ap some (at-mul-mod .mul-mod .ensures)
+    ap some (c .product .ensures)
     ∙ monomial-product 𝓡 powers (a .a) (a .b) _ _ (first at-known-told) (second at-known-told2)
-    ∙ ap (λ (basis : Basis). powerFrom 𝓡 basis powers (a .a) (a .b)) (sym (c .enum-told3 .given .1))
+    ∙ ap (λ (basis : Basis). powerFrom 𝓡 basis powers (a .a) (a .b)) (sym (at-enum-told3 .enum-told3 .given .1))
 
 returns-5 : tie.Need-returns-5
 returns-5 c =
-    let at-opposite = c .before .before in
-    let at-w = at-opposite .before .before in
+    let at-w = c .before .before in
     let at-power-at3 = at-w .before .before in
     let at-distance = at-power-at3 .before in
     let at-enum-told4 = at-distance .before in
-    let at-mul-mod = at-enum-told4 .before .before in
-    let at-known-told2 = at-mul-mod .before in
+    let at-known-told2 = at-enum-told4 .before .before in
     let at-known-told = at-known-told2 .before .before .before .before in
     let entry = at-known-told .before .before .before .before in
     let a = entry .args in
-    let 𝓡 = trialRules (a .m) in
+    let 𝓡 = rulesOf (a .numbers) in
     let powers = powersOf (now (a .powers)) (now (a .made)) in
-    ap some (taken-away (at-w .w .given .0 .0) (a .m) (c .add-mod .ensures)
-    (c .before .twice-mod .ensures ∙ ap (double (remainders (a .m))) (at-mul-mod .mul-mod .ensures))
-    (at-opposite .opposite .ensures))
+    ap some (c .product-less .ensures)
     ∙ chebyshev-product 𝓡 powers (a .a) (a .b) _ _ _ (first at-known-told) (second at-known-told2)
     (ap powers (sym (at-distance .distance .ensures)) ∙ sym (at-power-at3 .power-at3 .ensures .is) ∙ ap found (at-w .w .given .1))
     ∙ ap (λ (basis : Basis). powerFrom 𝓡 basis powers (a .a) (a .b)) (sym (at-enum-told4 .enum-told4 .given .1))
@@ -151,16 +137,14 @@ power-from-spec =
     enum-known-v
     enum-told-2
     returns-2
-    mul-mod-requires
     enum-told-3
+    product-requires
     enum-told-4
     distance-requires
     power-at-requires-3
     enum-known-w
     enum-told-5
     returns-3
-    opposite-requires
-    twice-mod-requires
-    add-mod-requires
+    product-less-requires
     returns-4
     returns-5)

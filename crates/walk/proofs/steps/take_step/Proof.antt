@@ -1,5 +1,4 @@
 -- `walk::steps::take_step` meets its contract. Kind by kind: each branch is a case of the definition, and each refusal one of its tests.
--- Kinds 3 and 4 combine alike modulo m.
 use mathlib.Core.Path.{refl, ap}
 use mathlib.Core.Bool.{true, false}
 use borrow.Author.Needs.{needs}
@@ -7,9 +6,9 @@ use denote.Ref.{now}
 use Rattle.walk.specs.inside.Arrays.{powersOf}
 use Rattle.walk.specs.inside.Taken.{stateOf}
 use Rattle.walk.specs.Kinds.{kindOf}
-use Rattle.walk.specs.Rules.{trialRules}
+use Rattle.walk.specs.inside.Numbers.{rulesOf}
 use Rattle.walk.specs.Boundaries.{listAt}
-use Rattle.walk.proofs.StepLaws.{turn-step, combine-alike, third-used, fourth-used, both-unused, act-make, act-used, act-load, act-combine, act-unknown}
+use Rattle.walk.proofs.StepLaws.{turn-step, third-used, fourth-used, both-unused, act-make, act-used, act-load, act-combine, act-unknown}
 use Rattle.walk.proofs.steps.take_step.Statement.{statement}
 use Rattle.walk.proofs.steps.take_step.Tie as tie
 
@@ -25,7 +24,7 @@ returns c =
     let lists = listAt (now (a .coefficients)) (now (a .bounds)) in
     let state = stateOf (now (a .powers)) (now (a .made)) (a .w) in
     record {
-      is = act-make (trialRules (a .m)) (a .parity) (a .basis) lists (step .kind) (step .x) (step .y) (step .z) state (at-if1 .if1 .taken)
+      is = act-make (rulesOf (a .numbers)) (a .parity) (a .basis) lists (step .kind) (step .x) (step .y) (step .z) state (at-if1 .if1 .taken)
           (c .make-power .result) (powersOf (c .make-power .last .1 .1 .1 .1 .1 .0) (c .make-power .last .1 .1 .1 .1 .1 .1 .0)) (c .make-power .ensures);
       fits = entry .pre .1;
     }
@@ -42,7 +41,7 @@ returns-2 c =
     let lists = listAt (now (a .coefficients)) (now (a .bounds)) in
     let state = stateOf (now (a .powers)) (now (a .made)) (a .w) in
     turn-step (now (a .powers)) (now (a .made)) (c .refused .ensures)
-    (act-used (trialRules (a .m)) (a .parity) (a .basis) lists (step .kind) (step .x) (step .y) (step .z) state (at-if1 .if1 .left)
+    (act-used (rulesOf (a .numbers)) (a .parity) (a .basis) lists (step .kind) (step .x) (step .y) (step .z) state (at-if1 .if1 .left)
     (third-used (step .y) (step .z) (c .before .if2 .taken)))
 
 refused-requires-2 : tie.Need-refused-requires-2
@@ -58,7 +57,7 @@ returns-3 c =
     let lists = listAt (now (a .coefficients)) (now (a .bounds)) in
     let state = stateOf (now (a .powers)) (now (a .made)) (a .w) in
     turn-step (now (a .powers)) (now (a .made)) (c .refused2 .ensures)
-    (act-used (trialRules (a .m)) (a .parity) (a .basis) lists (step .kind) (step .x) (step .y) (step .z) state (at-if1 .if1 .left)
+    (act-used (rulesOf (a .numbers)) (a .parity) (a .basis) lists (step .kind) (step .x) (step .y) (step .z) state (at-if1 .if1 .left)
     (fourth-used (step .y) (step .z) (at-if2 .if2 .left) (c .before .if3 .taken)))
 
 load-requires : tie.Need-load-requires
@@ -75,7 +74,7 @@ returns-4 c =
     let lists = listAt (now (a .coefficients)) (now (a .bounds)) in
     let state = stateOf (now (a .powers)) (now (a .made)) (a .w) in
     turn-step (now (a .powers)) (now (a .made)) (c .load .ensures)
-    (act-load (trialRules (a .m)) (a .parity) (a .basis) lists (step .kind) (step .x) (step .y) (step .z) state
+    (act-load (rulesOf (a .numbers)) (a .parity) (a .basis) lists (step .kind) (step .x) (step .y) (step .z) state
     (both-unused (step .y) (step .z) (at-if2 .if2 .left) (at-if3 .if3 .left)) (at-if4 .if4 .taken))
 
 combine-requires : tie.Need-combine-requires
@@ -92,7 +91,7 @@ returns-5 c =
     let lists = listAt (now (a .coefficients)) (now (a .bounds)) in
     let state = stateOf (now (a .powers)) (now (a .made)) (a .w) in
     turn-step (now (a .powers)) (now (a .made)) (c .combine .ensures)
-    (act-combine (trialRules (a .m)) (a .parity) (a .basis) lists (step .kind) (step .x) (step .y) (step .z) state
+    (act-combine (rulesOf (a .numbers)) (a .parity) (a .basis) lists (step .kind) (step .x) (step .y) (step .z) state
     (both-unused (step .y) (step .z) (at-if2 .if2 .left) (at-if3 .if3 .left)) false (ap kindOf (at-if5 .if5 .taken)) _ refl)
 
 combine-requires-2 : tie.Need-combine-requires-2
@@ -109,9 +108,8 @@ returns-6 c =
     let lists = listAt (now (a .coefficients)) (now (a .bounds)) in
     let state = stateOf (now (a .powers)) (now (a .made)) (a .w) in
     turn-step (now (a .powers)) (now (a .made)) (c .combine2 .ensures)
-    (act-combine (trialRules (a .m)) (a .parity) (a .basis) lists (step .kind) (step .x) (step .y) (step .z) state
-    (both-unused (step .y) (step .z) (at-if2 .if2 .left) (at-if3 .if3 .left)) true (ap kindOf (at-if6 .if6 .taken)) _
-    (combine-alike (a .m) (state .powers) (state .waiting) (step .x)))
+    (act-combine (rulesOf (a .numbers)) (a .parity) (a .basis) lists (step .kind) (step .x) (step .y) (step .z) state
+    (both-unused (step .y) (step .z) (at-if2 .if2 .left) (at-if3 .if3 .left)) true (ap kindOf (at-if6 .if6 .taken)) _ refl)
 
 refused-requires-3 : tie.Need-refused-requires-3
 refused-requires-3 c κs = search needs
@@ -128,7 +126,7 @@ returns-7 c =
     let lists = listAt (now (a .coefficients)) (now (a .bounds)) in
     let state = stateOf (now (a .powers)) (now (a .made)) (a .w) in
     turn-step (now (a .powers)) (now (a .made)) (c .refused3 .ensures)
-    (act-unknown (trialRules (a .m)) (a .parity) (a .basis) lists (step .kind) (step .x) (step .y) (step .z) state (at-if1 .if1 .left)
+    (act-unknown (rulesOf (a .numbers)) (a .parity) (a .basis) lists (step .kind) (step .x) (step .y) (step .z) state (at-if1 .if1 .left)
     (at-if4 .if4 .left) (at-if5 .if5 .left) (c .before .if6 .left))
 
 pub take-step-spec : {M : Type 1} → statement M

@@ -1,15 +1,14 @@
 -- `walk::sums::add_place` meets its contract. A place that the parity leaves out leaves the sum. Otherwise the power is there or the place
--- is refused, and the product of the coefficient's remainder and the power is added as the rule adds it.
+-- is refused, and the place is added as the rule adds it.
 use mathlib.Core.Path.{sym, _∙_, ap}
 use mathlib.Core.Option.{some}
-use Prim.Native.Nat.{ℕ}
 use borrow.Author.Tests.{not-true, not-false}
 use borrow.Author.Needs.{needs}
+use lib.IntN.{ℤ}
 use mir.Facts.{toZ-ofZ}
 use denote.Ref.{now}
-use Rattle.algebra.specs.Remainder.{rem, remainders}
 use Rattle.walk.specs.inside.Arrays.{found, powersOf}
-use Rattle.walk.specs.Rules.{trialRules}
+use Rattle.walk.specs.inside.Numbers.{rulesOf}
 use Rattle.walk.proofs.SumLaws.{place-over, place-missing, place-added}
 use Rattle.walk.proofs.sums.add_place.Statement.{statement}
 use Rattle.walk.proofs.sums.add_place.Tie as tie
@@ -19,7 +18,7 @@ is-allowed-requires c κs = search needs
 
 returns : tie.Need-returns
 returns c = let a = c .before .before .args in
-    place-over (trialRules (a .m)) (a .parity) (powersOf (now (a .powers)) (now (a .made))) (a .j) (a .sum) (a .c)
+    place-over (rulesOf (a .numbers)) (a .parity) (powersOf (now (a .powers)) (now (a .made))) (a .j) (a .sum) (a .c)
     (sym (c .before .is-allowed .ensures) ∙ not-true _ (c .if1 .taken))
 
 power-at-requires : tie.Need-power-at-requires
@@ -34,27 +33,20 @@ enum-told c = search needs
 returns-2 : tie.Need-returns-2
 returns-2 c = let at = c .before .before in
     let a = at .before .before .before .args in
-    place-missing (trialRules (a .m)) (a .parity) (powersOf (now (a .powers)) (now (a .made))) (a .j) (a .sum) (a .c)
+    place-missing (rulesOf (a .numbers)) (a .parity) (powersOf (now (a .powers)) (now (a .made))) (a .j) (a .sum) (a .c)
     (sym (at .before .before .is-allowed .ensures) ∙ not-false _ (at .before .if1 .left))
     (sym (at .power-at .ensures .is) ∙ ap found (c .enum-told .given .1))
 
-remainder-of-requires : tie.Need-remainder-of-requires
-remainder-of-requires c κs = search needs
-
-mul-mod-requires : tie.Need-mul-mod-requires
-mul-mod-requires c κs = search needs
-
-add-mod-requires : tie.Need-add-mod-requires
-add-mod-requires c κs = search needs
+place-requires : tie.Need-place-requires
+place-requires c κs = search needs
 
 returns-3 : tie.Need-returns-3
-returns-3 c = let told = c .before .before .before .before in
+returns-3 c = let told = c .before .before in
     let at = told .before .before in
-    let a = at .before .before .before .args in
-    ap some (c .add-mod .ensures ∙ ap (remainders (a .m) .add (a .sum)) (c .before .mul-mod .ensures
-    ∙ ap (λ (n : ℕ). remainders (a .m) .mul n (told .p .given .0 .0)) (c .before .before .remainder-of .ensures
-    ∙ ap (rem (a .m)) (toZ-ofZ (at .before .before .before .fits .c)))))
-    ∙ place-added (trialRules (a .m)) (a .parity) (powersOf (now (a .powers)) (now (a .made))) (a .j) (a .sum) (a .c) (told .p .given .0 .0)
+    let start = at .before .before .before in
+    let a = start .args in
+    ap some (c .place .ensures ∙ ap (λ (z : ℤ). rulesOf (a .numbers) .place (a .sum) z (a .j) (told .p .given .0 .0)) (toZ-ofZ (start .fits .c)))
+    ∙ place-added (rulesOf (a .numbers)) (a .parity) (powersOf (now (a .powers)) (now (a .made))) (a .j) (a .sum) (a .c) (told .p .given .0 .0)
     (sym (at .before .before .is-allowed .ensures) ∙ not-false _ (at .before .if1 .left))
     (sym (at .power-at .ensures .is) ∙ ap found (told .p .given .1))
 
@@ -68,7 +60,5 @@ add-place-spec =
     enum-known-p
     enum-told
     returns-2
-    remainder-of-requires
-    mul-mod-requires
-    add-mod-requires
+    place-requires
     returns-3)

@@ -1,6 +1,8 @@
--- `walk::transform::input_of` meets its contract. Transform by transform: the operations are those of the definition.
+-- `walk::transform::input_of` meets its contract. Transform by transform: what the rules for powers make is what the rule for the input makes.
+use mathlib.Core.Path.{_∙_}
 use borrow.Author.Needs.{needs}
-use Rattle.algebra.specs.Transform.{inputOf}
+use Rattle.algebra.specs.declared.PolynomialInputTransform.the-variants.{Identity, Square, SquareTimesInput, ChebyshevT2, ChebyshevT2TimesInput}
+use Rattle.walk.proofs.NumberLaws.{input-by}
 use Rattle.walk.proofs.transform.input_of.Statement.{statement}
 use Rattle.walk.proofs.transform.input_of.Tie as tie
 
@@ -10,14 +12,14 @@ enum-told c = search needs
 enum-told-2 : tie.Need-enum-told-2
 enum-told-2 c = search needs
 
-mul-mod-requires : tie.Need-mul-mod-requires
-mul-mod-requires c κs = search needs
+product-requires : tie.Need-product-requires
+product-requires c κs = search needs
 
 enum-told-3 : tie.Need-enum-told-3
 enum-told-3 c = search needs
 
-mul-mod-requires-2 : tie.Need-mul-mod-requires-2
-mul-mod-requires-2 c κs = search needs
+product-requires-2 : tie.Need-product-requires-2
+product-requires-2 c κs = search needs
 
 enum-told-4 : tie.Need-enum-told-4
 enum-told-4 c = search needs
@@ -32,24 +34,24 @@ second-chebyshev-requires-2 : tie.Need-second-chebyshev-requires-2
 second-chebyshev-requires-2 c κs = search needs
 
 returns : tie.Need-returns
-unfolding inputOf
-returns c = rw (c .enum-told .given .1)
+returns c = let a = c .before .before .args in
+    rw (c .enum-told .given .1) (input-by (a .numbers) Identity (a .x))
 
 returns-2 : tie.Need-returns-2
-unfolding inputOf
-returns-2 c = rw (c .before .enum-told2 .given .1) (c .mul-mod .ensures)
+returns-2 c = let a = c .before .before .before .args in
+    rw (c .before .enum-told2 .given .1) (c .product .ensures ∙ input-by (a .numbers) Square (a .x))
 
 returns-3 : tie.Need-returns-3
-unfolding inputOf
-returns-3 c = rw (c .before .enum-told3 .given .1) (c .mul-mod2 .ensures)
+returns-3 c = let a = c .before .before .before .args in
+    rw (c .before .enum-told3 .given .1) (c .product2 .ensures ∙ input-by (a .numbers) SquareTimesInput (a .x))
 
 returns-4 : tie.Need-returns-4
-unfolding inputOf
-returns-4 c = rw (c .before .enum-told4 .given .1) (c .second-chebyshev .ensures)
+returns-4 c = let a = c .before .before .before .args in
+    rw (c .before .enum-told4 .given .1) (c .second-chebyshev .ensures ∙ input-by (a .numbers) ChebyshevT2 (a .x))
 
 returns-5 : tie.Need-returns-5
-unfolding inputOf
-returns-5 c = rw (c .before .enum-told5 .given .1) (c .second-chebyshev2 .ensures)
+returns-5 c = let a = c .before .before .before .args in
+    rw (c .before .enum-told5 .given .1) (c .second-chebyshev2 .ensures ∙ input-by (a .numbers) ChebyshevT2TimesInput (a .x))
 
 pub input-of-spec : {M : Type 1} → statement M
 input-of-spec =
@@ -57,9 +59,9 @@ input-of-spec =
     (tie.spec
     enum-told
     enum-told-2
-    mul-mod-requires
+    product-requires
     enum-told-3
-    mul-mod-requires-2
+    product-requires-2
     enum-told-4
     second-chebyshev-requires
     enum-told-5

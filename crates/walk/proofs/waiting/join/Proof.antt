@@ -1,12 +1,11 @@
 -- `walk::waiting::join` meets its contract. The last two values are high and low. The store puts their result in low's place, and leaves
 -- those before it.
 use mathlib.Core.Path.{_∙_}
-use mathlib.Core.Bool.{false}
 use Prim.Native.Nat.{_≤_}
 use native.Mathlib.Omega.{arith}
 use borrow.Author.Needs.{needs}
 use lib.ListN.{length, length-set}
-use Rattle.walk.specs.Rules.{trialRules}
+use Rattle.walk.specs.inside.Numbers.{rulesOf}
 use Rattle.walk.proofs.StackLaws.{join-is, join-few}
 use Rattle.walk.proofs.waiting.join.Statement.{statement}
 use Rattle.walk.proofs.waiting.join.Tie as tie
@@ -18,7 +17,7 @@ returns : tie.Need-returns
 returns c = let start = c .before .before in
     let w = start .args .t1 in
     record {
-      is = c .refused .ensures .is ∙ join-few (trialRules (start .args .m)) false (start .args .power) (w .values) (w .count)
+      is = c .refused .ensures .is ∙ join-few (rulesOf (start .args .numbers)) (start .args .plain) (start .args .power) (w .values) (w .count)
           (c .before .if1 .taken);
       fits = c .refused .ensures .fits;
     }
@@ -38,11 +37,8 @@ mul-low c = search needs
 element-copy-out-low : tie.Need-element-copy-out-low
 element-copy-out-low c = search needs
 
-mul-mod-requires : tie.Need-mul-mod-requires
-mul-mod-requires c κs = search needs
-
-add-mod-requires : tie.Need-add-mod-requires
-add-mod-requires c κs = search needs
+combined-requires : tie.Need-combined-requires
+combined-requires c κs = search needs
 
 mul-next : tie.Need-mul-next
 mul-next c = search needs
@@ -55,14 +51,13 @@ sub-next c = search needs
 
 returns-2 : tie.Need-returns-2
 returns-2 c =
-    let at-if1 = c .before .before .before .before in
+    let at-if1 = c .before .before .before in
     let entry = at-if1 .before in
     let w = entry .args .t1 in
-    let m = entry .args .m in
     let inside : w .count ≤ length (w .values) = omega arith in
     record {
-      is = rw (c .add-mod .ensures, c .before .mul-mod .ensures)
-          (join-is (trialRules m) false (entry .args .power) (w .values) (w .count) (at-if1 .if1 .left) inside);
+      is = rw (c .combined .ensures)
+          (join-is (rulesOf (entry .args .numbers)) (entry .args .plain) (entry .args .power) (w .values) (w .count) (at-if1 .if1 .left) inside);
       fits = record { count = omega arith; places = simp length-set (entry .pre .0 .places) };
     }
 
@@ -77,8 +72,7 @@ join-spec =
     element-copy-out-high
     mul-low
     element-copy-out-low
-    mul-mod-requires
-    add-mod-requires
+    combined-requires
     mul-next
     element-write-next
     sub-next
