@@ -12,7 +12,7 @@ ghost use Rattle.texts.specs.Put.{Put};
 ghost use Rattle.texts.specs.inside.EndsIn64Bits.{EndsIn64Bits};
 
 // A tab and a number.
-fn put_number_field(out: &mut [u8], at: usize, n: u64) -> usize
+pub fn put_number_field(out: &mut [u8], at: usize, n: u64) -> usize
     requires { ⌜ EndsIn64Bits at (tab ∷ decimal n) ⌝ }
     ensures { λ r. ⌜ Put (now (out .entry)) at (tab ∷ decimal n) (now (out .exit)) r ⌝ }
 {
@@ -30,7 +30,7 @@ fn put_signed_field(out: &mut [u8], at: usize, z: i64) -> usize
 }
 
 // Numbers, with a tab in front of each.
-fn put_number_fields(out: &mut [u8], from: usize, ns: &[u64]) -> usize
+pub fn put_number_fields(out: &mut [u8], from: usize, ns: &[u64]) -> usize
     requires { ⌜ EndsIn64Bits from (fieldsText (map decimal (now ns))) ⌝ }
     ensures { λ r. ⌜ Put (now (out .entry)) from (fieldsText (map decimal (now (ns .entry)))) (now (out .exit)) r ⌝ }
 {
