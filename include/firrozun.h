@@ -184,6 +184,11 @@ typedef struct {
     uint64_t remainder;
 } firrozun_trial;
 
+typedef struct {
+    uint8_t refusal;
+    uint64_t weight;
+} firrozun_chain;
+
 /* ---- calls on bare numbers */
 
 /* The two parts of the power n: a + b = n. Refusal 9. */
@@ -240,7 +245,7 @@ firrozun_listed firrozun_decompose_bsgs(uint8_t strategy, uint8_t parity, uint8_
 firrozun_listed firrozun_decompose_bsgs_f64(uint8_t strategy, uint8_t parity, uint8_t basis, const double *c, size_t c_len, double *out,
                                             size_t out_len, uint16_t *bounds, size_t bounds_len);
 
-/* ---- the sizes of a plan, the plan call and the trial walk */
+/* ---- the sizes of a plan, the plan call, the trial walk and the heaviest chain */
 
 /* The sizes of every plan of this degree with these settings, before there are coefficients. A polynomial that passes the tests ahead of 21 is planned
  * exactly if the three buffers have at least so many places. Refusals 43, 2 (above 4,095), 1, with folding 5, 6: then firrozun_plan, too, refuses
@@ -257,6 +262,12 @@ firrozun_planned firrozun_plan(uint8_t strategy, uint8_t parity, uint8_t basis, 
 /* Walks a plan at a point: the value's remainder modulo `modulus`, from 0 up. Head and buffers may be any, damaged ones too. Refusals 43, 11, 24. */
 firrozun_trial firrozun_trial_walk(firrozun_head head, const int64_t *coefficients, size_t coefficients_len, const uint16_t *bounds,
                                    size_t bounds_len, const uint16_t *steps, size_t steps_len, int64_t point, uint64_t modulus);
+
+/* The heaviest chain of a plan, by the bit scales of input and coefficients: the greatest weight over all paths of multiplications that end in the
+ * plan's value. Each ct-ct multiplication weighs the input scale, each pt-ct one the coefficient scale. The weight is exact up to 2^47 steps; with
+ * more of them, one above 2^64 - 1 is answered as 2^64 - 1. Head and buffers may be any, damaged ones too. Refusals 43, 10, 24. */
+firrozun_chain firrozun_heaviest_chain(firrozun_head head, const int64_t *coefficients, size_t coefficients_len, const uint16_t *bounds,
+                                       size_t bounds_len, const uint16_t *steps, size_t steps_len, size_t input, size_t coeff);
 
 #ifdef __cplusplus
 }

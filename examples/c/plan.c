@@ -1,5 +1,5 @@
-/* Plans 1 + 2x + 3x^2 + 4x^3 + 5x^4, prints the plan, walks it at 2 modulo 100 and prints the remainder. Then every other call once, and refusals.
- * It exits with 1 if an answer is not the one expected. Valid C99 and C++. */
+/* Plans 1 + 2x + 3x^2 + 4x^3 + 5x^4, prints the plan, walks it at 2 modulo 100 and prints the remainder, weighs its heaviest chain and prints the
+ * weight. Then every other call once, and refusals. It exits with 1 if an answer is not the one expected. Valid C99 and C++. */
 #include "firrozun.h"
 
 #include <stdio.h>
@@ -39,7 +39,7 @@ static void print_plan(firrozun_head head, const int64_t *out, const uint16_t *b
     }
 }
 
-/* The plan of five coefficients, and its walk. */
+/* The plan of five coefficients, its walk, and its heaviest chain. */
 static void plan_and_walk(void) {
     static const int64_t c[5] = {1, 2, 3, 4, 5};
     static const uint16_t expected_bounds[2] = {4, 5};
@@ -64,14 +64,23 @@ static void plan_and_walk(void) {
     firrozun_trial trial = firrozun_trial_walk(head, out, head.coefficients, bounds, head.lists, steps, 4 * head.steps, 2, 100);
     expect(trial.refusal == FIRROZUN_ACCEPTED && trial.remainder == 29, "the walk");
     printf("at 2 modulo 100: %llu\n", (unsigned long long)trial.remainder);
+    firrozun_chain chain = firrozun_heaviest_chain(head, out, head.coefficients, bounds, head.lists, steps, 4 * head.steps, 30, 20);
+    expect(chain.refusal == FIRROZUN_ACCEPTED && chain.weight == 80, "the heaviest chain");
+    printf("heaviest chain at scales 30 and 20: %llu\n", (unsigned long long)chain.weight);
 
     trial = firrozun_trial_walk(head, out, 5, bounds, 2, steps, 24, 2, 1);
     expect(trial.refusal == FIRROZUN_REFUSAL_MODULUS && trial.remainder == 0, "modulus 1");
     trial = firrozun_trial_walk(head, out, 5, bounds, 2, steps, 20, 2, 100);
     expect(trial.refusal == FIRROZUN_REFUSAL_UNWALKABLE, "a step too few");
+    chain = firrozun_heaviest_chain(head, out, 5, bounds, 2, steps, 20, 65536, 20);
+    expect(chain.refusal == FIRROZUN_REFUSAL_SCALE && chain.weight == 0, "a chain with a scale of 65,536");
+    chain = firrozun_heaviest_chain(head, out, 5, bounds, 2, steps, 20, 30, 20);
+    expect(chain.refusal == FIRROZUN_REFUSAL_UNWALKABLE && chain.weight == 0, "a chain with a step too few");
     head.transform = 5;
     trial = firrozun_trial_walk(head, out, 5, bounds, 2, steps, 24, 2, 100);
     expect(trial.refusal == FIRROZUN_REFUSAL_UNKNOWN_KIND && trial.remainder == 0, "an unknown transform");
+    chain = firrozun_heaviest_chain(head, out, 5, bounds, 2, steps, 24, 65536, 20);
+    expect(chain.refusal == FIRROZUN_REFUSAL_UNKNOWN_KIND && chain.weight == 0, "a chain with an unknown transform");
 }
 
 /* Refusals of the plan call leave every buffer as it was, beyond the length that is lent too. */

@@ -390,6 +390,41 @@ pub fn trial_walk(
     Ok(answer.remainder)
 }
 
+/// Weighs the heaviest chain of a plan, for the bit scales of the input and of the coefficients: the greatest weight over all paths of
+/// multiplications that end in the plan's value.
+///
+/// A multiplication of two encrypted numbers weighs the input scale, one of an encrypted number and a plain one the coefficient scale.
+/// Those of a list and of the transform count too. The weight is exact up to 2^47 steps, more than a memory holds.
+///
+/// Any head and any buffers may be handed in, damaged ones too.
+///
+/// Refused: 10 for a scale above 65,535, then 24 for a plan that cannot be walked.
+///
+/// ```
+/// use firrozun::{buffers::heaviest_chain, Plan, Refusal};
+/// use firrozun::{Basis, Parity, SplitStrategy};
+/// let plan = Plan::new(Basis::Monomial, &[1, 2, 3, 4, 5], Parity::Full, SplitStrategy::MinDepth, false)?;
+/// let weigh = |steps: &[u16], input| {
+///     heaviest_chain(plan.head(), plan.coefficients(), plan.boundaries(), steps, input, 20)
+/// };
+/// assert_eq!(weigh(plan.step_numbers(), 30), Ok(80)); // powers 2 and 4, then times the plain 5
+/// assert_eq!(weigh(&[], 30), Err(Refusal::Unwalkable));
+/// assert_eq!(weigh(&[], 65_536), Err(Refusal::Scale));
+/// # Ok::<(), Refusal>(())
+/// ```
+pub fn heaviest_chain(
+    head: &Head,
+    coefficients: &[i64],
+    boundaries: &[u16],
+    steps: &[u16],
+    input: usize,
+    coeff: usize,
+) -> Result<u64, Refusal> {
+    let answer = ffi::heaviest_chain(head.to_c(), coefficients, boundaries, steps, input, coeff);
+    Refusal::test(answer.refusal)?;
+    Ok(answer.weight)
+}
+
 /// Writes the Chebyshev coefficients of the polynomial through nodes and values into `out`. Both come for k = n down to 1; poulpy's
 /// nodes are cos((k − 1/2)·π/n), and any are taken.
 ///

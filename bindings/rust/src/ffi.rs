@@ -128,6 +128,13 @@ pub struct CTrial {
     pub remainder: u64,
 }
 
+#[repr(C)]
+#[derive(Clone, Copy, Debug, PartialEq)]
+pub struct CChain {
+    pub refusal: u8,
+    pub weight: u64,
+}
+
 extern "C" {
     fn firrozun_split_degree(n: usize) -> CParts;
     fn firrozun_min_depth_split(degree: usize) -> CSplit;
@@ -219,6 +226,17 @@ extern "C" {
         point: i64,
         modulus: u64,
     ) -> CTrial;
+    fn firrozun_heaviest_chain(
+        head: CHead,
+        coefficients: *const i64,
+        coefficients_len: usize,
+        bounds: *const u16,
+        bounds_len: usize,
+        steps: *const u16,
+        steps_len: usize,
+        input: usize,
+        coeff: usize,
+    ) -> CChain;
 }
 
 pub fn split_degree(n: usize) -> CParts {
@@ -396,6 +414,31 @@ pub fn trial_walk(
             steps.len(),
             point,
             modulus,
+        )
+    }
+}
+
+pub fn heaviest_chain(
+    head: CHead,
+    coefficients: &[i64],
+    bounds: &[u16],
+    steps: &[u16],
+    input: usize,
+    coeff: usize,
+) -> CChain {
+    // SAFETY: pointers and lengths are those of three slices that live through the call, which only reads them; the head is
+    // passed by value, and any head may be.
+    unsafe {
+        firrozun_heaviest_chain(
+            head,
+            coefficients.as_ptr(),
+            coefficients.len(),
+            bounds.as_ptr(),
+            bounds.len(),
+            steps.as_ptr(),
+            steps.len(),
+            input,
+            coeff,
         )
     }
 }

@@ -1,6 +1,6 @@
 //! A plan with memory of its own, and its steps.
 
-use crate::buffers::{plan_into, plan_sizes, trial_walk, Head, PlanBuffers};
+use crate::buffers::{heaviest_chain, plan_into, plan_sizes, trial_walk, Head, PlanBuffers};
 use crate::kinds::{Basis, Parity, SplitStrategy};
 use crate::refusal::Refusal;
 
@@ -179,6 +179,36 @@ impl Plan {
             &self.steps,
             point,
             modulus,
+        )
+    }
+
+    /// The weight of the plan's heaviest chain, for the bit scales of the input and of the coefficients: the greatest over all paths of
+    /// multiplications that end in the polynomial's value, those of the transform too.
+    ///
+    /// A multiplication of two encrypted numbers weighs the input scale, one of an encrypted number and a plain one the coefficient
+    /// scale.
+    ///
+    /// Refused: 10 for a scale above 65,535.
+    ///
+    /// ```
+    /// use firrozun::{Basis, Parity, Plan, Refusal, SplitStrategy};
+    /// let plan = Plan::new(Basis::Chebyshev, &[0, 1, 0, 2], Parity::Odd, SplitStrategy::MinMult, true)?;
+    /// assert_eq!(plan.heaviest_chain(40, 30), Ok(110)); // 2x² − 1, times the plain 4, times x
+    /// assert_eq!(plan.heaviest_chain(65_536, 30), Err(Refusal::Scale));
+    /// # Ok::<(), Refusal>(())
+    /// ```
+    pub fn heaviest_chain(
+        &self,
+        input_scale: usize,
+        coefficient_scale: usize,
+    ) -> Result<u64, Refusal> {
+        heaviest_chain(
+            &self.head,
+            &self.coefficients,
+            &self.boundaries,
+            &self.steps,
+            input_scale,
+            coefficient_scale,
         )
     }
 }

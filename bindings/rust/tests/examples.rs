@@ -79,6 +79,8 @@ fn odd_chebyshev_fold() {
             (1, 2, 3)
         );
         assert_eq!(plan.walk(2, 1000), Ok(54));
+        // 2x² − 1, times the plain 4, times x.
+        assert_eq!(plan.heaviest_chain(40, 30), Ok(40 + 30 + 40));
     }
 }
 
@@ -131,6 +133,8 @@ fn the_plan_of_the_picture() {
     ];
     assert_eq!(plan.steps().collect::<Vec<_>>(), steps);
     assert_eq!(plan.walk(2, 100), Ok(29));
+    // Powers 2 and 4, then times the plain 5.
+    assert_eq!(plan.heaviest_chain(30, 20), Ok(80));
     assert_eq!(
         trial_walk(
             &head,

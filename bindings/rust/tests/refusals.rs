@@ -7,8 +7,8 @@ mod common;
 
 use common::{BASES, PARITIES, STRATEGIES};
 use firrozun::buffers::{
-    chebyshev_interpolate_into, decompose_bsgs_into, fold_parity_into, plan_into, trial_walk,
-    PlanBuffers,
+    chebyshev_interpolate_into, decompose_bsgs_into, fold_parity_into, heaviest_chain, plan_into,
+    trial_walk, PlanBuffers,
 };
 use firrozun::Basis::{Chebyshev, Monomial};
 use firrozun::Parity::{Even, Full, Odd};
@@ -243,6 +243,18 @@ fn refusal_10_scales() {
     let bsgs = bsgs.expect("a fold of degree 1");
     assert_eq!(number(bsgs.consumed_bits(usize::MAX, 1)), 10);
     assert_eq!(bsgs.consumed_bits(65_535, 65_535), Ok(2 * 65_535));
+    let plan = polynomial(Monomial, &[1, 2, 3], Full)
+        .plan(MinDepth)
+        .expect("a plan");
+    for (input, coeff) in [(65_536, 0), (0, 65_536), (usize::MAX, usize::MAX)] {
+        assert_eq!(number(plan.heaviest_chain(input, coeff)), 10);
+        // 10 is tested ahead of 24.
+        assert_eq!(
+            number(heaviest_chain(plan.head(), &[], &[], &[], input, coeff)),
+            10
+        );
+    }
+    assert_eq!(plan.heaviest_chain(65_535, 65_535), Ok(2 * 65_535));
 }
 
 #[test]
@@ -381,14 +393,19 @@ fn refusal_24_a_plan_that_cannot_be_walked() {
         .plan(MinDepth)
         .expect("a plan");
     let walk = |head: &Head, boundaries: &[u16], steps: &[u16]| {
-        number(trial_walk(
+        let coefficients = plan.coefficients();
+        let walked = number(trial_walk(head, coefficients, boundaries, steps, 2, 100));
+        // The heaviest chain is refused for the same reasons.
+        let weighed = number(heaviest_chain(
             head,
-            plan.coefficients(),
+            coefficients,
             boundaries,
             steps,
-            2,
-            100,
-        ))
+            30,
+            20,
+        ));
+        assert_eq!(weighed, walked);
+        walked
     };
     let (head, boundaries, steps) = (*plan.head(), plan.boundaries(), plan.step_numbers());
     assert_eq!(walk(&head, boundaries, steps), 0);

@@ -3,7 +3,7 @@
 mod common;
 
 use common::{allows, value, Numbers, BASES, PARITIES, STRATEGIES};
-use firrozun::buffers::{plan_into, trial_walk, PlanBuffers};
+use firrozun::buffers::{heaviest_chain, plan_into, trial_walk, PlanBuffers};
 use firrozun::buffers::{BOUNDARY_ROOM, COEFFICIENT_ROOM, STEP_ROOM};
 use firrozun::{Basis, Parity, Plan, Polynomial, Refusal, SplitStrategy, Step};
 
@@ -218,6 +218,16 @@ fn lent_buffers_hold_the_same_plans() {
             ),
             Ok(value(basis, &coeffs, point, 2_147_483_647))
         );
+        let weight = heaviest_chain(
+            &head,
+            &coefficient_buffer,
+            &boundary_buffer,
+            &step_buffer,
+            30,
+            20,
+        );
+        assert_eq!(weight, plan.heaviest_chain(30, 20));
+        assert!(weight.is_ok());
     }
     assert_eq!(coefficient_buffer[200..], vec![-7; COEFFICIENT_ROOM - 200]);
 }
@@ -259,14 +269,17 @@ fn any_head_and_buffers_are_answered() {
                 }
             }
         }
+        let weight = heaviest_chain(&head, &coefficients, &boundaries, &steps, 30, 20);
         let point = numbers.next() as i64;
         match trial_walk(&head, &coefficients, &boundaries, &steps, point, 1_000_003) {
             Ok(remainder) => {
                 assert!(remainder < 1_000_003);
+                assert!(weight.is_ok());
                 walked += 1;
             }
             Err(refusal) => {
                 assert_eq!(refusal, Refusal::Unwalkable);
+                assert_eq!(weight, Err(refusal));
                 refused += 1;
             }
         }

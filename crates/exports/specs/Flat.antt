@@ -11,6 +11,7 @@ use Rattle.counts.specs.declared.depth.EvalDepth.{EvalDepth}
 use Rattle.counts.specs.declared.consumed.ConsumedBits.{ConsumedBits}
 use Rattle.lists.specs.declared.call.Listed.{Listed}
 use Rattle.walk.specs.declared.call.Trial.{Trial}
+use Rattle.walk.specs.declared.chain.Chain.{Chain}
 use Rattle.plan.specs.declared.sizes.PlanSizes.{PlanSizes}
 use Rattle.exports.specs.declared.flat.CParts.{CParts}
 use Rattle.exports.specs.declared.flat.CSplit.{CSplit}
@@ -23,6 +24,7 @@ use Rattle.exports.specs.declared.flat.CInterpolated.{CInterpolated}
 use Rattle.exports.specs.declared.flat.CListed.{CListed}
 use Rattle.exports.specs.declared.flat.CSizes.{CSizes}
 use Rattle.exports.specs.declared.flat.CTrial.{CTrial}
+use Rattle.exports.specs.declared.flat.CChain.{CChain}
 
 abbrev pub flatParts : Parts → CParts
 flatParts r = record { refusal = r .refusal; a = r .a; b = r .b }
@@ -64,3 +66,6 @@ flatSizes r = record { refusal = r .refusal; coefficients = r .coefficients; lis
 
 abbrev pub flatTrial : Trial → CTrial
 flatTrial r = record { refusal = r .refusal; remainder = r .remainder }
+
+abbrev pub flatChain : Chain → CChain
+flatChain r = record { refusal = r .refusal; weight = r .weight }

@@ -1,4 +1,5 @@
--- Every head is shown by a head of numbers that is known and means it: what the plan call answers, the trial walk takes as it was meant.
+-- Every head is shown by a head of numbers that is known and means it: what the plan call answers, the trial walk and the heaviest chain take as it
+-- was meant.
 use mathlib.Core.Path.{_≡_}
 use mathlib.Core.Bool.{true}
 use Rattle.walk.specs.declared.plan.Head.{Head}

@@ -1,5 +1,5 @@
--- The plan call and the trial walk, for C: each is its call's own answer, flat, with its own buffers; or refusal 43 with zeros, and the buffers
--- unchanged.
+-- The plan call, the trial walk and the heaviest chain, for C: each is its call's own answer, flat, with its own buffers; or refusal 43 with zeros,
+-- and the buffers unchanged.
 use mathlib.Core.Path.{_≡_}
 use mathlib.Core.Bool.{Bool}
 use mathlib.Core.List.{List}
@@ -9,12 +9,14 @@ use Rattle.algebra.specs.declared.Basis.{Basis}
 use Rattle.algebra.specs.declared.Parity.{Parity}
 use Rattle.counts.specs.declared.choice.SplitStrategy.{SplitStrategy}
 use Rattle.walk.specs.Trial.{trialOf, noTrial}
+use Rattle.walk.specs.Chain.{chainOf, noChain}
 use Rattle.plan.specs.PlanCall.{planAnswer, planCoefficients, planBoundaries, planNumbers}
 use Rattle.exports.specs.Kinds.{foldNumbered, strategyNumbered, parityNumbered, basisNumbered, knowsSettings}
 use Rattle.exports.specs.Unknown.{unknownKind, whenKnown}
-use Rattle.exports.specs.Flat.{flatTrial}
+use Rattle.exports.specs.Flat.{flatTrial, flatChain}
 use Rattle.exports.specs.Heads.{headMeant, knowsHead, flatPlanned, noPlan}
 use Rattle.exports.specs.declared.flat.CTrial.{CTrial}
+use Rattle.exports.specs.declared.flat.CChain.{CChain}
 use Rattle.exports.specs.declared.head.CHead.{CHead}
 use Rattle.exports.specs.declared.head.CPlanned.{CPlanned}
 
@@ -38,3 +40,10 @@ trialFlat head coefficients bounds steps point modulus =
     whenKnown (knowsHead head)
     (flatTrial (trialOf (headMeant head) coefficients bounds steps point modulus))
     (flatTrial (noTrial unknownKind))
+
+-- the chain is of the head that is meant
+abbrev pub chainFlat : CHead → (coefficients : List ℤ) → (bounds steps : List ℕ) → (input coeff : ℕ) → CChain
+chainFlat head coefficients bounds steps input coeff =
+    whenKnown (knowsHead head)
+    (flatChain (chainOf (headMeant head) coefficients bounds steps input coeff))
+    (flatChain (noChain unknownKind))

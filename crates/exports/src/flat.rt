@@ -1,4 +1,5 @@
 // Answers as structs of numbers, for C.
+use firrozun::Chain;
 use firrozun::ConsumedBits;
 use firrozun::EvalDepth;
 use firrozun::Folded;
@@ -14,7 +15,7 @@ use firrozun::parity_number;
 use firrozun::transform_number;
 ghost use mathlib.Core.Path.{_≡_};
 ghost use Rattle.exports.specs.Flat.{flatParts, flatSplit, flatCounts, flatDepth, flatBits, flatFolded, flatInterval, flatInterpolated};
-ghost use Rattle.exports.specs.Flat.{flatListed, flatSizes, flatTrial};
+ghost use Rattle.exports.specs.Flat.{flatListed, flatSizes, flatTrial, flatChain};
 
 #[repr(C)]
 pub struct CParts {
@@ -105,6 +106,12 @@ pub struct CSizes {
 pub struct CTrial {
     pub refusal: u8,
     pub remainder: u64,
+}
+
+#[repr(C)]
+pub struct CChain {
+    pub refusal: u8,
+    pub weight: u64,
 }
 
 pub fn flat_parts(parts: Parts) -> CParts
@@ -224,5 +231,14 @@ pub fn flat_trial(answer: Trial) -> CTrial
     CTrial {
         refusal: answer.refusal,
         remainder: answer.remainder,
+    }
+}
+
+pub fn flat_chain(answer: Chain) -> CChain
+    ensures { λ r. ⌜ r ≡ flatChain answer ⌝ }
+{
+    CChain {
+        refusal: answer.refusal,
+        weight: answer.weight,
     }
 }

@@ -1,5 +1,7 @@
-// The plan call and the trial walk.
+// The plan call, the trial walk and the heaviest chain.
+use super::flat::CChain;
 use super::flat::CTrial;
+use super::flat::flat_chain;
 use super::flat::flat_trial;
 use super::head::CHead;
 use super::head::CPlanned;
@@ -12,10 +14,11 @@ use super::kinds::fold_of;
 use super::kinds::knows_settings;
 use super::kinds::parity_of;
 use super::kinds::strategy_of;
+use firrozun::heaviest_chain;
 use firrozun::plan;
 use firrozun::trial_walk;
 ghost use mathlib.Core.Path.{_≡_};
-ghost use Rattle.exports.specs.Planning.{PlanFlat, trialFlat};
+ghost use Rattle.exports.specs.Planning.{PlanFlat, trialFlat, chainFlat};
 
 #[no_mangle]
 pub extern "C" fn firrozun_plan(
@@ -64,4 +67,24 @@ pub extern "C" fn firrozun_trial_walk(
         };
     }
     flat_trial(trial_walk(head_of(head), coefficients, bounds, steps, point, modulus))
+}
+
+#[no_mangle]
+pub extern "C" fn firrozun_heaviest_chain(
+    head: CHead,
+    coefficients: &[i64],
+    bounds: &[u16],
+    steps: &[u16],
+    input: usize,
+    coeff: usize,
+) -> CChain
+    ensures { λ r. ⌜ r ≡ chainFlat head (now (coefficients .entry)) (now (bounds .entry)) (now (steps .entry)) input coeff ⌝ }
+{
+    if !knows_head(head) {
+        return CChain {
+            refusal: 43,
+            weight: 0,
+        };
+    }
+    flat_chain(heaviest_chain(head_of(head), coefficients, bounds, steps, input, coeff))
 }

@@ -125,7 +125,7 @@ fn unknown_kinds_in_the_calls_on_coefficients() {
 }
 
 #[test]
-fn unknown_kinds_in_sizes_plan_and_walk() {
+fn unknown_kinds_in_sizes_plan_walk_and_chain() {
     let none = CPlanned {
         refusal: 43,
         head: NO_HEAD,
@@ -158,43 +158,48 @@ fn unknown_kinds_in_sizes_plan_and_walk() {
     }
     assert_eq!((out, bounds, steps), ([9; 8], [9; 8], [9; 64]));
 
-    let refused = CTrial {
+    let no_value = CTrial {
         refusal: 43,
         remainder: 0,
     };
-    let walked = |head| trial_walk(head, &[1], &[1], &[2, 0, 0, 0], 2, 100);
+    let no_weight = CChain {
+        refusal: 43,
+        weight: 0,
+    };
+    let refused = |head| {
+        let (coefficients, bounds, steps) = ([1], [1], [2, 0, 0, 0]);
+        assert_eq!(
+            trial_walk(head, &coefficients, &bounds, &steps, 2, 100),
+            no_value
+        );
+        // Scales that are accepted, and one that is refused too: 43 comes first.
+        for input in [30, 65_536] {
+            assert_eq!(
+                heaviest_chain(head, &coefficients, &bounds, &steps, input, 20),
+                no_weight
+            );
+        }
+    };
     for n in unknown(2) {
-        assert_eq!(
-            walked(CHead {
-                basis: n,
-                ..NO_HEAD
-            }),
-            refused
-        );
-        assert_eq!(
-            walked(CHead {
-                strategy: n,
-                ..NO_HEAD
-            }),
-            refused
-        );
+        refused(CHead {
+            basis: n,
+            ..NO_HEAD
+        });
+        refused(CHead {
+            strategy: n,
+            ..NO_HEAD
+        });
     }
     for n in unknown(3) {
-        assert_eq!(
-            walked(CHead {
-                parity: n,
-                ..NO_HEAD
-            }),
-            refused
-        );
+        refused(CHead {
+            parity: n,
+            ..NO_HEAD
+        });
     }
     for n in unknown(5) {
-        assert_eq!(
-            walked(CHead {
-                transform: n,
-                ..NO_HEAD
-            }),
-            refused
-        );
+        refused(CHead {
+            transform: n,
+            ..NO_HEAD
+        });
     }
 }
