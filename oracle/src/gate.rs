@@ -5,7 +5,7 @@ use std::path::Path;
 
 use crate::calls::{BASES, Basis, Form, PARITIES, Parity, STRATEGIES, SplitStrategy};
 use crate::inputs::*;
-use crate::{Rec, damaged, printed, recording};
+use crate::{Rec, chains, damaged, printed, recording};
 
 const SEED: u64 = 1;
 const MAX_POINT: i64 = 999_999_999_999_999_999;
@@ -38,6 +38,7 @@ pub fn record(dir: &Path) {
         damaged::plans(r);
     });
     printed::record(dir);
+    chains::record(dir);
 }
 
 /// Every part starts from a seed of its own, so a change of one leaves the others alone.

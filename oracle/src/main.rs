@@ -6,6 +6,8 @@ mod bench;
 #[cfg(feature = "both")]
 mod both;
 mod calls;
+mod chain;
+mod chains;
 mod curves;
 mod damaged;
 mod gate;
@@ -46,8 +48,11 @@ fn main() {
         ["curves", count, seed] => {
             curves::write(number(count), number(seed), stdout().lock()).expect("lines")
         }
+        ["chains"] => chains::write(BufWriter::new(stdout().lock())).expect("lines"),
         #[cfg(feature = "both")]
         ["both", count, seed] => both::compare(number(count), number(seed)),
+        #[cfg(feature = "both")]
+        ["heaviest", count, seed] => both::chains::compare(number(count), number(seed)),
         #[cfg(feature = "both")]
         ["bench", rounds, seed] => bench::run(number(rounds) as usize, number(seed)),
         ["degrees", seed] => {
@@ -74,6 +79,8 @@ fn usage() -> ! {
     eprintln!("usage: oracle gate DIR | oracle large DIR COUNT SEED");
     eprintln!("       oracle lines < LINES | oracle curves COUNT SEED | oracle walks < LINES");
     eprintln!("       oracle degrees SEED | oracle since [--moved] BEFORE AFTER");
-    eprintln!("       oracle both COUNT SEED | oracle bench ROUNDS SEED (with the feature both)");
+    eprintln!("       oracle chains");
+    eprintln!("       oracle both COUNT SEED | oracle heaviest COUNT SEED (with the feature both)");
+    eprintln!("       oracle bench ROUNDS SEED (with the feature both)");
     std::process::exit(2)
 }

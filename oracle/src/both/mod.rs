@@ -1,6 +1,8 @@
 //! The published planner and the proved library in one process: the same calls to both, answer against answer.
 
 mod call;
+pub mod chains;
+mod lent;
 mod ours;
 mod random;
 mod rules;

@@ -12,7 +12,9 @@ put-setting-requires c κs = search needs
 put-number-field-requires : tie.Need-put-number-field-requires
 put-number-field-requires c κs =
     let setting = c .before .before .before in
-    let few = decimal-few 19 (setting .before .before .before .args .chain) (omega arith) in
+    let a = setting .before .before .before .args in
+    let few = decimal-few 19 (a .chain) (omega arith) in
+    let few-bits = decimal-few 19 (a .bits) (omega arith) in
     omega (arith, setting .put-setting .ensures .1)
 
 put-number-field-requires-2 : tie.Need-put-number-field-requires-2
