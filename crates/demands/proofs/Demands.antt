@@ -6,7 +6,8 @@ use Rattle.demands.proofs.MadeBefore.{runs-made-before, plans-made-befo
 use Rattle.demands.proofs.Counted.{plans-report, transform-costs}
 use Rattle.demands.proofs.PlainStep.{plans-plain}
 use Rattle.demands.proofs.Estimated.{plans-estimated}
-use Rattle.demands.proofs.Total.{plans-total, plans-made, plan-order, folds-total, lists-total, trials-total, interpolations-total, numbers-total}
+use Rattle.demands.proofs.Total.{plans-total, plans-made, plan-order, folds-total, lists-total, trials-total, chains-total, interpolations-total}
+use Rattle.demands.proofs.Total.{numbers-total}
 use Rattle.demands.proofs.Equal.{published, floats-equal, plans-equal}
 use Rattle.demands.proofs.HeadTold.{heads-told}
 use Rattle.demands.proofs.Fits.{plans-fit}
@@ -19,6 +20,7 @@ total = record {
   folds-total = folds-total;
   lists-total = lists-total;
   trials-total = trials-total;
+  chains-total = chains-total;
   interpolations-total = interpolations-total;
   numbers-total = numbers-total;
 }

@@ -19,4 +19,5 @@ pub mod Equal
 pub mod Starred
 pub mod Demands
 pub mod Sized
+pub mod Weighed
 pub mod Requests

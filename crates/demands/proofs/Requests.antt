@@ -1,9 +1,14 @@
 -- The requests that have landed are met: each statement by the theorem of its name.
-use Rattle.demands.specs.Requests.{BufferSizes, LastConstant, Requests}
+use Rattle.demands.specs.Requests.{BufferSizes, LastConstant, PlanChains, Requests}
+use Rattle.walk.proofs.Paths.{heaviest-greatest}
+use Rattle.walk.proofs.StepsWeigh.{steps-weigh}
+use Rattle.walk.proofs.UnusedPower.{unused-left-out}
+use Rattle.walk.proofs.HeaviestChain.{heaviest-chain}
 use Rattle.demands.proofs.Sized.{plans-sized, sizes-order}
 use Rattle.demands.proofs.PlainStep.{plans-plain}
 use Rattle.demands.proofs.Estimated.{plans-estimated, cheaper-reported}
 use Rattle.demands.proofs.StoredEarlier.{earlier-right}
+use Rattle.demands.proofs.Weighed.{stored-weighed, plans-weighed, chain-order}
 
 pub buffer-sizes : BufferSizes
 buffer-sizes = record { plans-sized = plans-sized; sizes-order = sizes-order }
@@ -16,5 +21,16 @@ last-constant = record {
   earlier-right = earlier-right;
 }
 
+pub plan-chains : PlanChains
+plan-chains = record {
+  steps-weigh = steps-weigh;
+  heaviest-greatest = heaviest-greatest;
+  heaviest-chain = heaviest-chain;
+  unused-left-out = unused-left-out;
+  stored-weighed = stored-weighed;
+  plans-weighed = plans-weighed;
+  chain-order = chain-order;
+}
+
 pub requests : Requests
-requests = record { buffer-sizes = buffer-sizes; last-constant = last-constant }
+requests = record { buffer-sizes = buffer-sizes; last-constant = last-constant; plan-chains = plan-chains }

@@ -17,7 +17,7 @@ use Rattle.algebra.specs.declared.Parity.{Parity}
 use Rattle.algebra.specs.declared.Parity.the-variants.{Full}
 use Rattle.number.specs.Bits.{bitLen, isPowerOfTwo}
 use Rattle.number.specs.FoldCall.{foldTests, foldRefusal, foldAnswer, foldBuffer}
-use Rattle.number.specs.Limits.{planLimit, degreeLimit}
+use Rattle.number.specs.Limits.{planLimit, degreeLimit, scaleLimit}
 use Rattle.number.specs.Refusal.{Test, firstRefusal, unlessRefused, Numbered}
 use Rattle.number.specs.Split.{partsBy, partsOf, noParts, splitRefusal, splitOf}
 use Rattle.number.specs.Tests.{noDegree, tooHigh, unordered, miscounted, outOfRange, tooWide, noRoom}
@@ -46,8 +46,14 @@ use Rattle.walk.specs.Options.{missing, image}
 use Rattle.walk.specs.Lent.{exactWalk}
 use Rattle.walk.specs.Trial.{trialTests, trialRefusal, trialOf}
 use Rattle.walk.specs.declared.plan.Head.{Head}
+use Rattle.walk.specs.Chain.{answerMade, chainTests, chainRefusal, chainOf}
+use Rattle.walk.specs.HeaviestChain.{GreatestOfAnswer}
 use Rattle.walk.specs.declared.call.Trial.{Trial}
+use Rattle.walk.specs.declared.chain.Chain.{Chain}
+use Rattle.walk.proofs.Options.{missing-some}
 use Rattle.walk.proofs.TrialFollows.{trial-follows}
+use Rattle.walk.proofs.Paths.{heaviest-greatest}
+use Rattle.walk.proofs.ChainLaws.{one-made}
 use Rattle.plan.specs.PlanHead.{noHead}
 use Rattle.plan.specs.PlanCall.{plannedParity, settingsTests, inputTests, planTests, planRefusal, planAnswer, planCoefficients, planBoundaries}
 use Rattle.plan.specs.PlanCall.{planNumbers, PlanCall}
@@ -55,7 +61,7 @@ use Rattle.plan.specs.PlanSizes.{degreeToPlan, sizesOf, noSizes, sizesRefusal, 
 use Rattle.plan.specs.declared.call.Planned.{Planned}
 use Rattle.plan.specs.declared.sizes.PlanSizes.{PlanSizes}
 use Rattle.demands.specs.Total.{Ends, answers, refuses, ZeroHead, PlansTotal, PlansMade, PlanOrder, FoldsTotal, ListsTotal, TrialAnswered}
-use Rattle.demands.specs.Total.{TrialsTotal, InterpolationsTotal, NumbersTotal}
+use Rattle.demands.specs.Total.{TrialsTotal, ChainsTotal, InterpolationsTotal, NumbersTotal}
 use Rattle.plan.proofs.PlanTests.{settings-numbered, inputs-numbered}
 use Rattle.demands.proofs.Refusals.{refusal-of, lateTests, plan-made, made-accepted, made-long}
 use Rattle.demands.proofs.Right.{plans-right}
@@ -218,6 +224,36 @@ trials-total head coefficients bounds steps point modulus =
     ends (trialTests head coefficients bounds steps point modulus) (trialOf head coefficients bounds steps point modulus .refusal)
     (omega arith, (omega arith, tt)) refusal (λ accepted. trial-answered head coefficients bounds steps point modulus (sym refusal ∙ accepted))
     (λ refused. trial-zero head coefficients bounds steps point modulus (rw refusal at refused))
+
+-- ---- the heaviest chain
+
+module _ (head : Head) (coefficients : List ℤ) (bounds steps : List ℕ) (input coeff : ℕ) where
+  chain-refusal-is : chainOf head coefficients bounds steps input coeff .refusal ≡ chainRefusal head coefficients bounds steps input coeff
+  unfolding chainOf
+  chain-refusal-is = refusal-of (chainRefusal head coefficients bounds steps input coeff) _ _ (λ (t : Chain). t .refusal) refl refl
+
+  chain-zero : 0 < chainRefusal head coefficients bounds steps input coeff → chainOf head coefficients bounds steps input coeff .weight ≡ 0
+  unfolding chainOf
+  chain-zero some-test = ap (λ (t : Chain). t .weight) (sym (when-refused (chainRefusal head coefficients bounds steps input coeff) _ _ some-test))
+
+  chain-answered : chainRefusal head coefficients bounds steps input coeff ≡ 0
+      → GreatestOfAnswer head coefficients bounds steps input coeff (chainOf head coefficients bounds steps input coeff .weight)
+  unfolding chainRefusal
+  chain-answered passed =
+      let tests = none-holds (chainTests head coefficients bounds steps input coeff) (omega arith, (omega arith, (omega arith, tt))) passed in
+      let there = missing-some (answerMade head coefficients bounds steps input coeff) (tests .1 .1 .0) in
+      rw (← one-made head coefficients bounds steps input coeff (ltb-false scaleLimit input (tests .0)) (ltb-false scaleLimit coeff (tests .1 .0))
+      (there .value) (there .is))
+      (record { answer = there .value; made = there .is; greatest = heaviest-greatest (there .value) })
+
+pub chains-total : ChainsTotal
+unfolding chainRefusal
+chains-total head coefficients bounds steps input coeff =
+    let refusal = chain-refusal-is head coefficients bounds steps input coeff in
+    ends (chainTests head coefficients bounds steps input coeff) (chainOf head coefficients bounds steps input coeff .refusal)
+    (omega arith, (omega arith, (omega arith, tt))) refusal
+    (λ accepted. chain-answered head coefficients bounds steps input coeff (sym refusal ∙ accepted))
+    (λ refused. chain-zero head coefficients bounds steps input coeff (rw refusal at refused))
 
 -- ---- interpolation
 

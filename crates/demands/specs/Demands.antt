@@ -13,7 +13,8 @@ use Rattle.demands.specs.MadeBefore.{PlansMadeBefore, RunsMadeBefore}
 use Rattle.demands.specs.Counted.{PlansReport, TransformCosts}
 use Rattle.demands.specs.PlainStep.{PlansPlain}
 use Rattle.demands.specs.Estimated.{PlansEstimated}
-use Rattle.demands.specs.Total.{PlansTotal, PlansMade, PlanOrder, FoldsTotal, ListsTotal, TrialsTotal, InterpolationsTotal, NumbersTotal}
+use Rattle.demands.specs.Total.{PlansTotal, PlansMade, PlanOrder, FoldsTotal, ListsTotal, TrialsTotal, ChainsTotal, InterpolationsTotal}
+use Rattle.demands.specs.Total.{NumbersTotal}
 use Rattle.demands.specs.Equal.{Published, FloatsEqual, PlansEqual}
 use Rattle.demands.specs.HeadTold.{HeadsTold}
 use Rattle.demands.specs.Fits.{PlansFit}
@@ -30,6 +31,7 @@ pub record Total : Type 1 where
   pub folds-total : (A : Type 0) → FoldsTotal A
   pub lists-total : (A : Type 0) → ListsTotal A
   pub trials-total : TrialsTotal
+  pub chains-total : ChainsTotal
   pub interpolations-total : InterpolationsTotal
   pub numbers-total : NumbersTotal
 

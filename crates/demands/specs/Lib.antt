@@ -12,4 +12,5 @@ pub mod HeadTold
 pub mod Fits
 pub mod Starred
 pub mod Sized
+pub mod Weighed
 pub mod Requests

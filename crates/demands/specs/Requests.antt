@@ -2,10 +2,15 @@
 -- proofs/Requests proves them all.
 use Prim.Native.Nat.{ℕ}
 use Rattle.algebra.specs.declared.Parity.{Parity}
+use Rattle.walk.specs.Paths.{HeaviestGreatest}
+use Rattle.walk.specs.StepsWeigh.{StepsWeigh}
+use Rattle.walk.specs.UnusedPower.{UnusedLeftOut}
+use Rattle.walk.specs.HeaviestChain.{HeaviestChain}
 use Rattle.demands.specs.Sized.{PlansSized, SizesOrder}
 use Rattle.demands.specs.PlainStep.{PlansPlain}
 use Rattle.demands.specs.Estimated.{PlansEstimated, CheaperReported}
 use Rattle.demands.specs.StoredEarlier.{EarlierRight}
+use Rattle.demands.specs.Weighed.{StoredWeighed, PlansWeighed, ChainOrder}
 
 -- Q-1. Buffer sizes before the curve is there.
 pub record BufferSizes : Type 0 where
@@ -27,6 +32,24 @@ pub record LastConstant : Type 0 where
   -- "Stored plans must keep their meaning": those that were stored before, too.
   pub earlier-right : EarlierRight
 
-pub record Requests : Type 0 where
+-- Q-3. Heaviest chain of a plan.
+pub record PlanChains : Type 1 where
+  -- "each ct-ct weighs the input scale, each pt-ct the coefficient scale. A list with any allowed power, and a kind 4 step, cost one pt-ct on their path,
+  -- the step both through its power and through its high value. A list without allowed powers weighs 0. At a combine the low value, and at a Chebyshev
+  -- power step the distance's power, is only added or subtracted and gains no weight. The transform's multiplications weigh the input scale."
+  pub steps-weigh : (input coeff : ℕ) → StepsWeigh input coeff
+  -- "The number equals the greatest weight over all paths that end in the walk's answer, by definition"
+  pub heaviest-greatest : HeaviestGreatest
+  pub heaviest-chain : HeaviestChain
+  -- "a power that nothing uses adds none."
+  pub unused-left-out : (A : Type 0) → UnusedLeftOut A
+  -- The plans that the plan call makes are all weighed.
+  pub stored-weighed : StoredWeighed
+  pub plans-weighed : PlansWeighed
+  -- "The call refuses a scale with 10 and then an unrunnable plan with 24, as already known." That it ends so on any arguments is in specs/Total.
+  pub chain-order : ChainOrder
+
+pub record Requests : Type 1 where
   pub buffer-sizes : BufferSizes
   pub last-constant : LastConstant
+  pub plan-chains : PlanChains

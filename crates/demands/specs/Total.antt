@@ -41,6 +41,8 @@ use Rattle.lists.specs.ListCall.{listTests, ListCall}
 use Rattle.lists.specs.declared.call.Listed.{Listed}
 use Rattle.walk.specs.Lent.{exactWalk}
 use Rattle.walk.specs.Trial.{trialTests, trialOf}
+use Rattle.walk.specs.Chain.{chainTests, chainOf}
+use Rattle.walk.specs.HeaviestChain.{GreatestOfAnswer}
 use Rattle.walk.specs.declared.plan.Head.{Head}
 use Rattle.plan.specs.PlanCall.{plannedParity, settingsTests, Accepted, planTests, PlanCall}
 use Rattle.plan.specs.PlanSizes.{degreeToPlan, sizesOf, noSizes, sizesCall}
@@ -142,6 +144,14 @@ abbrev pub TrialsTotal : Type 0
 TrialsTotal = (head : Head) (coefficients : List ℤ) (bounds steps : List ℕ) (point : ℤ) (modulus : ℕ)
     → Ends (trialTests head coefficients bounds steps point modulus) (trialOf head coefficients bounds steps point modulus .refusal)
     (TrialAnswered head coefficients bounds steps point modulus) (trialOf head coefficients bounds steps point modulus .remainder ≡ 0)
+
+-- the heaviest chain, of any head and buffers at any scales: the greatest weight over all paths that end in the walk's answer, or zero. It writes in
+-- no buffer.
+abbrev pub ChainsTotal : Type 0
+ChainsTotal = (head : Head) (coefficients : List ℤ) (bounds steps : List ℕ) (input coeff : ℕ)
+    → Ends (chainTests head coefficients bounds steps input coeff) (chainOf head coefficients bounds steps input coeff .refusal)
+    (GreatestOfAnswer head coefficients bounds steps input coeff (chainOf head coefficients bounds steps input coeff .weight))
+    (chainOf head coefficients bounds steps input coeff .weight ≡ 0)
 
 -- interpolation, on any nodes, values and interval
 pub record InterpolateRefused (r : Interpolated) (out left : List Float) : Type 0 where

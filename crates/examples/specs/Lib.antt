@@ -3,6 +3,7 @@ pub mod Folding
 pub mod Evaluation
 pub mod Interpolation
 pub mod Walk
+pub mod Chain
 pub mod Plan
 pub mod Lines
 pub mod Texts

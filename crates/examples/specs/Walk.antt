@@ -31,7 +31,7 @@ use Rattle.walk.specs.declared.plan.Head.{Head}
 use Rattle.walk.specs.declared.call.Trial.{Trial}
 
 -- a head that says only what the walk reads
-abbrev head : Parity → Basis → PolynomialInputTransform → (coefficients lists steps : ℕ) → Head
+abbrev pub head : Parity → Basis → PolynomialInputTransform → (coefficients lists steps : ℕ) → Head
 head parity basis transform coefficients lists steps = record {
   basis = basis;
   parity = parity;
@@ -51,23 +51,23 @@ abbrev value : ℕ → Trial
 value v = record { refusal = 0; remainder = v }
 
 -- the steps
-abbrev make : (n a b : ℕ) → Step
+abbrev pub make : (n a b : ℕ) → Step
 make n a b = record { kind = 1; x = n; y = a; z = b }
 
-abbrev load : (i : ℕ) → Step
+abbrev pub load : (i : ℕ) → Step
 load i = record { kind = 2; x = i; y = 0; z = 0 }
 
-abbrev combine : (p : ℕ) → Step
+abbrev pub combine : (p : ℕ) → Step
 combine p = record { kind = 3; x = p; y = 0; z = 0 }
 
-abbrev combinePlain : (p : ℕ) → Step
+abbrev pub combinePlain : (p : ℕ) → Step
 combinePlain p = record { kind = 4; x = p; y = 0; z = 0 }
 
 abbrev other : (kind x y z : ℕ) → Step
 other kind x y z = record { kind = kind; x = x; y = y; z = z }
 
 -- the coefficients 1 to 5 in the lists 1 2 3 4 and 5, walked at 2 modulo 100
-abbrev five : List ℤ
+abbrev pub five : List ℤ
 five = pos 1 ∷ pos 2 ∷ pos 3 ∷ pos 4 ∷ pos 5 ∷ []
 
 abbrev lent : (coefficients lists steps : ℕ) → (bounds buffer : List ℕ) → Trial
@@ -77,10 +77,10 @@ abbrev walk : List Step → Trial
 walk steps = lent 5 2 (length steps) (4 ∷ 5 ∷ []) (flat steps)
 
 -- the nine-line plan: its powers, both lists, and a combine
-abbrev powers : List Step
+abbrev pub powers : List Step
 powers = make 2 1 1 ∷ make 3 1 2 ∷ make 4 2 2 ∷ []
 
-abbrev plan : List Step
+abbrev pub plan : List Step
 plan = powers ++ (load 0 ∷ load 1 ∷ combinePlain 4 ∷ [])
 
 -- ---- values

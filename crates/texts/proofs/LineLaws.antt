@@ -13,7 +13,6 @@ use Rattle.walk.specs.Boundaries.{startOf, endOf, partOf}
 use Rattle.walk.specs.Lent.{stepAt, stepsFrom, lentSteps}
 use Rattle.walk.specs.declared.plan.Head.{Head}
 use Rattle.walk.specs.declared.plan.Step.{Step}
-use Rattle.walk.proofs.FlatSteps.{steps-length}
 use Rattle.lines.specs.Bytes.{letterB, letterG, letterH, letterP, letterQ}
 use Rattle.texts.specs.Text.{numbersLine, listLine}
 use Rattle.texts.specs.PlanText.{headLine, stepLine, linesOf, partsFrom, listsIn, shownSteps}
@@ -30,6 +29,11 @@ unfolding partsFrom
 parts-at c bounds i zero j k h e = absurd (omega arith)
 parts-at c bounds i (suc n) zero k h e = let same : i ≡ k = omega arith in ap (partOf c bounds) same
 parts-at c bounds i (suc n) (suc j) k h e = parts-at c bounds (suc i) n j k (omega arith) (omega arith)
+
+steps-length : (buffer : List ℕ) (i n : ℕ) → length (stepsFrom buffer i n) ≡ n
+unfolding stepsFrom
+steps-length buffer i zero = refl
+steps-length buffer i (suc n) = ap suc (steps-length buffer (suc i) n)
 
 steps-at : (buffer : List ℕ) (d : Step) (i n j k : ℕ) → j < n → k ≡ i + j → getD (stepsFrom buffer i n) j d ≡ stepAt buffer k
 unfolding stepsFrom

@@ -1,5 +1,5 @@
 -- What holds of an answer, if there is one: of what `then` and `when` make, and of the answer once it is known. By cases of what is there.
-use mathlib.Core.Path.{_≡_, subst}
+use mathlib.Core.Path.{_≡_, refl, subst}
 use mathlib.Core.Bool.{Bool, true, false}
 use mathlib.Core.Option.{Option, some, none}
 use Prim.Native.Nat.{ℕ}
@@ -16,8 +16,9 @@ pub all-then : {X Y : Type 0} {P : X → Type 0} {Q : Y → Type 0} {o : Option 
 all-then nothing k = nothing
 all-then (holds {v} p) k = k v p
 
-pub all-when : {X : Type 0} {P : X → Type 0} (t : Bool) {o : Option X} → All P o → All P (when t o)
-all-when true p = p
+-- under a test, which then holds
+pub all-when : {X : Type 0} {P : X → Type 0} (t : Bool) {o : Option X} → (t ≡ true → All P o) → All P (when t o)
+all-when true p = p refl
 all-when false p = nothing
 
 pub all-some : {X : Type 0} {P : X → Type 0} {o : Option X} {v : X} → All P o → o ≡ some v → P v

@@ -1,9 +1,11 @@
 -- The heaviest chain's answer: one law for each way out, by the definition at the tests that were made. The walk over weights is the walk over values
--- with each value's greatest weight, capped, in its place: the carry law, since the rules over weights are those over values.
+-- with each value's greatest weight, capped, in its place: the carry law, since the rules over weights are those over values. The answer's weight is
+-- far below the cap (WeightBound).
 use mathlib.Core.Path.{_≡_, refl, _∙_, ap}
 use mathlib.Core.List.{List}
 use mathlib.Core.Option.{Option, some, none}
-use Prim.Native.Nat.{ℕ, _≤_, _<_}
+use Prim.Native.Nat.{ℕ, _*_, _≤_, _<_}
+use native.Mathlib.Omega.{arith}
 use borrow.Author.Tests.{lt-ltb, le-ltb}
 use lib.IntN.{ℤ, pos}
 use Rattle.number.specs.Limits.{scaleLimit}
@@ -13,12 +15,17 @@ use Rattle.walk.specs.Lent.{lentWalk}
 use Rattle.walk.specs.Values.{Value}
 use Rattle.walk.specs.Paths.{heaviest}
 use Rattle.walk.specs.MadeRules.{valueMaking, madeRules}
-use Rattle.walk.specs.Chain.{capped, noChain, answerMade, chainRefusal, chainOf}
-use Rattle.walk.specs.inside.Weights.{weightMaking}
+use Rattle.walk.specs.Chain.{noChain, answerMade, chainRefusal, chainOf}
+use Rattle.walk.specs.inside.Weights.{capped, weightMaking}
 use Rattle.walk.specs.declared.plan.Head.{Head}
 use Rattle.walk.specs.declared.chain.Chain.{Chain}
 use Rattle.walk.proofs.CarryLaw.{carry-law}
 use Rattle.walk.proofs.MadeRules.{capped-taken}
+use Rattle.walk.proofs.WeightBound.{weight-bound}
+
+-- what 30 multiplications weigh is not capped
+uncapped : (w : ℕ) → w ≤ 30 * scaleLimit → capped w ≡ w
+uncapped w h = omega arith
 
 module _ (head : Head) (cs : List ℤ) (bs ss : List ℕ) (input coeff : ℕ) where
   pub input-wide : scaleLimit < input → noChain 10 ≡ chainOf head cs bs ss input coeff
@@ -36,7 +43,7 @@ module _ (head : Head) (cs : List ℤ) (bs ss : List ℕ) (input coeff : ℕ) wh
     none-made e = rw (le-ltb scaleLimit input g, le-ltb scaleLimit coeff h, e)
 
     pub one-made : (v : Value) → answerMade head cs bs ss input coeff ≡ some v
-        → record { refusal = 0; weight = capped (heaviest v) } ≡ chainOf head cs bs ss input coeff
+        → record { refusal = 0; weight = heaviest v } ≡ chainOf head cs bs ss input coeff
     unfolding chainOf chainRefusal unlessRefused
     one-made v e = rw (le-ltb scaleLimit input g, le-ltb scaleLimit coeff h, e)
 
@@ -53,5 +60,7 @@ module _ (head : Head) (cs : List ℤ) (bs ss : List ℕ) (input coeff : ℕ) wh
       where
         by : (made : Option Value) → answerMade head cs bs ss input coeff ≡ made
             → answerBy (image (λ v. capped (heaviest v)) made) ≡ chainOf head cs bs ss input coeff
-        by (some v) e = one-made v e
+        by (some v) e =
+            ap (λ (w : ℕ). answerBy (some w)) (uncapped (heaviest v) (weight-bound scaleLimit input coeff g h head cs bs ss (pos 0) v e))
+            ∙ one-made v e
         by none e = none-made e

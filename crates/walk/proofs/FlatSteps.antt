@@ -24,12 +24,6 @@ unfolding stepsFrom
 steps-later k x y z buffer i zero = refl
 steps-later k x y z buffer i (suc n) = ap₂ _∷_ (step-later k x y z buffer i) (steps-later k x y z buffer (suc i) n)
 
--- as many as are asked for
-pub steps-length : (buffer : List ℕ) (i n : ℕ) → length (stepsFrom buffer i n) ≡ n
-unfolding stepsFrom
-steps-length buffer i zero = refl
-steps-length buffer i (suc n) = ap suc (steps-length buffer (suc i) n)
-
 -- what is read back are the steps
 pub flat-steps : (steps : List Step) (rest : List ℕ) → stepsFrom (flat steps ++ rest) 0 (length steps) ≡ steps
 unfolding flat stepsFrom

@@ -13,6 +13,7 @@ pub mod CarryLaw
 pub mod RunsAlike
 pub mod Unrunnable
 pub mod UsesMade
+pub mod UnusedPower
 pub mod FlatSteps
 pub mod WalksHeld
 pub mod TrialFollows
@@ -20,7 +21,8 @@ pub mod Paths
 pub mod MadeRules
 pub mod StepsWeigh
 mod Alls
+mod SplitHalves
 mod RunsWithin
 mod WeightBound
-mod ChainLaws
+pub mod ChainLaws
 pub mod HeaviestChain

@@ -8,9 +8,7 @@ use Rattle.algebra.specs.declared.PolynomialInputTransform.the-variants.{Identi
 use Rattle.walk.specs.CarryLaw.{TakesRules}
 use Rattle.walk.specs.Paths.{heaviest}
 use Rattle.walk.specs.MadeRules.{Making, valueMaking, productLessMade, placeMade, inputMade, outputMade, madeRules}
-use Rattle.walk.specs.Limits.{weightLimit}
-use Rattle.walk.specs.Chain.{capped}
-use Rattle.walk.specs.inside.Weights.{weightMaking}
+use Rattle.walk.specs.inside.Weights.{weightLimit, capped, weightMaking}
 
 -- f takes a value come by in 𝓜 to the one come by in the same way in 𝓝
 pub record Keeps {A B : Type 0} (𝓜 : Making A) (𝓝 : Making B) (f : A → B) : Type 0 where

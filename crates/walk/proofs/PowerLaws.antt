@@ -1,12 +1,11 @@
 -- The powers that the arrays hold, power by power and after a store, and a make: one law for each way out, by the definition at what was found.
-use mathlib.Core.Path.{_≡_, refl, sym, _∙_, fun-ext}
+use mathlib.Core.Path.{_≡_, sym, _∙_, fun-ext}
 use mathlib.Core.List.{List}
 use mathlib.Core.Bool.{Bool, true, false, _&&_}
 use mathlib.Core.Option.{some, none}
 use Prim.Native.Nat.{ℕ, _≤_, _<_}
 use native.Mathlib.Decide.{ℕ-discrete}
-use native.Mathlib.Omega.{arith}
-use borrow.Author.Tests.{eq-eqb, ne-eqb, le-leb, lt-leb, leb-true}
+use borrow.Author.Tests.{eq-eqb, ne-eqb, eqb-true, le-leb, lt-leb, leb-true}
 use lib.Dec.{eqb, leb}
 use lib.ListN.{length, getD, set}
 use lib.Seq.{getD-set-same, getD-set-other}
@@ -16,9 +15,10 @@ use Rattle.algebra.specs.declared.Basis.the-variants.{Monomial, Chebyshev}
 use Rattle.number.specs.Limits.{planLimit}
 use Rattle.number.specs.Split.{splitOf}
 use Rattle.number.specs.declared.split.Parts.{Parts}
+use Rattle.number.proofs.BothHold.{and-left, and-right}
 use Rattle.walk.specs.State.{Powers}
 use Rattle.walk.specs.Rules.{Rules}
-use Rattle.walk.specs.Make.{isMakeable, withPower, powerFrom, makeOf}
+use Rattle.walk.specs.Make.{isSplit, isMakeable, withPower, powerFrom, makeOf}
 use Rattle.walk.specs.inside.Arrays.{powersOf}
 
 module _ (powers : List ℕ) (made : List Bool) (n : ℕ) where
@@ -59,11 +59,16 @@ module _ (n a b : ℕ) where
   -- so it is within the array
   pub makeable-within : isMakeable n a b ≡ true → n ≤ planLimit
   unfolding isMakeable
-  makeable-within e = within (leb n planLimit) _ refl e
-    where
-      within : (t u : Bool) → leb n planLimit ≡ t → (t && u) ≡ true → n ≤ planLimit
-      within true u f e = leb-true n planLimit f
-      within false u f e = let z : _≡_ {A = ℕ} 0 1 = cc in absurd (omega arith)
+  makeable-within e = leb-true n planLimit (and-left (leb n planLimit) (isSplit n a b) e)
+
+  -- and these are the parts of its split
+  pub makeable-parts : isMakeable n a b ≡ true → (a ≡ splitOf n .a) × (b ≡ splitOf n .b)
+  unfolding isMakeable
+  makeable-parts e =
+      let split = and-right (leb n planLimit) (isSplit n a b) e in (
+        eqb-true a (splitOf n .a) (and-left (eqb a (splitOf n .a)) (eqb b (splitOf n .b)) split),
+        eqb-true b (splitOf n .b) (and-right (eqb a (splitOf n .a)) (eqb b (splitOf n .b)) split),
+      )
 
 -- the product, by what is found
 module _ (𝓡 : Rules ℕ) (powers : Powers ℕ) (a b : ℕ) where

@@ -32,11 +32,11 @@ Known powers made = (m : ℕ) → missing (powers m) ≡ false → isAmong m mad
 
 -- ---- tests that do not hold
 
-left-false : (a b : Bool) → (a || b) ≡ false → a ≡ false
+pub left-false : (a b : Bool) → (a || b) ≡ false → a ≡ false
 left-false true b e = absurd (true≢false e)
 left-false false b e = refl
 
-right-false : (a b : Bool) → (a || b) ≡ false → b ≡ false
+pub right-false : (a b : Bool) → (a || b) ≡ false → b ≡ false
 right-false true b e = absurd (true≢false e)
 right-false false b e = e
 

@@ -1,11 +1,10 @@
 -- The heaviest chain of a lent plan (docs/RULES.md, "The heaviest chain" and "Refusals"): 10, then 24, and the weight.
 use mathlib.Core.List.{List, [], _∷_}
 use mathlib.Core.Option.{Option}
-use Prim.Native.Nat.{ℕ, min}
+use Prim.Native.Nat.{ℕ}
 use lib.IntN.{ℤ, pos}
 use Rattle.number.specs.Refusal.{Test, firstRefusal, unlessRefused}
 use Rattle.number.specs.Tests.{tooWide}
-use Rattle.walk.specs.Limits.{weightLimit}
 use Rattle.walk.specs.Options.{image}
 use Rattle.walk.specs.Lent.{lentWalk}
 use Rattle.walk.specs.Trial.{cannotRun, orZero}
@@ -14,10 +13,6 @@ use Rattle.walk.specs.Paths.{heaviest}
 use Rattle.walk.specs.MadeRules.{valueMaking, madeRules}
 use Rattle.walk.specs.declared.plan.Head.{Head}
 use Rattle.walk.specs.declared.chain.Chain.{Chain}
-
--- a weight as it is answered: one beyond 64 bits is the greatest number that they hold
-abbrev pub capped : ℕ → ℕ
-capped w = min w weightLimit
 
 -- after a refusal zero
 abbrev pub noChain : (refusal : ℕ) → Chain
@@ -37,5 +32,4 @@ module _ (head : Head) (coefficients : List ℤ) (bounds steps : List ℕ) (inpu
 
   -- the call's answer
   unfoldable pub chainOf : Chain
-  chainOf =
-      unlessRefused chainRefusal (record { refusal = 0; weight = capped (orZero (image heaviest answerMade)) }) (noChain chainRefusal)
+  chainOf = unlessRefused chainRefusal (record { refusal = 0; weight = orZero (image heaviest answerMade) }) (noChain chainRefusal)

@@ -2,7 +2,7 @@
 use mathlib.Core.Path.{_≡_}
 use mathlib.Core.List.{List}
 use mathlib.Core.Option.{some, none}
-use Prim.Native.Nat.{ℕ, _^_, _≤_}
+use Prim.Native.Nat.{ℕ, _*_, _≤_}
 use lib.IntN.{ℤ}
 use Rattle.number.specs.Limits.{scaleLimit}
 use Rattle.walk.specs.Lent.{exactWalk}
@@ -25,9 +25,12 @@ module _ (head : Head) (coefficients : List ℤ) (bounds steps : List ℕ) (inpu
     -- no refusal where it has one
     pub accepts : (point value : ℤ) → exactWalk head coefficients bounds steps point ≡ some value
         → chainOf head coefficients bounds steps input coeff .refusal ≡ 0
-    -- and then the greatest weight, for which 64 bits are enough where there are at most 2^47 steps, more than a memory holds
-    pub weighs : (point value : ℤ) → exactWalk head coefficients bounds steps point ≡ some value → head .steps ≤ 2 ^ 47
+    -- and then the greatest weight
+    pub weighs : (point value : ℤ) → exactWalk head coefficients bounds steps point ≡ some value
         → GreatestOfAnswer (chainOf head coefficients bounds steps input coeff .weight)
+    -- It is at most that of 30 multiplications, however many steps there are, so that 64 bits always hold it: one makes power 1, 12 a power up to
+    -- 4,095, one multiplies it by a coefficient, 15 combine the at most 16 values that wait, and one is the output's.
+    pub bounded : (s : ℕ) → input ≤ s → coeff ≤ s → chainOf head coefficients bounds steps input coeff .weight ≤ 30 * s
 
 abbrev pub HeaviestChain : Type 0
 HeaviestChain = (head : Head) (coefficients : List ℤ) (bounds steps : List ℕ) (input coeff : ℕ) → input ≤ scaleLimit → coeff ≤ scaleLimit

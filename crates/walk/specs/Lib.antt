@@ -21,6 +21,7 @@ pub mod Values
 pub mod Paths
 pub mod MadeRules
 pub mod StepsWeigh
+pub mod UnusedPower
 pub mod Chain
 pub mod HeaviestChain
 pub mod inside

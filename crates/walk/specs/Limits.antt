@@ -8,7 +8,3 @@ waitingLimit = 16
 -- the greatest trial modulus
 abbrev pub modulusLimit : ℕ
 modulusLimit = 2147483647
-
--- the greatest weight that is answered, of 64 bits
-abbrev pub weightLimit : ℕ
-weightLimit = 18446744073709551615

@@ -1,4 +1,4 @@
-// Weights of 64 bits: those beyond stay at the greatest number.
+// Weights of 64 bits. Their sums stop at the greatest number, which no plan comes near, so they ask no range of what they are handed.
 ghost use mathlib.Core.Path.{_≡_};
 ghost use mathlib.Core.Bool.{cond};
 ghost use Prim.Native.Nat.{max};
