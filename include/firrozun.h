@@ -264,8 +264,8 @@ firrozun_trial firrozun_trial_walk(firrozun_head head, const int64_t *coefficien
                                    size_t bounds_len, const uint16_t *steps, size_t steps_len, int64_t point, uint64_t modulus);
 
 /* The heaviest chain of a plan, by the bit scales of input and coefficients: the greatest weight over all paths of multiplications that end in the
- * plan's value. Each ct-ct multiplication weighs the input scale, each pt-ct one the coefficient scale. The weight is exact up to 2^47 steps; with
- * more of them, one above 2^64 - 1 is answered as 2^64 - 1. Head and buffers may be any, damaged ones too. Refusals 43, 10, 24. */
+ * plan's value. Each ct-ct multiplication weighs the input scale, each pt-ct one the coefficient scale. The weight is exact for every
+ * plan that can be walked, and at most 30 times the greater scale. Head and buffers may be any, damaged ones too. Refusals 43, 10, 24. */
 firrozun_chain firrozun_heaviest_chain(firrozun_head head, const int64_t *coefficients, size_t coefficients_len, const uint16_t *bounds,
                                        size_t bounds_len, const uint16_t *steps, size_t steps_len, size_t input, size_t coeff);
 

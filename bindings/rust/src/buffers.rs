@@ -394,7 +394,8 @@ pub fn trial_walk(
 /// multiplications that end in the plan's value.
 ///
 /// A multiplication of two encrypted numbers weighs the input scale, one of an encrypted number and a plain one the coefficient scale.
-/// Those of a list and of the transform count too. The weight is exact up to 2^47 steps, more than a memory holds.
+/// Those of a list and of the transform count too. The weight is exact for every plan that can be walked, and at most 30 times the
+/// greater scale.
 ///
 /// Any head and any buffers may be handed in, damaged ones too.
 ///
