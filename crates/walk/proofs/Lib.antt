@@ -1,6 +1,6 @@
 pub mod Options
 mod Modular
-mod NumberLaws
+mod ArithmeticLaws
 mod SignedParts
 pub mod PowerLaws
 pub mod SumLaws

@@ -2,7 +2,7 @@
 
 pub mod Modulus
 pub mod Weights
-pub mod Numbers
+pub mod Arithmetic
 pub mod Arrays
 pub mod Waits
 pub mod Taken

@@ -1,7 +1,7 @@
 // The trial walk.
+use crate::arithmetic::Arithmetic;
+use crate::arithmetic::point_of;
 use crate::limits::MODULUS_LIMIT;
-use crate::numbers::Numbers;
-use crate::numbers::point_of;
 use crate::plan::Head;
 use crate::powers::Found;
 use crate::steps::run_steps;
@@ -11,7 +11,7 @@ use crate::transform::output_of;
 ghost use mathlib.Core.Path.{_≡_};
 ghost use Rattle.walk.specs.Lent.{lentWalk};
 ghost use Rattle.walk.specs.Trial.{noTrial, trialOf};
-ghost use Rattle.walk.specs.inside.Numbers.{rulesOf, Usable};
+ghost use Rattle.walk.specs.inside.Arithmetic.{rulesOf, Usable};
 ghost use Rattle.walk.specs.inside.Arrays.{found};
 
 // What a trial walk answers: 0 or the refusal, and the remainder, zero after a refusal.
@@ -34,13 +34,13 @@ fn no_trial(refusal: u8) -> Trial
 pub fn walk_lent(
     head: Head,
     point: i64,
-    numbers: Numbers,
+    arithmetic: Arithmetic,
     coefficients: &[i64],
     bounds: &[u16],
     steps: &[u16],
 ) -> Found
-    requires { ⌜ Usable numbers ⌝ }
-    ensures { λ r. ⌜ found r ≡ lentWalk (rulesOf numbers) head (now (coefficients .entry)) (now (bounds .entry)) (now (steps .entry)) point ⌝ }
+    requires { ⌜ Usable arithmetic ⌝ }
+    ensures { λ r. ⌜ found r ≡ lentWalk (rulesOf arithmetic) head (now (coefficients .entry)) (now (bounds .entry)) (now (steps .entry)) point ⌝ }
 {
     let n = head.coefficients;
     let lists = head.lists;
@@ -58,9 +58,9 @@ pub fn walk_lent(
     if !bounds_rise(n, used) {
         return Found::Missing;
     }
-    let x = point_of(numbers, point);
+    let x = point_of(arithmetic, point);
     let transform = head.transform;
-    let y = input_of(transform, x, numbers);
+    let y = input_of(transform, x, arithmetic);
     let parity = head.parity;
     let basis = head.basis;
     let Found::Number(v) = run_steps(
@@ -68,14 +68,14 @@ pub fn walk_lent(
         basis,
         count,
         y,
-        numbers,
+        arithmetic,
         &coefficients[..n],
         used,
         steps,
     ) else {
         return Found::Missing;
     };
-    Found::Number(output_of(transform, x, v, numbers))
+    Found::Number(output_of(transform, x, v, arithmetic))
 }
 
 // The trial walk: refusal 11 for the modulus, 24 for a plan that the walk can't run.
@@ -95,8 +95,8 @@ pub fn trial_walk(
     if MODULUS_LIMIT < modulus {
         return no_trial(11);
     }
-    let numbers = Numbers::Remainders(modulus);
-    let Found::Number(remainder) = walk_lent(head, point, numbers, coefficients, bounds, steps)
+    let arithmetic = Arithmetic::Remainders(modulus);
+    let Found::Number(remainder) = walk_lent(head, point, arithmetic, coefficients, bounds, steps)
     else {
         return no_trial(24);
     };

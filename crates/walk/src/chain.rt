@@ -1,6 +1,6 @@
 // The heaviest chain.
+use crate::arithmetic::Arithmetic;
 use crate::call::walk_lent;
-use crate::numbers::Numbers;
 use crate::plan::Head;
 use crate::powers::Found;
 use number::SCALE_LIMIT;
@@ -40,8 +40,8 @@ pub fn heaviest_chain(
     if SCALE_LIMIT < coeff {
         return no_chain(10);
     }
-    let numbers = Numbers::Weights(input as u64, coeff as u64);
-    let Found::Number(weight) = walk_lent(head, 0, numbers, coefficients, bounds, steps) else {
+    let arithmetic = Arithmetic::Weights(input as u64, coeff as u64);
+    let Found::Number(weight) = walk_lent(head, 0, arithmetic, coefficients, bounds, steps) else {
         return no_chain(24);
     };
     Chain { refusal: 0, weight }

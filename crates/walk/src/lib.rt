@@ -1,8 +1,8 @@
 // What reads a lent plan: the trial walk, which runs its steps modulo a lent modulus, and the heaviest chain, which runs them over weights.
+pub mod arithmetic;
 pub mod call;
 pub mod chain;
 pub mod limits;
-pub mod numbers;
 pub mod plan;
 pub mod powers;
 pub mod remainder;

@@ -1,9 +1,9 @@
 // The powers that were made: 4,096 numbers, and marks of which are there.
+use crate::arithmetic::Arithmetic;
+use crate::arithmetic::one_of;
+use crate::arithmetic::product;
+use crate::arithmetic::product_less;
 use crate::limits::POWERS;
-use crate::numbers::Numbers;
-use crate::numbers::one_of;
-use crate::numbers::product;
-use crate::numbers::product_less;
 use number::Basis;
 use number::PLAN_LIMIT;
 use number::distance;
@@ -13,7 +13,7 @@ ghost use mathlib.Core.Option.{some};
 ghost use Rattle.number.specs.Limits.{countLimit};
 ghost use Rattle.walk.specs.Options.{when};
 ghost use Rattle.walk.specs.Make.{isMakeable, powerFrom, makeOf};
-ghost use Rattle.walk.specs.inside.Numbers.{rulesOf, Usable};
+ghost use Rattle.walk.specs.inside.Arithmetic.{rulesOf, Usable};
 ghost use Rattle.walk.specs.inside.Arrays.{found, powersOf, firstNumbers, firstMarks, FoundPower, FoundMark};
 
 // A number, or none.
@@ -60,12 +60,12 @@ fn power_from(
     basis: Basis,
     a: usize,
     b: usize,
-    numbers: Numbers,
+    arithmetic: Arithmetic,
     powers: &[u64; POWERS],
     made: &[bool; POWERS],
 ) -> Found
-    requires { ⌜ Usable numbers ⌝ }
-    ensures { λ r. ⌜ found r ≡ powerFrom (rulesOf numbers) basis (powersOf (now (powers .entry)) (now (made .entry))) a b ⌝ }
+    requires { ⌜ Usable arithmetic ⌝ }
+    ensures { λ r. ⌜ found r ≡ powerFrom (rulesOf arithmetic) basis (powersOf (now (powers .entry)) (now (made .entry))) a b ⌝ }
 {
     let Found::Number(u) = power_at(a, powers, made) else {
         return Found::Missing;
@@ -74,12 +74,12 @@ fn power_from(
         return Found::Missing;
     };
     match basis {
-        Basis::Monomial => Found::Number(product(numbers, u, v)),
+        Basis::Monomial => Found::Number(product(arithmetic, u, v)),
         Basis::Chebyshev => {
             let Found::Number(w) = power_at(distance(a, b), powers, made) else {
                 return Found::Missing;
             };
-            Found::Number(product_less(numbers, u, v, w))
+            Found::Number(product_less(arithmetic, u, v, w))
         }
     }
 }
@@ -90,13 +90,13 @@ pub fn make_power(
     n: usize,
     a: usize,
     b: usize,
-    numbers: Numbers,
+    arithmetic: Arithmetic,
     powers: &mut [u64; POWERS],
     made: &mut [bool; POWERS],
 ) -> bool
-    requires { ⌜ Usable numbers ⌝ }
+    requires { ⌜ Usable arithmetic ⌝ }
     ensures { λ r. ⌜ when r (some (powersOf (now (powers .exit)) (now (made .exit))))
-        ≡ makeOf (rulesOf numbers) basis (powersOf (now (powers .entry)) (now (made .entry))) n a b ⌝ }
+        ≡ makeOf (rulesOf arithmetic) basis (powersOf (now (powers .entry)) (now (made .entry))) n a b ⌝ }
 {
     if !is_makeable(n, a, b) {
         return false;
@@ -104,7 +104,7 @@ pub fn make_power(
     if let Found::Number(_) = power_at(n, powers, made) {
         return false;
     }
-    let Found::Number(v) = power_from(basis, a, b, numbers, powers, made) else {
+    let Found::Number(v) = power_from(basis, a, b, arithmetic, powers, made) else {
         return false;
     };
     powers[n] = v;
@@ -113,12 +113,12 @@ pub fn make_power(
 }
 
 // Power 0 is 1, power 1 is y.
-pub fn first_powers(y: u64, numbers: Numbers) -> [u64; POWERS]
-    requires { ⌜ Usable numbers ⌝ }
-    ensures { λ r. ⌜ r ≡ firstNumbers countLimit (rulesOf numbers .one) y ⌝ }
+pub fn first_powers(y: u64, arithmetic: Arithmetic) -> [u64; POWERS]
+    requires { ⌜ Usable arithmetic ⌝ }
+    ensures { λ r. ⌜ r ≡ firstNumbers countLimit (rulesOf arithmetic .one) y ⌝ }
 {
     let mut powers = [0u64; POWERS];
-    powers[0] = one_of(numbers);
+    powers[0] = one_of(arithmetic);
     powers[1] = y;
     powers
 }

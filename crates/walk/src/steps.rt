@@ -1,6 +1,6 @@
 // The steps of a plan, one after another.
+use crate::arithmetic::Arithmetic;
 use crate::limits::POWERS;
-use crate::numbers::Numbers;
 use crate::plan::Step;
 use crate::plan::step_at;
 use crate::powers::Found;
@@ -27,7 +27,7 @@ ghost use Rattle.walk.specs.Combine.{combineOf};
 ghost use Rattle.walk.specs.Walk.{stepOf, walkOf};
 ghost use Rattle.walk.specs.Boundaries.{listAt};
 ghost use Rattle.walk.specs.Lent.{stepsFrom};
-ghost use Rattle.walk.specs.inside.Numbers.{rulesOf, Usable};
+ghost use Rattle.walk.specs.inside.Arithmetic.{rulesOf, Usable};
 ghost use Rattle.walk.specs.inside.Arrays.{found, powersOf};
 ghost use Rattle.walk.specs.inside.Waits.{waitingIn, FitsSixteen, Waits};
 ghost use Rattle.walk.specs.inside.Taken.{stateOf, Taken, Runnable};
@@ -36,22 +36,22 @@ ghost use Rattle.walk.specs.inside.Taken.{stateOf, Taken, Runnable};
 fn load(
     parity: Parity,
     i: usize,
-    numbers: Numbers,
+    arithmetic: Arithmetic,
     w: Waiting,
     coefficients: &[i64],
     bounds: &[u16],
     powers: &[u64; POWERS],
     made: &[bool; POWERS],
 ) -> Turn
-    requires { ⌜ Runnable numbers (now coefficients) (now bounds) × FitsSixteen w ⌝ }
-    ensures { λ r. ⌜ Waits (loadOf (rulesOf numbers) parity (powersOf (now (powers .entry)) (now (made .entry)))
+    requires { ⌜ Runnable arithmetic (now coefficients) (now bounds) × FitsSixteen w ⌝ }
+    ensures { λ r. ⌜ Waits (loadOf (rulesOf arithmetic) parity (powersOf (now (powers .entry)) (now (made .entry)))
         (listAt (now (coefficients .entry)) (now (bounds .entry))) (waitingIn w) i) r ⌝ }
 {
     if bounds.len() <= i {
         return refused(w);
     }
     let list = list_of(i, coefficients, bounds);
-    let Found::Number(v) = sum_list(parity, numbers, list, powers, made) else {
+    let Found::Number(v) = sum_list(parity, arithmetic, list, powers, made) else {
         return refused(w);
     };
     push(w, v)
@@ -61,18 +61,18 @@ fn load(
 fn combine(
     plain: bool,
     p: usize,
-    numbers: Numbers,
+    arithmetic: Arithmetic,
     w: Waiting,
     powers: &[u64; POWERS],
     made: &[bool; POWERS],
 ) -> Turn
-    requires { ⌜ Usable numbers × FitsSixteen w ⌝ }
-    ensures { λ r. ⌜ Waits (combineOf (rulesOf numbers) plain (powersOf (now (powers .entry)) (now (made .entry))) (waitingIn w) p) r ⌝ }
+    requires { ⌜ Usable arithmetic × FitsSixteen w ⌝ }
+    ensures { λ r. ⌜ Waits (combineOf (rulesOf arithmetic) plain (powersOf (now (powers .entry)) (now (made .entry))) (waitingIn w) p) r ⌝ }
 {
     let Found::Number(v) = power_at(p, powers, made) else {
         return refused(w);
     };
-    join(w, plain, v, numbers)
+    join(w, plain, v, arithmetic)
 }
 
 // One step.
@@ -80,20 +80,20 @@ fn take_step(
     parity: Parity,
     basis: Basis,
     step: Step,
-    numbers: Numbers,
+    arithmetic: Arithmetic,
     w: Waiting,
     coefficients: &[i64],
     bounds: &[u16],
     powers: &mut [u64; POWERS],
     made: &mut [bool; POWERS],
 ) -> Turn
-    requires { ⌜ Runnable numbers (now coefficients) (now bounds) × FitsSixteen w ⌝ }
-    ensures { λ r. ⌜ Taken (stepOf (rulesOf numbers) parity basis (listAt (now (coefficients .entry)) (now (bounds .entry))) step
+    requires { ⌜ Runnable arithmetic (now coefficients) (now bounds) × FitsSixteen w ⌝ }
+    ensures { λ r. ⌜ Taken (stepOf (rulesOf arithmetic) parity basis (listAt (now (coefficients .entry)) (now (bounds .entry))) step
         (stateOf (now (powers .entry)) (now (made .entry)) w)) (now (powers .exit)) (now (made .exit)) r ⌝ }
 {
     let kind = step.kind;
     if kind == 1 {
-        let ok = make_power(basis, step.x, step.y, step.z, numbers, powers, made);
+        let ok = make_power(basis, step.x, step.y, step.z, arithmetic, powers, made);
         return Turn { ok, waiting: w };
     }
     if step.y != 0 {
@@ -106,7 +106,7 @@ fn take_step(
         return load(
             parity,
             step.x,
-            numbers,
+            arithmetic,
             w,
             coefficients,
             bounds,
@@ -115,10 +115,10 @@ fn take_step(
         );
     }
     if kind == 3 {
-        return combine(false, step.x, numbers, w, powers, made);
+        return combine(false, step.x, arithmetic, w, powers, made);
     }
     if kind == 4 {
-        return combine(true, step.x, numbers, w, powers, made);
+        return combine(true, step.x, arithmetic, w, powers, made);
     }
     refused(w)
 }
@@ -129,16 +129,16 @@ pub fn run_steps(
     basis: Basis,
     count: usize,
     y: u64,
-    numbers: Numbers,
+    arithmetic: Arithmetic,
     coefficients: &[i64],
     bounds: &[u16],
     steps: &[u16],
 ) -> Found
-    requires { ⌜ Runnable numbers (now coefficients) (now bounds) × (4 * count ≤ length (now steps)) ⌝ }
-    ensures { λ r. ⌜ found r ≡ walkOf (rulesOf numbers) parity basis (listAt (now (coefficients .entry)) (now (bounds .entry)))
+    requires { ⌜ Runnable arithmetic (now coefficients) (now bounds) × (4 * count ≤ length (now steps)) ⌝ }
+    ensures { λ r. ⌜ found r ≡ walkOf (rulesOf arithmetic) parity basis (listAt (now (coefficients .entry)) (now (bounds .entry)))
         (stepsFrom (now (steps .entry)) 0 count) y ⌝ }
 {
-    let mut powers = first_powers(y, numbers);
+    let mut powers = first_powers(y, arithmetic);
     let mut made = first_marks();
     let mut w = none_waiting();
     let mut i: usize = 0;
@@ -147,7 +147,7 @@ pub fn run_steps(
             parity,
             basis,
             step_at(i, steps),
-            numbers,
+            arithmetic,
             w,
             coefficients,
             bounds,

@@ -1,7 +1,7 @@
 // The lists of a plan, and their values.
+use crate::arithmetic::Arithmetic;
+use crate::arithmetic::place;
 use crate::limits::POWERS;
-use crate::numbers::Numbers;
-use crate::numbers::place;
 use crate::powers::Found;
 use crate::powers::power_at;
 use number::Parity;
@@ -12,7 +12,7 @@ ghost use Prim.Native.Nat.{_<_};
 ghost use lib.ListN.{length};
 ghost use Rattle.walk.specs.Load.{addPlace, sumFrom};
 ghost use Rattle.walk.specs.Boundaries.{rises, startOf, partOf};
-ghost use Rattle.walk.specs.inside.Numbers.{rulesOf, Usable};
+ghost use Rattle.walk.specs.inside.Arithmetic.{rulesOf, Usable};
 ghost use Rattle.walk.specs.inside.Arrays.{found, powersOf};
 
 // Whether the boundaries rise strictly from 0 and none passes `most`.
@@ -59,12 +59,12 @@ fn add_place(
     j: usize,
     sum: u64,
     c: i64,
-    numbers: Numbers,
+    arithmetic: Arithmetic,
     powers: &[u64; POWERS],
     made: &[bool; POWERS],
 ) -> Found
-    requires { ⌜ Usable numbers ⌝ }
-    ensures { λ r. ⌜ found r ≡ addPlace (rulesOf numbers) parity (powersOf (now (powers .entry)) (now (made .entry))) j sum c ⌝ }
+    requires { ⌜ Usable arithmetic ⌝ }
+    ensures { λ r. ⌜ found r ≡ addPlace (rulesOf arithmetic) parity (powersOf (now (powers .entry)) (now (made .entry))) j sum c ⌝ }
 {
     if !is_allowed(parity, j) {
         return Found::Number(sum);
@@ -72,24 +72,26 @@ fn add_place(
     let Found::Number(p) = power_at(j, powers, made) else {
         return Found::Missing;
     };
-    Found::Number(place(numbers, sum, c, j, p))
+    Found::Number(place(arithmetic, sum, c, j, p))
 }
 
 // A list's value.
 pub fn sum_list(
     parity: Parity,
-    numbers: Numbers,
+    arithmetic: Arithmetic,
     list: &[i64],
     powers: &[u64; POWERS],
     made: &[bool; POWERS],
 ) -> Found
-    requires { ⌜ Usable numbers ⌝ }
-    ensures { λ r. ⌜ found r ≡ sumFrom (rulesOf numbers) parity (powersOf (now (powers .entry)) (now (made .entry))) 0 (rulesOf numbers .nothing) (now (list .entry)) ⌝ }
+    requires { ⌜ Usable arithmetic ⌝ }
+    ensures { λ r. ⌜ found r ≡ sumFrom (rulesOf arithmetic) parity (powersOf (now (powers .entry)) (now (made .entry))) 0
+        (rulesOf arithmetic .nothing) (now (list .entry)) ⌝ }
 {
     let mut sum: u64 = 0;
     let mut j: usize = 0;
     while j < list.len() {
-        let Found::Number(next) = add_place(parity, j, sum, list[j], numbers, powers, made) else {
+        let Found::Number(next) = add_place(parity, j, sum, list[j], arithmetic, powers, made)
+        else {
             return Found::Missing;
         };
         sum = next;

@@ -1,7 +1,7 @@
 // The waiting values.
+use crate::arithmetic::Arithmetic;
+use crate::arithmetic::combined;
 use crate::limits::WAITING;
-use crate::numbers::Numbers;
-use crate::numbers::combined;
 use crate::powers::Found;
 ghost use mathlib.Core.Path.{_≡_};
 ghost use mathlib.Core.List.{[]};
@@ -9,7 +9,7 @@ ghost use mathlib.Core.Option.{none};
 ghost use Rattle.walk.specs.Load.{pushOf};
 ghost use Rattle.walk.specs.Combine.{joinOf};
 ghost use Rattle.walk.specs.Walk.{oneLeft};
-ghost use Rattle.walk.specs.inside.Numbers.{rulesOf, Usable};
+ghost use Rattle.walk.specs.inside.Arithmetic.{rulesOf, Usable};
 ghost use Rattle.walk.specs.inside.Arrays.{found};
 ghost use Rattle.walk.specs.inside.Waits.{waitingIn, FitsSixteen, Waits};
 
@@ -65,9 +65,9 @@ pub fn push(w: Waiting, v: u64) -> Turn
 }
 
 // High and low taken, and what a power makes of them pushed.
-pub fn join(w: Waiting, plain: bool, power: u64, numbers: Numbers) -> Turn
-    requires { ⌜ FitsSixteen w × Usable numbers ⌝ }
-    ensures { λ r. ⌜ Waits (joinOf (rulesOf numbers) plain power (waitingIn w)) r ⌝ }
+pub fn join(w: Waiting, plain: bool, power: u64, arithmetic: Arithmetic) -> Turn
+    requires { ⌜ FitsSixteen w × Usable arithmetic ⌝ }
+    ensures { λ r. ⌜ Waits (joinOf (rulesOf arithmetic) plain power (waitingIn w)) r ⌝ }
 {
     let at = w.count;
     if at < 2 {
@@ -76,7 +76,7 @@ pub fn join(w: Waiting, plain: bool, power: u64, numbers: Numbers) -> Turn
     let high = w.values[at - 1];
     let low = w.values[at - 2];
     let mut next = w;
-    next.values[at - 2] = combined(numbers, plain, power, high, low);
+    next.values[at - 2] = combined(arithmetic, plain, power, high, low);
     next.count = at - 1;
     Turn {
         ok: true,

@@ -9,10 +9,10 @@ use lib.ListN.{length}
 use Rattle.walk.specs.Options.{when}
 use Rattle.walk.specs.State.{State}
 use Rattle.walk.specs.Boundaries.{rises}
-use Rattle.walk.specs.inside.Numbers.{Usable}
+use Rattle.walk.specs.inside.Arithmetic.{Usable}
 use Rattle.walk.specs.inside.Arrays.{powersOf}
 use Rattle.walk.specs.inside.Waits.{waitingIn, FitsSixteen}
-use Rattle.walk.specs.declared.numbers.Numbers.{Numbers}
+use Rattle.walk.specs.declared.arithmetic.Arithmetic.{Arithmetic}
 use Rattle.walk.specs.declared.waiting.Waiting.{Waiting}
 use Rattle.walk.specs.declared.waiting.Turn.{Turn}
 
@@ -25,7 +25,7 @@ pub record Taken (wanted : Option (State ℕ)) (powers : List ℕ) (made : List 
   pub is : when (r .ok) (some (stateOf powers made (r .waiting))) ≡ wanted
   pub fits : FitsSixteen (r .waiting)
 
--- what the steps run on: numbers that they can use, and boundaries that rise within the coefficients
-pub record Runnable (numbers : Numbers) (coefficients : List ℤ) (bounds : List ℕ) : Type 0 where
-  pub usable : Usable numbers
+-- what the steps run on: an arithmetic that they can use, and boundaries that rise within the coefficients
+pub record Runnable (arithmetic : Arithmetic) (coefficients : List ℤ) (bounds : List ℕ) : Type 0 where
+  pub usable : Usable arithmetic
   pub rising : rises 0 (length coefficients) bounds ≡ true

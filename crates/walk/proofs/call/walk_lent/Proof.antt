@@ -12,7 +12,7 @@ use lib.Seq.{length-take-le}
 use mir.Facts.{toZ-ofZ}
 use denote.Ref.{now}
 use Rattle.walk.specs.Lent.{lentLists, lentSteps, boundsRise}
-use Rattle.walk.specs.inside.Numbers.{rulesOf}
+use Rattle.walk.specs.inside.Arithmetic.{rulesOf}
 use Rattle.walk.specs.Boundaries.{rises}
 use Rattle.walk.specs.Walk.{walkOf}
 use Rattle.walk.specs.inside.Arrays.{found}
@@ -37,33 +37,33 @@ rising : (k : tie.Else4) → let a = from-fourth k .args in boundsRise (a .head)
 rising k = sym (k .before .bounds-rise .ensures) ∙ not-false _ (k .if4 .left)
 
 -- the point as a number
-reduced : (k : tie.After-point-of) → let a = from-fourth (k .before) .args in k .point-of .result ≡ rulesOf (a .numbers) .point (a .point)
+reduced : (k : tie.After-point-of) → let a = from-fourth (k .before) .args in k .point-of .result ≡ rulesOf (a .arithmetic) .point (a .point)
 reduced k =
     let start = from-fourth (k .before) in
-    k .point-of .ensures ∙ ap (rulesOf (start .args .numbers) .point) (toZ-ofZ (start .fits .point))
+    k .point-of .ensures ∙ ap (rulesOf (start .args .arithmetic) .point) (toZ-ofZ (start .fits .point))
 
 -- the steps ran from the input that the point gives
 ran : (k : tie.After-run-steps) → let a = from-fourth (k .before .before .before .before) .args in
     found (k .run-steps .result)
-    ≡ walkOf (rulesOf (a .numbers)) (a .head .parity) (a .head .basis) (lentLists (a .head) (now (a .coefficients)) (now (a .bounds)))
-    (lentSteps (a .head) (now (a .steps))) (rulesOf (a .numbers) .input (a .head .transform) (rulesOf (a .numbers) .point (a .point)))
+    ≡ walkOf (rulesOf (a .arithmetic)) (a .head .parity) (a .head .basis) (lentLists (a .head) (now (a .coefficients)) (now (a .bounds)))
+    (lentSteps (a .head) (now (a .steps))) (rulesOf (a .arithmetic) .input (a .head .transform) (rulesOf (a .arithmetic) .point (a .point)))
 ran k =
     let a = from-fourth (k .before .before .before .before) .args in
     k .run-steps .ensures
-    ∙ ap (walkOf (rulesOf (a .numbers)) (a .head .parity) (a .head .basis) (lentLists (a .head) (now (a .coefficients)) (now (a .bounds)))
+    ∙ ap (walkOf (rulesOf (a .arithmetic)) (a .head .parity) (a .head .basis) (lentLists (a .head) (now (a .coefficients)) (now (a .bounds)))
     (lentSteps (a .head) (now (a .steps))))
-    (k .before .before .input-of .ensures ∙ ap (rulesOf (a .numbers) .input (a .head .transform)) (reduced (k .before .before .before)))
+    (k .before .before .input-of .ensures ∙ ap (rulesOf (a .arithmetic) .input (a .head .transform)) (reduced (k .before .before .before)))
 
 returns : tie.Need-returns
 returns c = let start = c .before .before .before in
     let a = start .args in
-    few-coefficients (rulesOf (a .numbers)) (a .head) (now (a .coefficients)) (now (a .bounds)) (now (a .steps)) (a .point) (c .if1 .taken)
+    few-coefficients (rulesOf (a .arithmetic)) (a .head) (now (a .coefficients)) (now (a .bounds)) (now (a .steps)) (a .point) (c .if1 .taken)
 
 returns-2 : tie.Need-returns-2
 returns-2 c =
     let entry = c .before .before .before .before in
     let a = entry .args in
-    few-bounds (rulesOf (a .numbers)) (a .head) (now (a .coefficients)) (now (a .bounds)) (now (a .steps)) (a .point) (c .before .if1 .left)
+    few-bounds (rulesOf (a .arithmetic)) (a .head) (now (a .coefficients)) (now (a .bounds)) (now (a .steps)) (a .point) (c .before .if1 .left)
     (c .if2 .taken)
 
 returns-3 : tie.Need-returns-3
@@ -71,7 +71,7 @@ returns-3 c =
     let at-if1 = c .before .before in
     let entry = at-if1 .before .before .before in
     let a = entry .args in
-    few-steps (rulesOf (a .numbers)) (a .head) (now (a .coefficients)) (now (a .bounds)) (now (a .steps)) (a .point) (at-if1 .if1 .left)
+    few-steps (rulesOf (a .arithmetic)) (a .head) (now (a .coefficients)) (now (a .bounds)) (now (a .steps)) (a .point) (at-if1 .if1 .left)
     (c .before .if2 .left) (c .if3 .taken)
 
 slice-aggregate-used : tie.Need-slice-aggregate-used
@@ -90,7 +90,7 @@ returns-4 c =
     let at-shared-slice-known = at-if3 .before .before .before .before in
     let entry = at-shared-slice-known .before in
     let a = entry .args in
-    not-rising (rulesOf (a .numbers)) (a .head) (now (a .coefficients)) (now (a .bounds)) (now (a .steps)) (a .point) (fits at-if3)
+    not-rising (rulesOf (a .arithmetic)) (a .head) (now (a .coefficients)) (now (a .bounds)) (now (a .steps)) (a .point) (fits at-if3)
     (sym (c .before .bounds-rise .ensures) ∙ not-true _ (c .if4 .taken))
 
 point-of-requires : tie.Need-point-of-requires
@@ -137,7 +137,7 @@ returns-5 c =
     let at-shared-slice-known = at-if3 .before .before .before .before in
     let entry = at-shared-slice-known .before in
     let a = entry .args in
-    stuck (rulesOf (a .numbers)) (a .head) (now (a .coefficients)) (now (a .bounds)) (now (a .steps)) (a .point) (fits at-if3) (rising at-if4)
+    stuck (rulesOf (a .arithmetic)) (a .head) (now (a .coefficients)) (now (a .bounds)) (now (a .steps)) (a .point) (fits at-if3) (rising at-if4)
     (sym (ran at-run-steps) ∙ ap found (c .enum-told .given .1))
 
 output-of-requires : tie.Need-output-of-requires
@@ -153,8 +153,8 @@ returns-6 c =
     let at-shared-slice-known = at-if3 .before .before .before .before in
     let entry = at-shared-slice-known .before in
     let a = entry .args in
-    ap some (c .output-of .ensures ∙ ap (λ (x : ℕ). rulesOf (a .numbers) .output (a .head .transform) x (at-v .v .given .0 .0)) (reduced at-point))
-    ∙ walked (rulesOf (a .numbers)) (a .head) (now (a .coefficients)) (now (a .bounds)) (now (a .steps)) (a .point) (fits at-if3)
+    ap some (c .output-of .ensures ∙ ap (λ (x : ℕ). rulesOf (a .arithmetic) .output (a .head .transform) x (at-v .v .given .0 .0)) (reduced at-point))
+    ∙ walked (rulesOf (a .arithmetic)) (a .head) (now (a .coefficients)) (now (a .bounds)) (now (a .steps)) (a .point) (fits at-if3)
     (at-v .v .given .0 .0) (rising at-if4) (sym (ran at-run-steps) ∙ ap found (at-v .v .given .1))
 
 pub walk-lent-spec : {M : Type 1} → statement M

@@ -7,7 +7,7 @@ use borrow.Author.Tests.{not-true, not-false}
 use borrow.Author.Needs.{needs}
 use denote.Ref.{now}
 use Rattle.walk.specs.inside.Arrays.{found, powersOf}
-use Rattle.walk.specs.inside.Numbers.{rulesOf}
+use Rattle.walk.specs.inside.Arithmetic.{rulesOf}
 use Rattle.walk.proofs.PowerLaws.{powers-set, makeable-within, make-wrong, make-again, make-without, make-is}
 use Rattle.walk.proofs.powers.make_power.Statement.{statement}
 use Rattle.walk.proofs.powers.make_power.Tie as tie
@@ -17,7 +17,7 @@ is-makeable-requires c κs = search needs
 
 returns : tie.Need-returns
 returns c = let a = c .before .before .args in
-    make-wrong (rulesOf (a .numbers)) (a .basis) (powersOf (now (a .powers)) (now (a .made))) (a .n) (a .a) (a .b)
+    make-wrong (rulesOf (a .arithmetic)) (a .basis) (powersOf (now (a .powers)) (now (a .made))) (a .n) (a .a) (a .b)
     (sym (c .before .is-makeable .ensures) ∙ not-true _ (c .if1 .taken))
 
 power-at-requires : tie.Need-power-at-requires
@@ -35,7 +35,7 @@ returns-2 c =
     let a = entry .args in
     let powers = powersOf (now (a .powers)) (now (a .made)) in
     let makeable = sym (at-is-makeable .is-makeable .ensures) ∙ not-false _ (at-if1 .if1 .left) in
-    make-again (rulesOf (a .numbers)) (a .basis) powers (a .n) (a .a) (a .b) _ makeable
+    make-again (rulesOf (a .arithmetic)) (a .basis) powers (a .n) (a .a) (a .b) _ makeable
     (sym (at-power-at .power-at .ensures .is) ∙ ap found (c .enum-told .given .1))
 
 enum-told-2 : tie.Need-enum-told-2
@@ -61,7 +61,7 @@ returns-3 c =
     let a = entry .args in
     let powers = powersOf (now (a .powers)) (now (a .made)) in
     let makeable = sym (at-is-makeable .is-makeable .ensures) ∙ not-false _ (at-if1 .if1 .left) in
-    make-without (rulesOf (a .numbers)) (a .basis) powers (a .n) (a .a) (a .b) makeable
+    make-without (rulesOf (a .arithmetic)) (a .basis) powers (a .n) (a .a) (a .b) makeable
     (sym (at-power-at .power-at .ensures .is) ∙ ap found (at-enum-told2 .enum-told2 .given .1))
     (sym (at-power-from .power-from .ensures) ∙ ap found (c .enum-told3 .given .1))
 
@@ -115,7 +115,7 @@ returns-4 c =
     let sized = at-power-at .power-at .ensures in
     let small = makeable-within (a .n) (a .a) (a .b) makeable in
     ap some (powers-set (now (a .powers)) (now (a .made)) (a .n) (c .before .v .given .0 .0) (omega arith) (omega arith))
-    ∙ make-is (rulesOf (a .numbers)) (a .basis) powers (a .n) (a .a) (a .b) _ makeable
+    ∙ make-is (rulesOf (a .arithmetic)) (a .basis) powers (a .n) (a .a) (a .b) _ makeable
     (sym (at-power-at .power-at .ensures .is) ∙ ap found (at-enum-told2 .enum-told2 .given .1))
     (sym (at-power-from .power-from .ensures) ∙ ap found (c .before .v .given .1))
 

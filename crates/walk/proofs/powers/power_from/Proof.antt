@@ -6,7 +6,7 @@ use borrow.Author.Needs.{needs}
 use denote.Ref.{now}
 use Rattle.algebra.specs.declared.Basis.{Basis}
 use Rattle.walk.specs.inside.Arrays.{found, powersOf}
-use Rattle.walk.specs.inside.Numbers.{rulesOf}
+use Rattle.walk.specs.inside.Arithmetic.{rulesOf}
 use Rattle.walk.specs.Make.{powerFrom}
 use Rattle.walk.proofs.PowerLaws.{no-first, no-second, monomial-product, no-third, chebyshev-product}
 use Rattle.walk.proofs.powers.power_from.Statement.{statement}
@@ -32,7 +32,7 @@ enum-told c = search needs
 
 returns : tie.Need-returns
 returns c = let a = c .before .before .before .args in
-    let 𝓡 = rulesOf (a .numbers) in
+    let 𝓡 = rulesOf (a .arithmetic) in
     let powers = powersOf (now (a .powers)) (now (a .made)) in
     no-first 𝓡 powers (a .a) (a .b) (a .basis) (sym (c .before .before .power-at .ensures .is) ∙ ap found (c .enum-told .given .1))
 
@@ -51,7 +51,7 @@ returns-2 c =
     let at-known-told = at-power-at2 .before in
     let entry = at-known-told .before .before .before .before in
     let a = entry .args in
-    let 𝓡 = rulesOf (a .numbers) in
+    let 𝓡 = rulesOf (a .arithmetic) in
     let powers = powersOf (now (a .powers)) (now (a .made)) in
     no-second 𝓡 powers (a .a) (a .b) (a .basis) _ (first at-known-told)
     (sym (at-power-at2 .power-at2 .ensures .is) ∙ ap found (c .enum-told2 .given .1))
@@ -86,7 +86,7 @@ returns-3 c =
     let at-known-told = at-known-told2 .before .before .before .before in
     let entry = at-known-told .before .before .before .before in
     let a = entry .args in
-    let 𝓡 = rulesOf (a .numbers) in
+    let 𝓡 = rulesOf (a .arithmetic) in
     let powers = powersOf (now (a .powers)) (now (a .made)) in
     no-third 𝓡 powers (a .a) (a .b) _ _ (first at-known-told) (second at-known-told2)
     (ap powers (sym (at-distance .distance .ensures)) ∙ sym (at-power-at3 .power-at3 .ensures .is) ∙ ap found (c .enum-told5 .given .1))
@@ -102,7 +102,7 @@ returns-4 c =
     let at-known-told = at-known-told2 .before .before .before .before in
     let entry = at-known-told .before .before .before .before in
     let a = entry .args in
-    let 𝓡 = rulesOf (a .numbers) in
+    let 𝓡 = rulesOf (a .arithmetic) in
     let powers = powersOf (now (a .powers)) (now (a .made)) in
     ap some (c .product .ensures)
     ∙ monomial-product 𝓡 powers (a .a) (a .b) _ _ (first at-known-told) (second at-known-told2)
@@ -118,7 +118,7 @@ returns-5 c =
     let at-known-told = at-known-told2 .before .before .before .before in
     let entry = at-known-told .before .before .before .before in
     let a = entry .args in
-    let 𝓡 = rulesOf (a .numbers) in
+    let 𝓡 = rulesOf (a .arithmetic) in
     let powers = powersOf (now (a .powers)) (now (a .made)) in
     ap some (c .product-less .ensures)
     ∙ chebyshev-product 𝓡 powers (a .a) (a .b) _ _ _ (first at-known-told) (second at-known-told2)

@@ -5,7 +5,7 @@ use borrow.Author.Needs.{needs}
 use denote.Ref.{now}
 use Rattle.walk.specs.inside.Arrays.{found, powersOf}
 use Rattle.walk.specs.inside.Waits.{waitingIn}
-use Rattle.walk.specs.inside.Numbers.{rulesOf}
+use Rattle.walk.specs.inside.Arithmetic.{rulesOf}
 use Rattle.walk.proofs.StepLaws.{combine-missing, combine-is}
 use Rattle.walk.proofs.steps.combine.Statement.{statement}
 use Rattle.walk.proofs.steps.combine.Tie as tie
@@ -29,7 +29,7 @@ returns c =
     let a = entry .args in
     record {
       is = c .refused .ensures .is
-          ∙ combine-missing (rulesOf (a .numbers)) (a .plain) (powersOf (now (a .powers)) (now (a .made))) (waitingIn (a .w)) (a .p)
+          ∙ combine-missing (rulesOf (a .arithmetic)) (a .plain) (powersOf (now (a .powers)) (now (a .made))) (waitingIn (a .w)) (a .p)
           (sym (at-power-at .power-at .ensures .is) ∙ ap found (c .before .enum-told .given .1));
       fits = c .refused .ensures .fits;
     }
@@ -45,7 +45,7 @@ returns-2 c =
     let a = entry .args in
     record {
       is = c .join .ensures .is
-          ∙ combine-is (rulesOf (a .numbers)) (a .plain) (powersOf (now (a .powers)) (now (a .made))) (waitingIn (a .w)) (a .p) (at-v .v .given .0 .0)
+          ∙ combine-is (rulesOf (a .arithmetic)) (a .plain) (powersOf (now (a .powers)) (now (a .made))) (waitingIn (a .w)) (a .p) (at-v .v .given .0 .0)
           (sym (at-power-at .power-at .ensures .is) ∙ ap found (at-v .v .given .1));
       fits = c .join .ensures .fits;
     }

@@ -5,7 +5,7 @@ use borrow.Author.Needs.{needs}
 use denote.Ref.{now}
 use Rattle.walk.specs.inside.Arrays.{found, powersOf}
 use Rattle.walk.specs.inside.Waits.{waitingIn}
-use Rattle.walk.specs.inside.Numbers.{rulesOf}
+use Rattle.walk.specs.inside.Arithmetic.{rulesOf}
 use Rattle.walk.specs.Boundaries.{listAt, partOf}
 use Rattle.walk.specs.Load.{sumFrom}
 use Rattle.walk.proofs.StepLaws.{load-past, load-missing, load-is}
@@ -22,7 +22,7 @@ returns c = let a = c .before .before .before .args in
     let lists = listAt (now (a .coefficients)) (now (a .bounds)) in
     record {
       is = c .refused .ensures .is
-          ∙ load-past (rulesOf (a .numbers)) (a .parity) powers lists (waitingIn (a .w)) (a .i)
+          ∙ load-past (rulesOf (a .arithmetic)) (a .parity) powers lists (waitingIn (a .w)) (a .i)
           (list-past (now (a .coefficients)) (now (a .bounds)) (a .i) (c .before .if1 .taken));
       fits = c .refused .ensures .fits;
     }
@@ -54,9 +54,9 @@ returns-2 c =
     let part = partOf (now (a .coefficients)) (now (a .bounds)) (a .i) in
     record {
       is = c .refused2 .ensures .is
-          ∙ load-missing (rulesOf (a .numbers)) (a .parity) powers lists (waitingIn (a .w)) (a .i) part
+          ∙ load-missing (rulesOf (a .arithmetic)) (a .parity) powers lists (waitingIn (a .w)) (a .i) part
           (list-is (now (a .coefficients)) (now (a .bounds)) (a .i) (at-if1 .if1 .left))
-          (ap (sumFrom (rulesOf (a .numbers)) (a .parity) powers 0 (rulesOf (a .numbers) .nothing)) (sym (at-list-of .list-of .ensures)) ∙ sym
+          (ap (sumFrom (rulesOf (a .arithmetic)) (a .parity) powers 0 (rulesOf (a .arithmetic) .nothing)) (sym (at-list-of .list-of .ensures)) ∙ sym
           (at-sum-list .sum-list .ensures) ∙ ap found (c .before .enum-told .given .1));
       fits = c .refused2 .ensures .fits;
     }
@@ -77,9 +77,9 @@ returns-3 c =
     let part = partOf (now (a .coefficients)) (now (a .bounds)) (a .i) in
     record {
       is = c .push .ensures .is
-          ∙ load-is (rulesOf (a .numbers)) (a .parity) powers lists (waitingIn (a .w)) (a .i) part (at-v .v .given .0 .0)
+          ∙ load-is (rulesOf (a .arithmetic)) (a .parity) powers lists (waitingIn (a .w)) (a .i) part (at-v .v .given .0 .0)
           (list-is (now (a .coefficients)) (now (a .bounds)) (a .i) (at-if1 .if1 .left))
-          (ap (sumFrom (rulesOf (a .numbers)) (a .parity) powers 0 (rulesOf (a .numbers) .nothing)) (sym (at-list-of .list-of .ensures)) ∙ sym
+          (ap (sumFrom (rulesOf (a .arithmetic)) (a .parity) powers 0 (rulesOf (a .arithmetic) .nothing)) (sym (at-list-of .list-of .ensures)) ∙ sym
           (at-sum-list .sum-list .ensures) ∙ ap found (at-v .v .given .1));
       fits = c .push .ensures .fits;
     }

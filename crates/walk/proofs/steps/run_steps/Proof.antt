@@ -8,7 +8,7 @@ use denote.Ref.{now}
 use Rattle.walk.specs.inside.Arrays.{powersOf}
 use Rattle.walk.specs.inside.Taken.{stateOf}
 use Rattle.walk.specs.inside.Waits.{FitsSixteen}
-use Rattle.walk.specs.inside.Numbers.{rulesOf}
+use Rattle.walk.specs.inside.Arithmetic.{rulesOf}
 use Rattle.walk.specs.Boundaries.{listAt}
 use Rattle.walk.specs.Walk.{walkOf}
 use Rattle.walk.specs.Lent.{stepsFrom}
@@ -17,12 +17,12 @@ use Rattle.walk.proofs.steps.run_steps.Statement.{statement}
 use Rattle.walk.proofs.steps.run_steps.Tie as tie
 
 abbrev Inv-loop : tie.InvT-loop
-Inv-loop parity basis count y numbers coefficients bounds steps powers₀ made₀ w₀ i₀ powers made w i = (i ≤ count) ×
-    (FitsSixteen w × (leftFrom (rulesOf numbers) parity basis (listAt coefficients bounds) steps count i (stateOf powers made w)
-    ≡ walkOf (rulesOf numbers) parity basis (listAt coefficients bounds) (stepsFrom steps 0 count) y))
+Inv-loop parity basis count y arithmetic coefficients bounds steps powers₀ made₀ w₀ i₀ powers made w i = (i ≤ count) ×
+    (FitsSixteen w × (leftFrom (rulesOf arithmetic) parity basis (listAt coefficients bounds) steps count i (stateOf powers made w)
+    ≡ walkOf (rulesOf arithmetic) parity basis (listAt coefficients bounds) (stepsFrom steps 0 count) y))
 
 abbrev μ-loop : tie.MeasureT-loop
-μ-loop parity basis count y numbers coefficients bounds steps powers₀ made₀ w₀ i₀ powers made w i = count - i
+μ-loop parity basis count y arithmetic coefficients bounds steps powers₀ made₀ w₀ i₀ powers made w i = count - i
 
 first-powers-requires : tie.Need-first-powers-requires Inv-loop μ-loop
 first-powers-requires c κs = search needs
@@ -39,12 +39,12 @@ loop-holds c =
     let entry = at-first-powers .before .before .before in
     let a = entry .args in
     let lists = listAt (now (a .coefficients)) (now (a .bounds)) in
-    let first = ap₂ powersOf (at-first-powers .first-powers .ensures) (c .before .first-marks .ensures) ∙ powers-first (rulesOf (a .numbers)) 4096 (a .y)
+    let first = ap₂ powersOf (at-first-powers .first-powers .ensures) (c .before .first-marks .ensures) ∙ powers-first (rulesOf (a .arithmetic)) 4096 (a .y)
     (omega arith) in (
       search needs,
       (
         c .none-waiting .ensures .0,
-        left-start (rulesOf (a .numbers)) (a .parity) (a .basis) lists (now (a .steps)) (a .count) (a .y) _ _ first
+        left-start (rulesOf (a .arithmetic)) (a .parity) (a .basis) lists (now (a .steps)) (a .count) (a .y) _ _ first
             (c .none-waiting .ensures .1),
       ),
     )
@@ -70,7 +70,7 @@ returns c =
     let a = entry .args in
     let lists = listAt (now (a .coefficients)) (now (a .bounds)) in
     let state = stateOf (at-loop .loop .powers) (at-loop .loop .made) (at-loop .loop .w) in
-    left-refused (rulesOf (a .numbers)) (a .parity) (a .basis) lists (now (a .steps)) (a .count) (at-loop .loop .i) state (at-loop-test .loop-test .taken)
+    left-refused (rulesOf (a .arithmetic)) (a .parity) (a .basis) lists (now (a .steps)) (a .count) (at-loop .loop .i) state (at-loop-test .loop-test .taken)
     (at-step-at .step-at .ensures) (at-take-step .take-step .ensures) (c .if1 .taken)
     ∙ at-loop .loop .inv .1 .1
 
@@ -99,7 +99,7 @@ loop-again c =
       search needs,
       (
         at-take-step .take-step .ensures .fits,
-        left-next (rulesOf (a .numbers)) (a .parity) (a .basis) lists (now (a .steps)) (a .count) (at-loop .loop .i) state (at-loop-test .loop-test .taken)
+        left-next (rulesOf (a .arithmetic)) (a .parity) (a .basis) lists (now (a .steps)) (a .count) (at-loop .loop .i) state (at-loop-test .loop-test .taken)
             (at-step-at .step-at .ensures) (at-take-step .take-step .ensures) (c .before .if1 .left) ∙ at-loop .loop .inv .1 .1,
       ),
     )
@@ -115,7 +115,7 @@ returns-2 c =
     let a = entry .args in
     let lists = listAt (now (a .coefficients)) (now (a .bounds)) in
     let state = stateOf (at-loop .loop .powers) (at-loop .loop .made) (at-loop .loop .w) in
-    c .one-left .ensures ∙ sym (left-done (rulesOf (a .numbers)) (a .parity) (a .basis) lists (now (a .steps)) (a .count) (at-loop .loop .i) state
+    c .one-left .ensures ∙ sym (left-done (rulesOf (a .arithmetic)) (a .parity) (a .basis) lists (now (a .steps)) (a .count) (at-loop .loop .i) state
     (c .before .loop-test .left)) ∙ at-loop .loop .inv .1 .1
 
 pub run-steps-spec : {M : Type 1} → statement M

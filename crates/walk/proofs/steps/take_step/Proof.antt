@@ -6,7 +6,7 @@ use denote.Ref.{now}
 use Rattle.walk.specs.inside.Arrays.{powersOf}
 use Rattle.walk.specs.inside.Taken.{stateOf}
 use Rattle.walk.specs.Kinds.{kindOf}
-use Rattle.walk.specs.inside.Numbers.{rulesOf}
+use Rattle.walk.specs.inside.Arithmetic.{rulesOf}
 use Rattle.walk.specs.Boundaries.{listAt}
 use Rattle.walk.proofs.StepLaws.{turn-step, third-used, fourth-used, both-unused, act-make, act-used, act-load, act-combine, act-unknown}
 use Rattle.walk.proofs.steps.take_step.Statement.{statement}
@@ -24,7 +24,7 @@ returns c =
     let lists = listAt (now (a .coefficients)) (now (a .bounds)) in
     let state = stateOf (now (a .powers)) (now (a .made)) (a .w) in
     record {
-      is = act-make (rulesOf (a .numbers)) (a .parity) (a .basis) lists (step .kind) (step .x) (step .y) (step .z) state (at-if1 .if1 .taken)
+      is = act-make (rulesOf (a .arithmetic)) (a .parity) (a .basis) lists (step .kind) (step .x) (step .y) (step .z) state (at-if1 .if1 .taken)
           (c .make-power .result) (powersOf (c .make-power .last .1 .1 .1 .1 .1 .0) (c .make-power .last .1 .1 .1 .1 .1 .1 .0)) (c .make-power .ensures);
       fits = entry .pre .1;
     }
@@ -41,7 +41,7 @@ returns-2 c =
     let lists = listAt (now (a .coefficients)) (now (a .bounds)) in
     let state = stateOf (now (a .powers)) (now (a .made)) (a .w) in
     turn-step (now (a .powers)) (now (a .made)) (c .refused .ensures)
-    (act-used (rulesOf (a .numbers)) (a .parity) (a .basis) lists (step .kind) (step .x) (step .y) (step .z) state (at-if1 .if1 .left)
+    (act-used (rulesOf (a .arithmetic)) (a .parity) (a .basis) lists (step .kind) (step .x) (step .y) (step .z) state (at-if1 .if1 .left)
     (third-used (step .y) (step .z) (c .before .if2 .taken)))
 
 refused-requires-2 : tie.Need-refused-requires-2
@@ -57,7 +57,7 @@ returns-3 c =
     let lists = listAt (now (a .coefficients)) (now (a .bounds)) in
     let state = stateOf (now (a .powers)) (now (a .made)) (a .w) in
     turn-step (now (a .powers)) (now (a .made)) (c .refused2 .ensures)
-    (act-used (rulesOf (a .numbers)) (a .parity) (a .basis) lists (step .kind) (step .x) (step .y) (step .z) state (at-if1 .if1 .left)
+    (act-used (rulesOf (a .arithmetic)) (a .parity) (a .basis) lists (step .kind) (step .x) (step .y) (step .z) state (at-if1 .if1 .left)
     (fourth-used (step .y) (step .z) (at-if2 .if2 .left) (c .before .if3 .taken)))
 
 load-requires : tie.Need-load-requires
@@ -74,7 +74,7 @@ returns-4 c =
     let lists = listAt (now (a .coefficients)) (now (a .bounds)) in
     let state = stateOf (now (a .powers)) (now (a .made)) (a .w) in
     turn-step (now (a .powers)) (now (a .made)) (c .load .ensures)
-    (act-load (rulesOf (a .numbers)) (a .parity) (a .basis) lists (step .kind) (step .x) (step .y) (step .z) state
+    (act-load (rulesOf (a .arithmetic)) (a .parity) (a .basis) lists (step .kind) (step .x) (step .y) (step .z) state
     (both-unused (step .y) (step .z) (at-if2 .if2 .left) (at-if3 .if3 .left)) (at-if4 .if4 .taken))
 
 combine-requires : tie.Need-combine-requires
@@ -91,7 +91,7 @@ returns-5 c =
     let lists = listAt (now (a .coefficients)) (now (a .bounds)) in
     let state = stateOf (now (a .powers)) (now (a .made)) (a .w) in
     turn-step (now (a .powers)) (now (a .made)) (c .combine .ensures)
-    (act-combine (rulesOf (a .numbers)) (a .parity) (a .basis) lists (step .kind) (step .x) (step .y) (step .z) state
+    (act-combine (rulesOf (a .arithmetic)) (a .parity) (a .basis) lists (step .kind) (step .x) (step .y) (step .z) state
     (both-unused (step .y) (step .z) (at-if2 .if2 .left) (at-if3 .if3 .left)) false (ap kindOf (at-if5 .if5 .taken)) _ refl)
 
 combine-requires-2 : tie.Need-combine-requires-2
@@ -108,7 +108,7 @@ returns-6 c =
     let lists = listAt (now (a .coefficients)) (now (a .bounds)) in
     let state = stateOf (now (a .powers)) (now (a .made)) (a .w) in
     turn-step (now (a .powers)) (now (a .made)) (c .combine2 .ensures)
-    (act-combine (rulesOf (a .numbers)) (a .parity) (a .basis) lists (step .kind) (step .x) (step .y) (step .z) state
+    (act-combine (rulesOf (a .arithmetic)) (a .parity) (a .basis) lists (step .kind) (step .x) (step .y) (step .z) state
     (both-unused (step .y) (step .z) (at-if2 .if2 .left) (at-if3 .if3 .left)) true (ap kindOf (at-if6 .if6 .taken)) _ refl)
 
 refused-requires-3 : tie.Need-refused-requires-3
@@ -126,7 +126,7 @@ returns-7 c =
     let lists = listAt (now (a .coefficients)) (now (a .bounds)) in
     let state = stateOf (now (a .powers)) (now (a .made)) (a .w) in
     turn-step (now (a .powers)) (now (a .made)) (c .refused3 .ensures)
-    (act-unknown (rulesOf (a .numbers)) (a .parity) (a .basis) lists (step .kind) (step .x) (step .y) (step .z) state (at-if1 .if1 .left)
+    (act-unknown (rulesOf (a .arithmetic)) (a .parity) (a .basis) lists (step .kind) (step .x) (step .y) (step .z) state (at-if1 .if1 .left)
     (at-if4 .if4 .left) (at-if5 .if5 .left) (c .before .if6 .left))
 
 pub take-step-spec : {M : Type 1} → statement M

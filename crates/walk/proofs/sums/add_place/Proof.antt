@@ -8,7 +8,7 @@ use lib.IntN.{ℤ}
 use mir.Facts.{toZ-ofZ}
 use denote.Ref.{now}
 use Rattle.walk.specs.inside.Arrays.{found, powersOf}
-use Rattle.walk.specs.inside.Numbers.{rulesOf}
+use Rattle.walk.specs.inside.Arithmetic.{rulesOf}
 use Rattle.walk.proofs.SumLaws.{place-over, place-missing, place-added}
 use Rattle.walk.proofs.sums.add_place.Statement.{statement}
 use Rattle.walk.proofs.sums.add_place.Tie as tie
@@ -18,7 +18,7 @@ is-allowed-requires c κs = search needs
 
 returns : tie.Need-returns
 returns c = let a = c .before .before .args in
-    place-over (rulesOf (a .numbers)) (a .parity) (powersOf (now (a .powers)) (now (a .made))) (a .j) (a .sum) (a .c)
+    place-over (rulesOf (a .arithmetic)) (a .parity) (powersOf (now (a .powers)) (now (a .made))) (a .j) (a .sum) (a .c)
     (sym (c .before .is-allowed .ensures) ∙ not-true _ (c .if1 .taken))
 
 power-at-requires : tie.Need-power-at-requires
@@ -33,7 +33,7 @@ enum-told c = search needs
 returns-2 : tie.Need-returns-2
 returns-2 c = let at = c .before .before in
     let a = at .before .before .before .args in
-    place-missing (rulesOf (a .numbers)) (a .parity) (powersOf (now (a .powers)) (now (a .made))) (a .j) (a .sum) (a .c)
+    place-missing (rulesOf (a .arithmetic)) (a .parity) (powersOf (now (a .powers)) (now (a .made))) (a .j) (a .sum) (a .c)
     (sym (at .before .before .is-allowed .ensures) ∙ not-false _ (at .before .if1 .left))
     (sym (at .power-at .ensures .is) ∙ ap found (c .enum-told .given .1))
 
@@ -45,8 +45,8 @@ returns-3 c = let told = c .before .before in
     let at = told .before .before in
     let start = at .before .before .before in
     let a = start .args in
-    ap some (c .place .ensures ∙ ap (λ (z : ℤ). rulesOf (a .numbers) .place (a .sum) z (a .j) (told .p .given .0 .0)) (toZ-ofZ (start .fits .c)))
-    ∙ place-added (rulesOf (a .numbers)) (a .parity) (powersOf (now (a .powers)) (now (a .made))) (a .j) (a .sum) (a .c) (told .p .given .0 .0)
+    ap some (c .place .ensures ∙ ap (λ (z : ℤ). rulesOf (a .arithmetic) .place (a .sum) z (a .j) (told .p .given .0 .0)) (toZ-ofZ (start .fits .c)))
+    ∙ place-added (rulesOf (a .arithmetic)) (a .parity) (powersOf (now (a .powers)) (now (a .made))) (a .j) (a .sum) (a .c) (told .p .given .0 .0)
     (sym (at .before .before .is-allowed .ensures) ∙ not-false _ (at .before .if1 .left))
     (sym (at .power-at .ensures .is) ∙ ap found (told .p .given .1))
 

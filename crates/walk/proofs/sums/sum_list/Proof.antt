@@ -9,23 +9,24 @@ use mir.Syntax.{w64}
 use mir.Facts.{toZ-ofZ}
 use denote.Ref.{now}
 use Rattle.walk.specs.inside.Arrays.{found, powersOf}
-use Rattle.walk.specs.inside.Numbers.{rulesOf}
+use Rattle.walk.specs.inside.Arithmetic.{rulesOf}
 use Rattle.walk.specs.Load.{addPlace, sumFrom}
-use Rattle.walk.proofs.NumberLaws.{nothing-is}
+use Rattle.walk.proofs.ArithmeticLaws.{nothing-is}
 use Rattle.walk.proofs.SumLaws.{sum-missing, sum-next, sum-done}
 use Rattle.walk.proofs.sums.sum_list.Statement.{statement}
 use Rattle.walk.proofs.sums.sum_list.Tie as tie
 
 abbrev Inv-loop : tie.InvT-loop
-Inv-loop parity numbers list powers made sum₀ j₀ sum j = (j ≤ length list) ×
-    (sumFrom (rulesOf numbers) parity (powersOf powers made) j sum (drop j list) ≡ sumFrom (rulesOf numbers) parity (powersOf powers made) 0 (rulesOf numbers .nothing) list)
+Inv-loop parity arithmetic list powers made sum₀ j₀ sum j = (j ≤ length list) ×
+    (sumFrom (rulesOf arithmetic) parity (powersOf powers made) j sum (drop j list)
+    ≡ sumFrom (rulesOf arithmetic) parity (powersOf powers made) 0 (rulesOf arithmetic .nothing) list)
 
 abbrev μ-loop : tie.MeasureT-loop
-μ-loop parity numbers list powers made sum₀ j₀ sum j = length list - j
+μ-loop parity arithmetic list powers made sum₀ j₀ sum j = length list - j
 
 -- the place, added as the definition adds it
 added : (k : tie.After-add-place Inv-loop μ-loop) → let loop = k .before .before .before in let a = loop .before .args in
-    addPlace (rulesOf (a .numbers)) (a .parity) (powersOf (now (a .powers)) (now (a .made))) (loop .loop .j) (loop .loop .sum)
+    addPlace (rulesOf (a .arithmetic)) (a .parity) (powersOf (now (a .powers)) (now (a .made))) (loop .loop .j) (loop .loop .sum)
     (getD (now (a .list)) (loop .loop .j) (pos 0))
     ≡ found (k .add-place .result)
 added k =
@@ -33,14 +34,14 @@ added k =
     let loop = read .before .before in
     let a = loop .before .args in
     let z = getD (now (a .list)) (loop .loop .j) (pos 0) in
-    ap (addPlace (rulesOf (a .numbers)) (a .parity) (powersOf (now (a .powers)) (now (a .made))) (loop .loop .j) (loop .loop .sum))
+    ap (addPlace (rulesOf (a .arithmetic)) (a .parity) (powersOf (now (a .powers)) (now (a .made))) (loop .loop .j) (loop .loop .sum))
     (sym (toZ-ofZ {w = w64} {z = z} (record { sfits = read .add-place-arg .given })))
     ∙ sym (k .add-place .ensures)
 
 loop-holds : tie.Need-loop-holds Inv-loop μ-loop
 loop-holds c = let a = c .args in (
   search needs,
-  ap (λ (n : ℕ). sumFrom (rulesOf (a .numbers)) (a .parity) (powersOf (now (a .powers)) (now (a .made))) 0 n (now (a .list))) (nothing-is (a .numbers)),
+  ap (λ (n : ℕ). sumFrom (rulesOf (a .arithmetic)) (a .parity) (powersOf (now (a .powers)) (now (a .made))) 0 n (now (a .list))) (nothing-is (a .arithmetic)),
 )
 
 mul-add-place : tie.Need-mul-add-place Inv-loop μ-loop
@@ -63,7 +64,7 @@ returns c = let place = c .before .before in
     let loop = place .before .before .before in
     let a = loop .before .args in
     sym (sym (loop .loop .inv .1)
-    ∙ sum-missing (rulesOf (a .numbers)) (a .parity) (powersOf (now (a .powers)) (now (a .made))) (now (a .list)) (loop .loop .j) (loop .loop .sum)
+    ∙ sum-missing (rulesOf (a .arithmetic)) (a .parity) (powersOf (now (a .powers)) (now (a .made))) (now (a .list)) (loop .loop .j) (loop .loop .sum)
     (place .before .before .loop-test .taken) (added place ∙ ap found (c .enum-told .given .1)))
 
 add-j : tie.Need-add-j Inv-loop μ-loop
@@ -77,7 +78,7 @@ loop-again c = let place = c .before .before .before in
     let loop = place .before .before .before in
     let a = loop .before .args in (
       search needs,
-      sym (sum-next (rulesOf (a .numbers)) (a .parity) (powersOf (now (a .powers)) (now (a .made))) (now (a .list)) (loop .loop .j)
+      sym (sum-next (rulesOf (a .arithmetic)) (a .parity) (powersOf (now (a .powers)) (now (a .made))) (now (a .list)) (loop .loop .j)
           (loop .loop .sum)
           (c .before .next .given .0 .0) (place .before .before .loop-test .taken) (added place ∙ ap found (c .before .next .given .1)))
           ∙ loop .loop .inv .1,
@@ -86,7 +87,7 @@ loop-again c = let place = c .before .before .before in
 returns-2 : tie.Need-returns-2 Inv-loop μ-loop
 returns-2 c = let loop = c .before in
     let a = loop .before .args in
-    sym (sum-done (rulesOf (a .numbers)) (a .parity) (powersOf (now (a .powers)) (now (a .made))) (now (a .list)) (loop .loop .j) (loop .loop .sum)
+    sym (sum-done (rulesOf (a .arithmetic)) (a .parity) (powersOf (now (a .powers)) (now (a .made))) (now (a .list)) (loop .loop .j) (loop .loop .sum)
     (c .loop-test .left))
     ∙ loop .loop .inv .1
 

@@ -2,7 +2,7 @@
 use mathlib.Core.Path.{_∙_}
 use borrow.Author.Needs.{needs}
 use Rattle.algebra.specs.declared.PolynomialInputTransform.the-variants.{Identity, Square, SquareTimesInput, ChebyshevT2, ChebyshevT2TimesInput}
-use Rattle.walk.proofs.NumberLaws.{input-by}
+use Rattle.walk.proofs.ArithmeticLaws.{input-by}
 use Rattle.walk.proofs.transform.input_of.Statement.{statement}
 use Rattle.walk.proofs.transform.input_of.Tie as tie
 
@@ -35,23 +35,23 @@ second-chebyshev-requires-2 c κs = search needs
 
 returns : tie.Need-returns
 returns c = let a = c .before .before .args in
-    rw (c .enum-told .given .1) (input-by (a .numbers) Identity (a .x))
+    rw (c .enum-told .given .1) (input-by (a .arithmetic) Identity (a .x))
 
 returns-2 : tie.Need-returns-2
 returns-2 c = let a = c .before .before .before .args in
-    rw (c .before .enum-told2 .given .1) (c .product .ensures ∙ input-by (a .numbers) Square (a .x))
+    rw (c .before .enum-told2 .given .1) (c .product .ensures ∙ input-by (a .arithmetic) Square (a .x))
 
 returns-3 : tie.Need-returns-3
 returns-3 c = let a = c .before .before .before .args in
-    rw (c .before .enum-told3 .given .1) (c .product2 .ensures ∙ input-by (a .numbers) SquareTimesInput (a .x))
+    rw (c .before .enum-told3 .given .1) (c .product2 .ensures ∙ input-by (a .arithmetic) SquareTimesInput (a .x))
 
 returns-4 : tie.Need-returns-4
 returns-4 c = let a = c .before .before .before .args in
-    rw (c .before .enum-told4 .given .1) (c .second-chebyshev .ensures ∙ input-by (a .numbers) ChebyshevT2 (a .x))
+    rw (c .before .enum-told4 .given .1) (c .second-chebyshev .ensures ∙ input-by (a .arithmetic) ChebyshevT2 (a .x))
 
 returns-5 : tie.Need-returns-5
 returns-5 c = let a = c .before .before .before .args in
-    rw (c .before .enum-told5 .given .1) (c .second-chebyshev2 .ensures ∙ input-by (a .numbers) ChebyshevT2TimesInput (a .x))
+    rw (c .before .enum-told5 .given .1) (c .second-chebyshev2 .ensures ∙ input-by (a .arithmetic) ChebyshevT2TimesInput (a .x))
 
 pub input-of-spec : {M : Type 1} → statement M
 input-of-spec =

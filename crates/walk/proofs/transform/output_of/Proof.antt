@@ -2,7 +2,7 @@
 use mathlib.Core.Path.{_∙_}
 use borrow.Author.Needs.{needs}
 use Rattle.algebra.specs.declared.PolynomialInputTransform.the-variants.{Identity, Square, SquareTimesInput, ChebyshevT2, ChebyshevT2TimesInput}
-use Rattle.walk.proofs.NumberLaws.{output-by}
+use Rattle.walk.proofs.ArithmeticLaws.{output-by}
 use Rattle.walk.proofs.transform.output_of.Statement.{statement}
 use Rattle.walk.proofs.transform.output_of.Tie as tie
 
@@ -29,23 +29,23 @@ product-requires-2 c κs = search needs
 
 returns : tie.Need-returns
 returns c = let a = c .before .before .args in
-    rw (c .enum-told .given .1) (output-by (a .numbers) Identity (a .x) (a .v))
+    rw (c .enum-told .given .1) (output-by (a .arithmetic) Identity (a .x) (a .v))
 
 returns-2 : tie.Need-returns-2
 returns-2 c = let a = c .before .before .args in
-    rw (c .enum-told2 .given .1) (output-by (a .numbers) Square (a .x) (a .v))
+    rw (c .enum-told2 .given .1) (output-by (a .arithmetic) Square (a .x) (a .v))
 
 returns-3 : tie.Need-returns-3
 returns-3 c = let a = c .before .before .before .args in
-    rw (c .before .enum-told3 .given .1) (c .product .ensures ∙ output-by (a .numbers) SquareTimesInput (a .x) (a .v))
+    rw (c .before .enum-told3 .given .1) (c .product .ensures ∙ output-by (a .arithmetic) SquareTimesInput (a .x) (a .v))
 
 returns-4 : tie.Need-returns-4
 returns-4 c = let a = c .before .before .args in
-    rw (c .enum-told4 .given .1) (output-by (a .numbers) ChebyshevT2 (a .x) (a .v))
+    rw (c .enum-told4 .given .1) (output-by (a .arithmetic) ChebyshevT2 (a .x) (a .v))
 
 returns-5 : tie.Need-returns-5
 returns-5 c = let a = c .before .before .before .args in
-    rw (c .before .enum-told5 .given .1) (c .product2 .ensures ∙ output-by (a .numbers) ChebyshevT2TimesInput (a .x) (a .v))
+    rw (c .before .enum-told5 .given .1) (c .product2 .ensures ∙ output-by (a .arithmetic) ChebyshevT2TimesInput (a .x) (a .v))
 
 pub output-of-spec : {M : Type 1} → statement M
 output-of-spec =

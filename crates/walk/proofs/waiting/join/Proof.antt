@@ -5,7 +5,7 @@ use Prim.Native.Nat.{_≤_}
 use native.Mathlib.Omega.{arith}
 use borrow.Author.Needs.{needs}
 use lib.ListN.{length, length-set}
-use Rattle.walk.specs.inside.Numbers.{rulesOf}
+use Rattle.walk.specs.inside.Arithmetic.{rulesOf}
 use Rattle.walk.proofs.StackLaws.{join-is, join-few}
 use Rattle.walk.proofs.waiting.join.Statement.{statement}
 use Rattle.walk.proofs.waiting.join.Tie as tie
@@ -17,7 +17,7 @@ returns : tie.Need-returns
 returns c = let start = c .before .before in
     let w = start .args .t1 in
     record {
-      is = c .refused .ensures .is ∙ join-few (rulesOf (start .args .numbers)) (start .args .plain) (start .args .power) (w .values) (w .count)
+      is = c .refused .ensures .is ∙ join-few (rulesOf (start .args .arithmetic)) (start .args .plain) (start .args .power) (w .values) (w .count)
           (c .before .if1 .taken);
       fits = c .refused .ensures .fits;
     }
@@ -57,7 +57,7 @@ returns-2 c =
     let inside : w .count ≤ length (w .values) = omega arith in
     record {
       is = rw (c .combined .ensures)
-          (join-is (rulesOf (entry .args .numbers)) (entry .args .plain) (entry .args .power) (w .values) (w .count) (at-if1 .if1 .left) inside);
+          (join-is (rulesOf (entry .args .arithmetic)) (entry .args .plain) (entry .args .power) (w .values) (w .count) (at-if1 .if1 .left) inside);
       fits = record { count = omega arith; places = simp length-set (entry .pre .0 .places) };
     }
 

@@ -2,7 +2,7 @@
 use mathlib.Core.Path.{_∙_, ap}
 use Prim.Native.Nat.{max}
 use borrow.Author.Needs.{needs}
-use Rattle.walk.proofs.NumberLaws.{place-constant, place-power}
+use Rattle.walk.proofs.ArithmeticLaws.{place-constant, place-power}
 use Rattle.walk.proofs.weights.place_weight.Statement.{statement}
 use Rattle.walk.proofs.weights.place_weight.Tie as tie
 
@@ -18,7 +18,9 @@ greater-requires c κs = search needs
 returns-2 : tie.Need-returns-2
 returns-2 c =
     let a = c .before .before .before .args in
-    c .greater .ensures ∙ ap (max (a .sum)) (c .before .product-weight .ensures) ∙ place-power (a .coeff) (a .sum) (a .j) (a .power) (c .before .before .if1 .left)
+    c .greater .ensures
+    ∙ ap (max (a .sum)) (c .before .product-weight .ensures)
+    ∙ place-power (a .coeff) (a .sum) (a .j) (a .power) (c .before .before .if1 .left)
 
 pub place-weight-spec : {M : Type 1} → statement M
 place-weight-spec = tie.close (tie.spec returns product-weight-requires greater-requires returns-2)

@@ -1,4 +1,4 @@
--- The two kinds of numbers that the steps run on, by what is known of them where the program has looked.
+-- The two arithmetics that the steps run on, remainders and weights: what is the same for both is said of both. By cases, as the rules of each compute.
 use mathlib.Core.Path.{_≡_, refl, subst}
 use Prim.Native.Nat.{ℕ, zero, suc, max}
 use native.Mathlib.Omega.{arith}
@@ -9,15 +9,16 @@ use Rattle.walk.specs.Rules.{Rules}
 use Rattle.walk.specs.MadeRules.{placeMade, inputMade, outputMade}
 use Rattle.walk.specs.inside.Modulus.{IsModulus}
 use Rattle.walk.specs.inside.Weights.{weightMaking}
-use Rattle.walk.specs.inside.Numbers.{rulesOf, Usable}
-use Rattle.walk.specs.declared.numbers.Numbers.{Numbers}
-use Rattle.walk.specs.declared.numbers.Numbers.the-variants.{Remainders, Weights}
+use Rattle.walk.specs.inside.Arithmetic.{rulesOf, Usable}
+use Rattle.walk.specs.declared.arithmetic.Arithmetic.{Arithmetic}
+use Rattle.walk.specs.declared.arithmetic.Arithmetic.the-variants.{Remainders, Weights}
 
-pub modulus-of : {numbers : Numbers} {m : ℕ} → numbers ≡ Remainders m → Usable numbers → IsModulus m
+-- remainders that can be used have a modulus
+pub modulus-of : {arithmetic : Arithmetic} {m : ℕ} → arithmetic ≡ Remainders m → Usable arithmetic → IsModulus m
 modulus-of e h = subst Usable e h
 
--- a list starts from 0, whatever the numbers are
-pub nothing-is : (numbers : Numbers) → 0 ≡ rulesOf numbers .nothing
+-- a list starts from 0, whatever the arithmetic is
+pub nothing-is : (arithmetic : Arithmetic) → 0 ≡ rulesOf arithmetic .nothing
 nothing-is (Remainders m) = refl
 nothing-is (Weights input coeff) = refl
 
@@ -40,8 +41,8 @@ inputBy 𝓡 SquareTimesInput x = 𝓡 .product x x
 inputBy 𝓡 ChebyshevT2 x = 𝓡 .productLess x x (𝓡 .one)
 inputBy 𝓡 ChebyshevT2TimesInput x = 𝓡 .productLess x x (𝓡 .one)
 
-pub input-by : (numbers : Numbers) (transform : PolynomialInputTransform) (x : ℕ)
-    → inputBy (rulesOf numbers) transform x ≡ rulesOf numbers .input transform x
+pub input-by : (arithmetic : Arithmetic) (transform : PolynomialInputTransform) (x : ℕ)
+    → inputBy (rulesOf arithmetic) transform x ≡ rulesOf arithmetic .input transform x
 unfolding inputOf inputMade
 input-by (Remainders m) Identity x = refl
 input-by (Remainders m) Square x = refl
@@ -61,8 +62,8 @@ outputBy 𝓡 SquareTimesInput x v = 𝓡 .product x v
 outputBy 𝓡 ChebyshevT2 x v = v
 outputBy 𝓡 ChebyshevT2TimesInput x v = 𝓡 .product x v
 
-pub output-by : (numbers : Numbers) (transform : PolynomialInputTransform) (x v : ℕ)
-    → outputBy (rulesOf numbers) transform x v ≡ rulesOf numbers .output transform x v
+pub output-by : (arithmetic : Arithmetic) (transform : PolynomialInputTransform) (x v : ℕ)
+    → outputBy (rulesOf arithmetic) transform x v ≡ rulesOf arithmetic .output transform x v
 unfolding outputOf outputMade
 output-by (Remainders m) Identity x v = refl
 output-by (Remainders m) Square x v = refl
