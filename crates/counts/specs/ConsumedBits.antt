@@ -1,4 +1,4 @@
--- Consumed bits (docs/RULES.md, "Depth and bits"): the weight of the heaviest chain.
+-- Consumed bits (docs/RULES.md, "Depth and bits"): the published closed form for the weight of the heaviest chain.
 -- Each ct-ct multiplication weighs the input scale, and a chain has at most one pt-ct, which weighs the coefficient scale.
 use mathlib.Core.Bool.{cond}
 use Prim.Native.Nat.{ℕ, zero, suc, _+_, _-_, _*_, max}

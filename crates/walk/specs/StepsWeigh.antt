@@ -24,6 +24,7 @@ weightsOf powers [] = []
 weightsOf powers (zero ∷ ns) = weightsOf powers ns
 weightsOf powers (suc n ∷ ns) = orZero (image heaviest (powers (suc n))) ∷ weightsOf powers ns
 
+-- the greatest of some weights, 0 if there is none
 unfoldable pub greatestOf : List ℕ → ℕ
 greatestOf [] = 0
 greatestOf (w ∷ ws) = max w (greatestOf ws)
@@ -50,6 +51,7 @@ lastWeight input ChebyshevT2 w = w
 lastWeight input ChebyshevT2TimesInput w = w + input
 
 module _ (input coeff : ℕ) where
+  -- the rules at these scales
   abbrev rules : Rules Value
   rules = madeRules valueMaking input coeff
 

@@ -1,5 +1,4 @@
 -- Definitions that only serve the proofs between our own functions: no reader needs them to believe a public call.
-
 pub mod Modulus
 pub mod Weights
 pub mod Arithmetic

@@ -2,18 +2,14 @@
 //! that can be walked, and of damaged ones.
 
 use std::process::exit;
-use std::sync::Mutex;
-use std::sync::atomic::{AtomicUsize, Ordering};
-use std::thread::{available_parallelism, scope};
 
 use super::lent::{damage, limits, random};
+use super::parts::{self, PART};
 use crate::chain::Head;
 use crate::chains::Lent;
 use crate::inputs::{MAX_DEGREE, MAX_SCALE, Rng, length};
 use crate::printed::{plan, settings};
 
-/// Random plans are made in parts, each from a seed of its own, so that the plans do not hang on the number of threads.
-const PART: u64 = 1_000;
 const ROWS: [&str; 5] = [
     "planned",
     "planned, damaged",
@@ -24,7 +20,7 @@ const ROWS: [&str; 5] = [
 const REFUSALS: [u8; 4] = [0, 10, 24, 43];
 
 /// For each row how many plans each refusal had.
-type Tally = [[u64; REFUSALS.len()]; ROWS.len()];
+type Tally = parts::Tally<{ ROWS.len() }>;
 
 #[repr(C)]
 struct CChain {
@@ -204,67 +200,22 @@ fn scale(g: &mut Rng) -> usize {
     }
 }
 
-/// What the threads share.
-struct Run {
-    count: u64,
-    seed: u64,
-    next: AtomicUsize,
-    total: Mutex<Tally>,
-    /// The part of the first difference, and its plan.
-    found: Mutex<Option<(usize, Case)>>,
-}
-
 /// Compares every degree and setting, and `count` random plans. At the first difference it says a small plan that shows one and
 /// ends with status 1.
 pub fn compare(count: u64, seed: u64) {
-    let run = Run {
-        count,
-        seed,
-        next: AtomicUsize::new(0),
-        total: Mutex::default(),
-        found: Mutex::default(),
-    };
-    scope(|s| {
-        let threads = available_parallelism().map_or(1, |n| n.get());
-        (0..threads).for_each(|_| drop(s.spawn(|| run.work())));
-    });
-    match run.found.into_inner().unwrap() {
-        Some((_, case)) => stop(case, seed),
-        None => summary(&run.total.into_inner().unwrap(), seed),
-    }
-}
-
-impl Run {
-    /// Takes parts in order, as the comparison of calls does.
-    fn work(&self) {
-        let parts = MAX_DEGREE + self.count.div_ceil(PART) as usize;
-        let mut tally = Tally::default();
-        loop {
-            let k = self.next.fetch_add(1, Ordering::Relaxed);
-            let late = self.found.lock().unwrap().as_ref().is_some_and(|f| f.0 < k);
-            if k >= parts || late {
-                break;
-            }
-            self.part(k, &mut tally);
-        }
-        let mut total = self.total.lock().unwrap();
-        let all = total.iter_mut().flatten().zip(tally.iter().flatten());
-        all.for_each(|(t, n)| *t += n);
-    }
-
-    fn part(&self, k: usize, tally: &mut Tally) {
-        for case in part(k, self.count, self.seed) {
-            let expected = case.expected();
-            if case.ours() != expected {
-                let mut found = self.found.lock().unwrap();
-                if found.as_ref().is_none_or(|f| k < f.0) {
-                    *found = Some((k, case));
-                }
-                return;
-            }
+    let parts = MAX_DEGREE + count.div_ceil(PART) as usize;
+    let agrees = |case: &Case, _: usize, tally: &mut Tally| {
+        let expected = case.expected();
+        let agrees = case.ours() == expected;
+        if agrees {
             let place = REFUSALS.iter().position(|&r| r == expected.0.0);
             tally[case.row][place.expect("a refusal of the chain")] += 1;
         }
+        agrees
+    };
+    match parts::compare(parts, |k| part(k, count, seed), agrees) {
+        Ok(total) => summary(&total, seed),
+        Err(case) => stop(case, seed),
     }
 }
 

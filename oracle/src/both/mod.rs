@@ -4,6 +4,7 @@ mod call;
 pub mod chains;
 mod lent;
 mod ours;
+mod parts;
 mod random;
 mod rules;
 mod smaller;
@@ -11,23 +12,19 @@ mod sweeps;
 mod theirs;
 
 use std::process::exit;
-use std::sync::Mutex;
-use std::sync::atomic::{AtomicUsize, Ordering};
-use std::thread::{available_parallelism, scope};
 
 use crate::inputs::{MAX_DEGREE, Rng};
 use call::{Call, NAMES, row_name};
 pub use ours::kinds_of;
+use parts::PART;
 use rules::{Refusal, refusal};
 pub use theirs::value;
 
 const ROWS: usize = 2 * NAMES.len();
-/// Random calls are made in parts, each from a seed of its own, so that the calls do not hang on the number of threads.
-const PART: u64 = 1_000;
 
 /// For each row: calls compared in the sweeps and at random; how many of them both sides refused; and, beside these,
 /// inputs outside limits that the published code has not, where only our refusal is looked at.
-type Tally = [[u64; 4]; ROWS];
+type Tally = parts::Tally<ROWS>;
 
 /// One part of the work: part 0 has the splits and degree 0, then comes each degree, then the random calls.
 fn part(k: usize, count: u64, seed: u64) -> Vec<Call> {
@@ -50,63 +47,19 @@ pub fn differs(call: &Call) -> bool {
     theirs::answer(call) != ours::answer(call)
 }
 
-/// What the threads share.
-struct Run {
-    count: u64,
-    seed: u64,
-    next: AtomicUsize,
-    total: Mutex<Tally>,
-    /// The part of the first difference, and its call.
-    found: Mutex<Option<(usize, Call)>>,
-}
-
 /// Compares the sweeps and `count` random calls. At the first difference it says the smallest input and ends with status 1.
 pub fn compare(count: u64, seed: u64) {
-    let run = Run {
-        count,
-        seed,
-        next: AtomicUsize::new(0),
-        total: Mutex::new([[0; 4]; ROWS]),
-        found: Mutex::new(None),
+    let parts = MAX_DEGREE + 1 + count.div_ceil(PART) as usize;
+    let agrees = |call: &Call, k: usize, tally: &mut Tally| {
+        let agrees = !differs(call);
+        if agrees {
+            count_in(&mut tally[call.row()], call, k > MAX_DEGREE);
+        }
+        agrees
     };
-    scope(|s| {
-        let threads = available_parallelism().map_or(1, |n| n.get());
-        (0..threads).for_each(|_| drop(s.spawn(|| run.work())));
-    });
-    match run.found.into_inner().unwrap() {
-        Some((_, call)) => stop(call, seed),
-        None => summary(&run.total.into_inner().unwrap(), seed),
-    }
-}
-
-impl Run {
-    /// Takes parts in order. Each before the one with a difference is worked through, so the same difference is found
-    /// whatever the threads do.
-    fn work(&self) {
-        let mut tally: Tally = [[0; 4]; ROWS];
-        let parts = MAX_DEGREE + 1 + self.count.div_ceil(PART) as usize;
-        loop {
-            let k = self.next.fetch_add(1, Ordering::Relaxed);
-            let late = self.found.lock().unwrap().as_ref().is_some_and(|f| f.0 < k);
-            if k >= parts || late {
-                break;
-            }
-            self.part(k, &mut tally);
-        }
-        add(&mut self.total.lock().unwrap(), &tally);
-    }
-
-    fn part(&self, k: usize, tally: &mut Tally) {
-        for call in part(k, self.count, self.seed) {
-            if differs(&call) {
-                let mut found = self.found.lock().unwrap();
-                if found.as_ref().is_none_or(|f| k < f.0) {
-                    *found = Some((k, call));
-                }
-                return;
-            }
-            count_in(&mut tally[call.row()], &call, k > MAX_DEGREE);
-        }
+    match parts::compare(parts, |k| part(k, count, seed), agrees) {
+        Ok(total) => summary(&total, seed),
+        Err(call) => stop(call, seed),
     }
 }
 
@@ -118,12 +71,6 @@ fn count_in(row: &mut [u64; 4], call: &Call, random: bool) {
             row[2] += 1
         }
         None => row[random as usize] += 1,
-    }
-}
-
-fn add(total: &mut Tally, more: &Tally) {
-    for (t, m) in total.iter_mut().flatten().zip(more.iter().flatten()) {
-        *t += m;
     }
 }
 

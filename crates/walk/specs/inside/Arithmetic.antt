@@ -7,6 +7,7 @@ use Rattle.walk.specs.inside.Weights.{weightMaking}
 use Rattle.walk.specs.declared.arithmetic.Arithmetic.{Arithmetic}
 use Rattle.walk.specs.declared.arithmetic.Arithmetic.the-variants.{Remainders, Weights}
 
+-- the rules over remainders are those of the trial walk, those over weights what values are made of
 abbrev pub rulesOf : Arithmetic → Rules ℕ
 rulesOf (Remainders m) = trialRules m
 rulesOf (Weights input coeff) = madeRules weightMaking input coeff
