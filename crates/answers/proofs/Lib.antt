@@ -2,7 +2,7 @@ mod InputLaws
 mod HeldLaws
 pub mod PieceLaws
 mod AnswerCases
-mod Rooms
+pub mod Rooms
 mod AnswerLaws
 mod TurnLaws
 pub mod InputLines

@@ -1,3 +1,4 @@
 pub mod Letters
 pub mod ZeroChain
+pub mod ZerosWeighed
 pub mod Line

@@ -17,24 +17,18 @@ use Rattle.lines.specs.Letters.{bases, parities, strategies, says}
 use Rattle.walk.specs.Chain.{chainOf}
 use Rattle.walk.specs.declared.chain.Chain.{Chain}
 use Rattle.plan.specs.PlanCall.{planAnswer, planCoefficients, planBoundaries, planNumbers}
+use Rattle.answers.specs.Limits.{listRoom, stepRoom}
 use Rattle.chains.specs.declared.letters.Letters.{Letters}
 
--- places for coefficients and lists, and for the numbers of the steps: enough for the plans below degree 512
-abbrev pub places : ℕ
-places = 512
-
-abbrev pub numbers : ℕ
-numbers = 6144
-
--- buffers of zeros
+-- buffers of zeros, as long as every plan needs them
 unfoldable pub noCoefficients : List ℤ
-noCoefficients = replicate places (pos 0)
+noCoefficients = replicate listRoom (pos 0)
 
 unfoldable pub noBounds : List ℕ
-noBounds = replicate places 0
+noBounds = replicate listRoom 0
 
 unfoldable pub noSteps : List ℕ
-noSteps = replicate numbers 0
+noSteps = replicate stepRoom 0
 
 -- what the letters say
 abbrev pub basisOf : Letters → Basis

@@ -8,15 +8,14 @@ use letters::letters_at;
 use libc::STDOUT_FILENO;
 use line::LINE_ROOM;
 use line::put_line;
-use weigh::PLACES;
 use weigh::closed_bits;
 use weigh::weigh_zeros;
 ghost use Prim.Native.Nat.{_<_};
-ghost use Rattle.chains.specs.ZeroChain.{places};
+ghost use Rattle.answers.specs.Limits.{listRoom};
 
 // The line of a degree and setting k. It answers false where writing fails, which is said on standard error.
 fn print_line(degree: usize, k: usize) -> bool
-    requires { ⌜ degree < places ⌝ }
+    requires { ⌜ degree < listRoom ⌝ }
 {
     let letters = letters_at(k);
     let chain = weigh_zeros(letters, degree);
@@ -32,7 +31,7 @@ fn print_line(degree: usize, k: usize) -> bool
 
 // The lines of a degree, in the order of the settings.
 fn print_degree(degree: usize) -> bool
-    requires { ⌜ degree < places ⌝ }
+    requires { ⌜ degree < listRoom ⌝ }
 {
     let mut k = 0;
     while k < 12 {
@@ -47,7 +46,7 @@ fn print_degree(degree: usize) -> bool
 // Every degree in turn.
 fn main() {
     let mut degree = 2;
-    while degree < PLACES {
+    while degree < 512 {
         if !print_degree(degree) {
             return;
         }

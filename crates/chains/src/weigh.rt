@@ -1,5 +1,7 @@
 // The two numbers of a line.
 use crate::letters::Letters;
+use answers::LIST_ROOM;
+use answers::STEP_ROOM;
 use firrozun::bsgs_consumed_bits;
 use firrozun::heaviest_chain;
 use firrozun::plan;
@@ -8,41 +10,36 @@ use lines::letter::parity_of;
 use lines::letter::strategy_of;
 ghost use mathlib.Core.Path.{_≡_};
 ghost use Prim.Native.Nat.{_<_};
-ghost use Rattle.chains.specs.ZeroChain.{places, noCoefficients, noBounds, noSteps, zeroChain, closedBits};
+ghost use Rattle.answers.specs.Limits.{listRoom};
+ghost use Rattle.chains.specs.ZeroChain.{noCoefficients, noBounds, noSteps, zeroChain, closedBits};
 
 // The scales.
 const INPUT: usize = 30;
 
 const COEFF: usize = 20;
 
-// Places for the coefficients and the lists of the plans.
-pub const PLACES: usize = 512;
-
-// Places for their steps.
-const NUMBERS: usize = 6144;
-
 // Buffers of zeros.
-fn no_coefficients() -> [i64; PLACES]
+fn no_coefficients() -> [i64; LIST_ROOM]
     ensures { λ r. ⌜ r ≡ noCoefficients ⌝ }
 {
-    [0; PLACES]
+    [0; LIST_ROOM]
 }
 
-fn no_bounds() -> [u16; PLACES]
+fn no_bounds() -> [u16; LIST_ROOM]
     ensures { λ r. ⌜ r ≡ noBounds ⌝ }
 {
-    [0; PLACES]
+    [0; LIST_ROOM]
 }
 
-fn no_steps() -> [u16; NUMBERS]
+fn no_steps() -> [u16; STEP_ROOM]
     ensures { λ r. ⌜ r ≡ noSteps ⌝ }
 {
-    [0; NUMBERS]
+    [0; STEP_ROOM]
 }
 
 // The heaviest chain of the zero curve's plan, which is made in buffers of its own.
 pub fn weigh_zeros(letters: Letters, degree: usize) -> u64
-    requires { ⌜ degree < places ⌝ }
+    requires { ⌜ degree < listRoom ⌝ }
     ensures { λ r. ⌜ r ≡ zeroChain letters degree .weight ⌝ }
 {
     let curve = no_coefficients();

@@ -3,7 +3,6 @@
 use mathlib.Core.Path.{_≡_, refl, ap, sym, subst, _∙_}
 use mathlib.Core.Bool.{Bool, true, false, _||_, true≢false}
 use mathlib.Core.List.{List, [], _∷_, _++_}
-use mathlib.Core.Option.{Option, some, none}
 use Prim.Native.Nat.{ℕ, zero, suc, _<_}
 use native.Mathlib.Omega.{arith}
 use borrow.Author.Tests.{ltb-false}
@@ -26,8 +25,7 @@ use Rattle.number.specs.declared.split.Parts.{Parts}
 use Rattle.number.proofs.Refusal.{none-holds, refusals-say, when-refused, when-accepted}
 use Rattle.interpolation.specs.InterpolateCall.{interpolateRefusal, interpolateAnswer, interpolateBuffer}
 use Rattle.interpolation.specs.declared.Interpolated.{Interpolated}
-use Rattle.counts.specs.Calls.{noSplit, minDepthRefusal, minDepthCall, minMultRefusal, minMultCall, noCounts, countsRefusal, countsCall}
-use Rattle.counts.specs.Calls.{noDepth, depthRefusal, depthCall, noBits, bitsRefusal, bitsCall}
+use Rattle.counts.specs.Calls.{noSplit, minDepthRefusal, minDepthCall, minMultRefusal, minMultCall, noCounts, countsRefusal, countsCall, noDepth, depthRefusal, depthCall, noBits, bitsRefusal, bitsCall}
 use Rattle.counts.specs.Choice.{splitFor, countsOf}
 use Rattle.counts.specs.ConsumedBits.{bitsOf}
 use Rattle.counts.specs.Depth.{depthOf}
@@ -42,7 +40,6 @@ use Rattle.counts.specs.declared.depth.EvalDepth.{EvalDepth}
 use Rattle.lists.specs.ListCall.{listTests, listRefusal, listAnswer, listCoefficients, listBoundaries}
 use Rattle.lists.specs.declared.call.Listed.{Listed}
 use Rattle.walk.specs.Limits.{modulusLimit}
-use Rattle.walk.specs.Options.{missing, image}
 use Rattle.walk.specs.Lent.{exactWalk}
 use Rattle.walk.specs.Trial.{trialTests, trialRefusal, trialOf}
 use Rattle.walk.specs.declared.plan.Head.{Head}
@@ -50,18 +47,16 @@ use Rattle.walk.specs.Chain.{answerMade, chainTests, chainRefusal, chainOf}
 use Rattle.walk.specs.HeaviestChain.{GreatestOfAnswer}
 use Rattle.walk.specs.declared.call.Trial.{Trial}
 use Rattle.walk.specs.declared.chain.Chain.{Chain}
-use Rattle.walk.proofs.Options.{missing-some}
+use Rattle.walk.proofs.Options.{missing-image, missing-some}
 use Rattle.walk.proofs.TrialFollows.{trial-follows}
 use Rattle.walk.proofs.Paths.{heaviest-greatest}
 use Rattle.walk.proofs.ChainLaws.{one-made}
 use Rattle.plan.specs.PlanHead.{noHead}
-use Rattle.plan.specs.PlanCall.{plannedParity, settingsTests, inputTests, planTests, planRefusal, planAnswer, planCoefficients, planBoundaries}
-use Rattle.plan.specs.PlanCall.{planNumbers, PlanCall}
+use Rattle.plan.specs.PlanCall.{plannedParity, settingsTests, inputTests, planTests, planRefusal, planAnswer, planCoefficients, planBoundaries, planNumbers, PlanCall}
 use Rattle.plan.specs.PlanSizes.{degreeToPlan, sizesOf, noSizes, sizesRefusal, sizesCall}
 use Rattle.plan.specs.declared.call.Planned.{Planned}
 use Rattle.plan.specs.declared.sizes.PlanSizes.{PlanSizes}
-use Rattle.demands.specs.Total.{Ends, answers, refuses, ZeroHead, PlansTotal, PlansMade, PlanOrder, FoldsTotal, ListsTotal, TrialAnswered}
-use Rattle.demands.specs.Total.{TrialsTotal, ChainsTotal, InterpolationsTotal, NumbersTotal}
+use Rattle.demands.specs.Total.{Ends, answers, refuses, ZeroHead, PlansTotal, PlansMade, PlanOrder, FoldsTotal, ListsTotal, TrialAnswered, TrialsTotal, ChainsTotal, InterpolationsTotal, NumbersTotal}
 use Rattle.plan.proofs.PlanTests.{settings-numbered, inputs-numbered}
 use Rattle.demands.proofs.Refusals.{refusal-of, lateTests, plan-made, made-accepted, made-long}
 use Rattle.demands.proofs.Right.{plans-right}
@@ -187,11 +182,6 @@ neither : (a b : Bool) → (a || b) ≡ false → (a ≡ false) × (b ≡ false)
 neither false b none-is = (refl, none-is)
 neither true b none-is = absurd (true≢false none-is)
 
--- a value whose image is there
-imaged : (m : ℕ) (o : Option ℤ) → missing (image (rem m) o) ≡ false → (v : ℤ) × (o ≡ some v)
-imaged m (some v) is = (v, refl)
-imaged m none is = absurd (true≢false is)
-
 module _ (head : Head) (coefficients : List ℤ) (bounds steps : List ℕ) (point : ℤ) (modulus : ℕ) where
   trial-refusal-is : trialOf head coefficients bounds steps point modulus .refusal ≡ trialRefusal head coefficients bounds steps point modulus
   unfolding trialOf
@@ -210,11 +200,12 @@ module _ (head : Head) (coefficients : List ℤ) (bounds steps : List ℕ) (poin
       let low = ltb-false modulus 2 (range .0) in
       let high = ltb-false modulusLimit modulus (range .1) in
       let follows = trial-follows head coefficients bounds steps point modulus low high in
-      let found = imaged modulus (exactWalk head coefficients bounds steps point) (rw (follows .walks) at (tests .1 .0)) in
+      let exact = exactWalk head coefficients bounds steps point in
+      let there = missing-some exact (sym (missing-image (rem modulus) exact) ∙ (rw (follows .walks) at (tests .1 .0))) in
       record {
-        value = found .0;
-        exact = found .1;
-        remainder = ap (λ (t : Trial). t .remainder) (follows .answers (found .0) (found .1));
+        value = there .value;
+        exact = there .is;
+        remainder = ap (λ (t : Trial). t .remainder) (follows .answers (there .value) (there .is));
       }
 
 pub trials-total : TrialsTotal

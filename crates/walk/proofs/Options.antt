@@ -1,6 +1,6 @@
 -- What `then`, `when` and `missing` make of an image, and of one another. By cases of what is there.
 use mathlib.Core.Path.{_≡_, refl}
-use mathlib.Core.Bool.{Bool, true, false, not, _||_}
+use mathlib.Core.Bool.{Bool, true, false, not, _||_, _&&_}
 use mathlib.Core.Option.{Option, some, none}
 use Prim.Native.Nat.{ℕ}
 use native.Mathlib.Omega.{arith}
@@ -14,6 +14,16 @@ then-image f h none o′ g g′ e k = rw e
 pub when-image : {Y Y′ : Type 0} (h : Y → Y′) (t : Bool) (o : Option Y) (o′ : Option Y′) → o′ ≡ image h o → when t o′ ≡ image h (when t o)
 when-image h true o o′ e = e
 when-image h false o o′ e = refl
+
+-- where g makes the images of what f makes, so it does of what may not be there
+pub image-then : {X Y : Type 0} (h : Y → Y) (o : Option X) (f g : X → Option Y) → ((u : X) → g u ≡ image h (f u)) → (o then g) ≡ image h (o then f)
+image-then h (some u) f g k = k u
+image-then h none f g k = refl
+
+-- nothing is there if the second of two tests does not hold
+pub when-fails : {X : Type 0} (t : Bool) (o : Option X) → when (t && false) o ≡ none
+when-fails true o = refl
+when-fails false o = refl
 
 pub missing-image : {A B : Type 0} (f : A → B) (o : Option A) → missing (image f o) ≡ missing o
 missing-image f (some v) = refl
@@ -73,3 +83,14 @@ pub record IsThere {X : Type 0} (o : Option X) : Type 0 where
 pub missing-some : {X : Type 0} (o : Option X) → missing o ≡ false → IsThere o
 missing-some none e = let same : _≡_ {A = ℕ} 0 1 = cc in absurd (omega arith)
 missing-some (some v) e = record { value = v; is = refl }
+
+-- ---- an answer r that f makes of another
+
+pub record CameFrom {X : Type 0} (f : X → X) (o : Option X) (r : X) : Type 0 where
+  pub value : X
+  pub is : o ≡ some value
+  pub to : f value ≡ r
+
+pub came-from : {X : Type 0} (f : X → X) (o : Option X) (r : X) → image f o ≡ some r → CameFrom f o r
+came-from f (some v) r e = record { value = v; is = refl; to = same-some e }
+came-from f none r e = let same : _≡_ {A = ℕ} 0 1 = cc in absurd (omega arith)

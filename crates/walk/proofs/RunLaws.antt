@@ -33,7 +33,7 @@ run-then 𝓡 parity basis lists (step ∷ steps) later state =
     ∙ sym (then-assoc (stepOf 𝓡 parity basis lists step state) _ _)
 
 -- the arrays at the start hold powers 0 and 1
-getD-replicate : {X : Type 0} (d : X) (k n : ℕ) → getD (replicate k d) n d ≡ d
+pub getD-replicate : {X : Type 0} (d : X) (k n : ℕ) → getD (replicate k d) n d ≡ d
 getD-replicate d zero n = refl
 getD-replicate d (suc k) zero = refl
 getD-replicate d (suc k) (suc n) = getD-replicate d k n

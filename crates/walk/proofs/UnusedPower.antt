@@ -28,7 +28,7 @@ use Rattle.walk.specs.Uses.{partsUsed, usedIf, placesUsed, listUses, use
 use Rattle.walk.specs.UsesMade.{isAmong}
 use Rattle.walk.specs.UnusedPower.{NoneUses, UnusedLeftOut}
 use Rattle.walk.specs.declared.plan.Step.{Step}
-use Rattle.walk.proofs.Options.{then-image, when-image, then-alike, same-some, then-some, when-some}
+use Rattle.walk.proofs.Options.{then-image, image-then, when-image, when-fails, then-alike, same-some, then-some, when-some, CameFrom, came-from}
 use Rattle.walk.proofs.RunLaws.{run-then}
 use Rattle.walk.proofs.UsesMade.{left-false, right-false}
 
@@ -41,27 +41,6 @@ not-first n m ms e = left-false (eqb n m) (isAmong n ms) e
 not-later : (n m : ℕ) (ms : List ℕ) → isAmong n (m ∷ ms) ≡ false → isAmong n ms ≡ false
 unfolding isAmong
 not-later n m ms e = right-false (eqb n m) (isAmong n ms) e
-
--- ---- what may not be there: an answer r that f makes of another
-
-record CameFrom {X : Type 0} (f : X → X) (o : Option X) (r : X) : Type 0 where
-  value : X
-  is : o ≡ some value
-  to : f value ≡ r
-
-came-from : {X : Type 0} (f : X → X) (o : Option X) (r : X) → image f o ≡ some r → CameFrom f o r
-came-from f (some v) r e = record { value = v; is = refl; to = same-some e }
-came-from f none r e = let same : _≡_ {A = ℕ} 0 1 = cc in absurd (omega arith)
-
--- where g makes the images of what f makes, so it does of what may not be there
-image-then : {X Y : Type 0} (h : Y → Y) (o : Option X) (f g : X → Option Y) → ((u : X) → g u ≡ image h (f u)) → (o then g) ≡ image h (o then f)
-image-then h (some u) f g k = k u
-image-then h none f g k = refl
-
--- nothing is there if the second of two tests does not hold
-when-fails : {X : Type 0} (t : Bool) (o : Option X) → when (t && false) o ≡ none
-when-fails true o = refl
-when-fails false o = refl
 
 -- ---- power n is v, beside the other powers
 module _ {A : Type 0} (n : ℕ) (v : A) where
