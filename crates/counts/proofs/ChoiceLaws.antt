@@ -1,44 +1,50 @@
--- The formulas a and b by their four powers of two, and the range of every chosen split.
+-- The range of every chosen split: MinDepth's by its list of cases, MinMult's by its search.
 use mathlib.Core.Path.{_≡_, refl}
-use mathlib.Core.Bool.{Bool, true, false, cond}
-use Prim.Native.Nat.{ℕ, zero, suc, _+_, _-_, _/_, _^_, _≤_, _<_}
+use mathlib.Core.Bool.{Bool, true, false, cond, _&&_}
+use mathlib.Core.List.{List, [], _∷_}
+use Prim.Native.Nat.{ℕ, zero, suc, _≤_, _<_}
 use native.Mathlib.Omega.{arith}
-use borrow.Author.Tests.{lt-ltb, le-ltb}
+use lib.Dec.{leb, eqb}
+use borrow.Author.Tests.{eqb-true, leb-true}
 use Rattle.algebra.specs.declared.Basis.{Basis}
 use Rattle.algebra.specs.declared.Parity.{Parity}
 use Rattle.number.specs.Bits.{bitLen}
 use Rattle.number.specs.Limits.{planLimit}
 use Rattle.number.specs.inside.Between.{Between}
 use Rattle.counts.specs.Pair.{pairAt}
-use Rattle.counts.specs.MinDepth.{aExceedsB, minDepth}
+use Rattle.counts.specs.MinDepth.{minDepthCases, splitBeside, minDepth}
 use Rattle.counts.specs.Choice.{splitFor, countsOf}
 use Rattle.counts.specs.declared.choice.SplitStrategy.{SplitStrategy}
 use Rattle.counts.specs.declared.choice.SplitStrategy.the-variants.{MinDepth, MinMult}
 use Rattle.number.proofs.Bits.{some-digit, few-digits}
+use Rattle.number.proofs.BothHold.{and-left, and-right}
 use Rattle.counts.proofs.MinMultLaws.{mult-range}
 
 -- ---- MinDepth's choice
 
-module _ (bits : ℕ) {low high low′ high′ : ℕ} (low-is : low ≡ 2 ^ (bits / 2)) (high-is : high ≡ 2 ^ (bits - bits / 2))
-    (low′-is : low′ ≡ 2 ^ (bits / 2 + 1)) (high′-is : high′ ≡ 2 ^ (bits - bits / 2 - 1)) where
-  pub min-depth-more : low′ + high′ + bits - bits / 2 - 4 < low + high + bits - bits / 2 - 3 → bits / 2 + 1 ≡ minDepth bits
-  unfolding minDepth aExceedsB
-  min-depth-more less = rw (lt-ltb _ _ (rw (low-is, high-is, low′-is, high′-is) at less))
+-- a list of cases in which every split is from 1 to the bit length that it stands beside
+inRange : List (ℕ × ℕ) → Bool
+inRange [] = true
+inRange ((listed, split) ∷ cases) = (leb 1 split && leb split listed) && inRange cases
 
-  pub min-depth-same : low + high + bits - bits / 2 - 3 ≤ low′ + high′ + bits - bits / 2 - 4 → bits / 2 ≡ minDepth bits
-  unfolding minDepth aExceedsB
-  min-depth-same within = rw (le-ltb _ _ (rw (low-is, high-is, low′-is, high′-is) at within))
-
--- half the bit length, or one more
-half-range : (bits : ℕ) (test : Bool) → 2 ≤ bits → Between 1 (cond test (bits / 2 + 1) (bits / 2)) bits
-half-range bits true from-two = record { from = omega arith; to = omega arith }
-half-range bits false from-two = record { from = omega arith; to = omega arith }
+beside-range : (bits : ℕ) (cases : List (ℕ × ℕ)) → 1 ≤ bits → inRange cases ≡ true → Between 1 (splitBeside bits cases) bits
+unfolding inRange
+beside-range bits [] from ranged = record { from = from; to = omega arith }
+beside-range bits ((listed, split) ∷ cases) from ranged =
+    by-test (eqb bits listed) refl (beside-range bits cases from (and-right (leb 1 split && leb split listed) (inRange cases) ranged))
+  where
+    by-test : (test : Bool) → eqb bits listed ≡ test → Between 1 (splitBeside bits cases) bits
+        → Between 1 (cond test split (splitBeside bits cases)) bits
+    by-test true is-listed others =
+        let both = and-left (leb 1 split && leb split listed) (inRange cases) ranged in
+        let least = leb-true _ _ (and-left (leb 1 split) (leb split listed) both) in
+        let most = leb-true _ _ (and-right (leb 1 split) (leb split listed) both) in
+        record { from = least; to = rw (eqb-true bits listed is-listed) most }
+    by-test false other others = others
 
 pub depth-range : (bits : ℕ) → 1 ≤ bits → Between 1 (minDepth bits) bits
-unfolding minDepth aExceedsB
-depth-range zero from = absurd (omega arith)
-depth-range (suc zero) from = record { from = omega arith; to = omega arith }
-depth-range (suc (suc b)) from = half-range (suc (suc b)) (aExceedsB (suc (suc b))) (omega arith)
+unfolding minDepth inRange
+depth-range bits from = beside-range bits minDepthCases from refl
 
 -- ---- every choice
 

@@ -6,6 +6,7 @@ pub mod PairLaws
 pub mod MinMultLaws
 pub mod BetterLaws
 pub mod BoundLaws
+pub mod MinDepthLaws
 pub mod ChoiceLaws
 pub mod DepthLaws
 pub mod ConsumedBits

@@ -18,7 +18,6 @@ use algebra::Parity;
 use number::DEGREE_LIMIT;
 use number::PLAN_LIMIT;
 use number::bit_len;
-use number::power_of_two;
 
 // Least depth, or fewest multiplications.
 pub enum SplitStrategy {
@@ -45,15 +44,46 @@ pub struct Best {
     pub pair: Pair,
 }
 
-// MinDepth's split at a bit length: the source's formulas a and b.
+// MinDepth's split at a bit length, a case for each from 1 to 32. No accepted degree has another.
 fn min_depth(bits: usize) -> usize
     requires { ⌜ Between 1 bits 32 ⌝ }
     ensures { λ r. ⌜ r ≡ minDepth bits ⌝ }
 {
-    let s = bits / 2;
-    let a = power_of_two(s) + power_of_two(bits - s) + bits - s - 3;
-    let b = power_of_two(s + 1) + power_of_two(bits - s - 1) + bits - s - 4;
-    if b < a { s + 1 } else { s }
+    match bits {
+        1 => 1,
+        2 => 1,
+        3 => 2,
+        4 => 2,
+        5 => 3,
+        6 => 3,
+        7 => 4,
+        8 => 4,
+        9 => 5,
+        10 => 5,
+        11 => 6,
+        12 => 6,
+        13 => 7,
+        14 => 7,
+        15 => 8,
+        16 => 8,
+        17 => 9,
+        18 => 9,
+        19 => 10,
+        20 => 10,
+        21 => 11,
+        22 => 11,
+        23 => 12,
+        24 => 12,
+        25 => 13,
+        26 => 13,
+        27 => 14,
+        28 => 14,
+        29 => 15,
+        30 => 15,
+        31 => 16,
+        32 => 16,
+        _ => bits,
+    }
 }
 
 // Whether a pair is less: ct-ct is compared first.

@@ -1,5 +1,5 @@
 -- `counts::choice::min_depth_split` meets its contract. Its tests are those of the refusals, in their order.
--- A degree that passes them has 1 to 32 binary digits, as the formulas a and b ask.
+-- A degree that passes them has 1 to 32 binary digits, and each of these lengths has its case.
 use native.Mathlib.Omega.{arith}
 use borrow.Author.Needs.{needs}
 use borrow.Author.Tests.{lt-ltb, le-ltb, eq-eqb, ne-eqb}
