@@ -16,7 +16,7 @@ use Rattle.counts.specs.declared.choice.SplitStrategy.the-variants.{MinD
 pub record CasePublished (bits : ℕ) : Type 0 where
   -- it is what the source's formulas a and b give
   pub same : minDepth bits ≡ publishedMinDepth bits
-  -- in them no difference falls below 0 and no sum passes 64 bits, so the source's own numbers give it too
+  -- in them no difference falls below 0 and no sum passes 64 bits, so on the source's unsigned numbers they are the same
   pub exponents : bits / 2 + 1 ≤ bits
   pub a-from-zero : bits / 2 + 3 ≤ 2 ^ (bits / 2) + 2 ^ (bits - bits / 2) + bits
   pub b-from-zero : bits / 2 + 4 ≤ 2 ^ (bits / 2 + 1) + 2 ^ (bits - bits / 2 - 1) + bits
