@@ -73,6 +73,7 @@ extern "C" {
 #define FIRROZUN_REFUSAL_BOUNDARY_BUFFER 22    /* the boundary buffer has fewer places than there are lists */
 #define FIRROZUN_REFUSAL_STEP_BUFFER 23        /* the step buffer has fewer than four places for each step */
 #define FIRROZUN_REFUSAL_UNWALKABLE 24         /* the plan that is lent cannot be walked */
+#define FIRROZUN_REFUSAL_BUDGET 31             /* no degree from 1 to 4,095 has bits within the budget */
 #define FIRROZUN_REFUSAL_UNKNOWN_KIND 43       /* a basis, parity, strategy, transform or fold goes by a number that is none of its kinds' */
 
 /* ---- room that is enough for every plan */
@@ -109,6 +110,11 @@ typedef struct {
     uint8_t refusal;
     size_t bits;
 } firrozun_bits;
+
+typedef struct {
+    uint8_t refusal;
+    size_t degree;
+} firrozun_degree;
 
 typedef struct {
     uint8_t refusal;
@@ -209,6 +215,12 @@ firrozun_depth firrozun_bsgs_eval_depth(uint8_t strategy, size_t degree);
 
 /* The bits that an evaluation consumes, by the bit scales of input and coefficients; 0 at degree 0. Refusals 43, 2 (above 4,294,967,295), 10. */
 firrozun_bits firrozun_bsgs_consumed_bits(uint8_t strategy, size_t degree, size_t input, size_t coeff);
+
+/* The largest degree for a budget of bits: the greatest from 1 to 4,095 for which firrozun_bsgs_consumed_bits answers at most `budget`. Bits need not
+ * rise with the degree, so a lower one may take more bits than the budget has. At degree 5 with MinMult an even plan's heaviest chain is above these
+ * bits if the coefficient scale is above the input scale: ask firrozun_heaviest_chain there. Refusals 43, 10, 31 (the budget is below the coefficient
+ * scale). */
+firrozun_degree firrozun_largest_degree(uint8_t strategy, uint64_t budget, size_t input, size_t coeff);
 
 /* ---- calls on coefficients: coefficient j stands at place j */
 

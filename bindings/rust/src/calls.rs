@@ -1,4 +1,4 @@
-//! The calls on numbers and on lent coefficients, in poulpy's names and argument orders.
+//! The calls on numbers and on lent coefficients, in poulpy's names and argument orders where poulpy has them.
 
 use crate::coefficient::Coefficient;
 use crate::ffi;
@@ -113,6 +113,33 @@ pub fn bsgs_consumed_bits(
         ffi::bsgs_consumed_bits(strategy.number(), degree, input_log_delta, coeff_log_delta);
     Refusal::test(answer.refusal)?;
     Ok(answer.bits)
+}
+
+/// The largest degree for a budget of bits: the greatest from 1 to 4,095 whose [`bsgs_consumed_bits`] are at most the budget, for the
+/// bit scales of the input and of the coefficients. Bits need not rise with the degree, so a lower one may take more bits than the
+/// budget has. At degree 5 with MinMult an even plan's heaviest chain is above these bits if the coefficient scale is above the input
+/// scale: ask [`Plan::heaviest_chain`](crate::Plan::heaviest_chain) there.
+///
+/// Refused: 10 for a scale above 65,535, 31 for a budget that no degree is within, which is one below the coefficient scale.
+///
+/// ```
+/// use firrozun::{bsgs_consumed_bits, largest_degree, Basis, Parity, Refusal, SplitStrategy};
+/// let strategy = SplitStrategy::MinMult;
+/// assert_eq!(largest_degree(strategy, 3, 1, 2), Ok(5));
+/// assert_eq!(largest_degree(strategy, 1, 1, 2), Err(Refusal::Budget));
+/// // Degree 4 takes a bit more than degree 5.
+/// let bits = |degree| bsgs_consumed_bits(degree, strategy, Parity::Full, Basis::Monomial, 1, 2);
+/// assert_eq!((bits(4), bits(5), bits(6)), (Ok(4), Ok(3), Ok(4)));
+/// ```
+pub fn largest_degree(
+    strategy: SplitStrategy,
+    budget: u64,
+    input: usize,
+    coeff: usize,
+) -> Result<usize, Refusal> {
+    let answer = ffi::largest_degree(strategy.number(), budget, input, coeff);
+    Refusal::test(answer.refusal)?;
+    Ok(answer.degree)
 }
 
 /// The value at `x`, by Horner's rule or Clenshaw's. It is never refused.

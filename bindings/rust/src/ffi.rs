@@ -42,6 +42,13 @@ pub struct CBits {
 
 #[repr(C)]
 #[derive(Clone, Copy, Debug, PartialEq)]
+pub struct CDegree {
+    pub refusal: u8,
+    pub degree: usize,
+}
+
+#[repr(C)]
+#[derive(Clone, Copy, Debug, PartialEq)]
 pub struct CFolded {
     pub refusal: u8,
     pub transform: u8,
@@ -147,6 +154,7 @@ extern "C" {
         input: usize,
         coeff: usize,
     ) -> CBits;
+    fn firrozun_largest_degree(strategy: u8, budget: u64, input: usize, coeff: usize) -> CDegree;
     fn firrozun_fold_parity(
         parity: u8,
         basis: u8,
@@ -267,6 +275,11 @@ pub fn bsgs_eval_depth(strategy: u8, degree: usize) -> CDepth {
 pub fn bsgs_consumed_bits(strategy: u8, degree: usize, input: usize, coeff: usize) -> CBits {
     // SAFETY: the call takes and answers numbers alone, and is proved for every number.
     unsafe { firrozun_bsgs_consumed_bits(strategy, degree, input, coeff) }
+}
+
+pub fn largest_degree(strategy: u8, budget: u64, input: usize, coeff: usize) -> CDegree {
+    // SAFETY: the call takes and answers numbers alone, and is proved for every number.
+    unsafe { firrozun_largest_degree(strategy, budget, input, coeff) }
 }
 
 pub fn evaluate_coeffs(basis: u8, coeffs: &[f64], x: f64) -> CValue {

@@ -48,7 +48,7 @@ pub use bsgs::BSGSPolynomial;
 pub use buffers::Head;
 pub use calls::{
     bsgs_consumed_bits, bsgs_eval_depth, bsgs_op_counts, change_of_basis, detect_parity,
-    evaluate_coeffs, min_depth_split, min_mult_split, split_degree,
+    evaluate_coeffs, largest_degree, min_depth_split, min_mult_split, split_degree,
 };
 pub use coefficient::Coefficient;
 pub use kinds::{Basis, Parity, PolynomialInputTransform, SplitStrategy, DEFAULT_SPLIT_STRATEGY};

@@ -5,8 +5,8 @@ use std::fmt;
 
 /// Why a call gave no answer. A refused call has changed no buffer.
 ///
-/// 1 to 12 are said of the input, 21 to 24 of what is lent; they are the numbers of document 01. The sentence says what is wrong,
-/// and what to do.
+/// 1 to 12 are said of the input, 21 to 24 of what is lent, 31 of a budget; they are the numbers of `docs/RULES.md`. The sentence says
+/// what is wrong, and what to do.
 ///
 /// ```
 /// use firrozun::{split_degree, Refusal};
@@ -52,6 +52,8 @@ pub enum Refusal {
     StepBuffer,
     /// 24: the plan cannot be walked: head or buffers are not as the plan call left them.
     Unwalkable,
+    /// 31: no degree from 1 to 4,095 has bits within the budget of [`largest_degree`](crate::largest_degree).
+    Budget,
     /// 43: the number of a kind is unknown. The enums of this crate have no such number, so no safe call answers it.
     UnknownKind,
 }
@@ -61,10 +63,10 @@ impl Refusal {
     ///
     /// ```
     /// use firrozun::Refusal;
-    /// assert_eq!(Refusal::ALL.len(), 17);
+    /// assert_eq!(Refusal::ALL.len(), 18);
     /// assert!(Refusal::ALL.iter().all(|&r| Refusal::from_number(r.number()) == Some(r)));
     /// ```
-    pub const ALL: [Refusal; 17] = [
+    pub const ALL: [Refusal; 18] = [
         Self::NoDegree,
         Self::Degree,
         Self::Magnitude,
@@ -81,10 +83,11 @@ impl Refusal {
         Self::BoundaryBuffer,
         Self::StepBuffer,
         Self::Unwalkable,
+        Self::Budget,
         Self::UnknownKind,
     ];
 
-    /// The number: 1 to 12, 21 to 24, or 43.
+    /// The number: 1 to 12, 21 to 24, 31, or 43.
     ///
     /// ```
     /// assert_eq!(firrozun::Refusal::StepBuffer.number(), 23);
@@ -107,6 +110,7 @@ impl Refusal {
             Self::BoundaryBuffer => 22,
             Self::StepBuffer => 23,
             Self::Unwalkable => 24,
+            Self::Budget => 31,
             Self::UnknownKind => 43,
         }
     }
@@ -169,6 +173,9 @@ impl Refusal {
             }
             Self::Unwalkable => {
                 "the plan cannot be walked; hand in its head and its buffers as the plan call left them"
+            }
+            Self::Budget => {
+                "no degree from 1 to 4,095 has bits within the budget; give more bits, or a lower coefficient scale"
             }
             Self::UnknownKind => "the number of a basis, parity, strategy, transform or fold is unknown",
         }

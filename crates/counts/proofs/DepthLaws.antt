@@ -37,20 +37,20 @@ depth-bounds MinMult degree range =
     let more = at-most-one (leb (threshold (bitLen degree)) degree) in
     record { from = omega arith; to = omega arith }
 
+-- the threshold's difference does not fall below 0
+pub half-fits : (bits : ℕ) {p q : ℕ} → p ≡ 2 ^ bits → q ≡ 2 ^ ((bits - 1) / 2) → q ≤ p
+half-fits bits p-is q-is = let grows : 2 ^ ((bits - 1) / 2) ≤ 2 ^ bits = pow-mono (omega arith) in omega (arith, p-is, q-is)
+
 module _ (degree : ℕ) (positive : 0 < degree) {bits : ℕ} (bits-is : bits ≡ bitLen degree) where
   pub depth-least : bits ≡ depthOf MinDepth degree
   depth-least = bits-is ∙ least-is degree positive
 
-  module _ {p q : ℕ} (p-is : p ≡ 2 ^ bits) (q-is : q ≡ 2 ^ ((bits - 1) / 2)) where
-    pub half-fits : q ≤ p
-    half-fits = let grows : 2 ^ ((bits - 1) / 2) ≤ 2 ^ bits = pow-mono (omega arith) in omega (arith, p-is, q-is)
+  pub depth-more : threshold bits ≤ degree → bits + 1 ≡ depthOf MinMult degree
+  depth-more reached =
+      let test : threshold (bitLen degree) ≤ degree = rw bits-is at reached in
+      rw (mult-is degree positive, le-leb _ _ test, bits-is)
 
-    pub depth-more : p - q + 1 ≤ degree → bits + 1 ≡ depthOf MinMult degree
-    depth-more reached =
-        let test : threshold (bitLen degree) ≤ degree = rw (p-is, q-is, bits-is) at reached in
-        rw (mult-is degree positive, le-leb _ _ test, bits-is)
-
-    pub depth-same : degree < p - q + 1 → bits ≡ depthOf MinMult degree
-    depth-same under =
-        let test : degree < threshold (bitLen degree) = rw (p-is, q-is, bits-is) at under in
-        rw (mult-is degree positive, lt-leb _ _ test, bits-is) (omega arith)
+  pub depth-same : degree < threshold bits → bits ≡ depthOf MinMult degree
+  depth-same under =
+      let test : degree < threshold (bitLen degree) = rw bits-is at under in
+      rw (mult-is degree positive, lt-leb _ _ test, bits-is) (omega arith)

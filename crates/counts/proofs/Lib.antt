@@ -10,4 +10,8 @@ pub mod MinDepthLaws
 pub mod ChoiceLaws
 pub mod DepthLaws
 pub mod ConsumedBits
+pub mod SameBits
+pub mod GreatestWithin
 pub mod Promises
+pub mod LargestLaws
+pub mod BudgetPromises

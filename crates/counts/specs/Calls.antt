@@ -1,23 +1,25 @@
 -- The public calls on a bare degree (docs/RULES.md, "Refusals"): their tests in order, and their answers.
-use mathlib.Core.List.{[], _∷_}
+use mathlib.Core.List.{List, [], _∷_}
 use Prim.Native.Nat.{ℕ}
 use Rattle.algebra.specs.declared.Basis.{Basis}
 use Rattle.algebra.specs.declared.Parity.{Parity}
 use Rattle.number.specs.Bits.{bitLen}
 use Rattle.number.specs.Limits.{planLimit, degreeLimit}
-use Rattle.number.specs.Refusal.{firstRefusal, unlessRefused}
+use Rattle.number.specs.Refusal.{Test, firstRefusal, unlessRefused}
 use Rattle.number.specs.Tests.{noDegree, tooHigh, tooWide}
 use Rattle.counts.specs.MinDepth.{minDepth}
 use Rattle.counts.specs.MinMult.{minMult}
 use Rattle.counts.specs.Choice.{countsOf}
 use Rattle.counts.specs.Depth.{depthOf}
 use Rattle.counts.specs.ConsumedBits.{bitsOf}
+use Rattle.counts.specs.LargestDegree.{greatestWithin, noneWithin}
 use Rattle.counts.specs.declared.pair.Pair.{Pair}
 use Rattle.counts.specs.declared.choice.SplitStrategy.{SplitStrategy}
 use Rattle.counts.specs.declared.choice.SplitChoice.{SplitChoice}
 use Rattle.counts.specs.declared.choice.OpCounts.{OpCounts}
 use Rattle.counts.specs.declared.depth.EvalDepth.{EvalDepth}
 use Rattle.counts.specs.declared.consumed.ConsumedBits.{ConsumedBits}
+use Rattle.counts.specs.declared.budget.LargestDegree.{LargestDegree}
 
 -- ---- the split
 
@@ -93,3 +95,19 @@ unfoldable pub bitsCall : SplitStrategy → (degree input coeff : ℕ) → Consu
 bitsCall strategy degree input coeff =
     let refusal : ℕ = bitsRefusal degree input coeff in
     unlessRefused refusal (record { refusal = 0; bits = bitsOf strategy degree input coeff }) (noBits refusal)
+
+-- ---- the largest degree for a budget
+
+-- after a refusal degree 0
+abbrev pub noLargest : (refusal : ℕ) → LargestDegree
+noLargest refusal = record { refusal = refusal; degree = 0 }
+
+-- the tests in order: 10 for either of the two scales, 31
+abbrev pub largestTests : SplitStrategy → (budget input coeff : ℕ) → List Test
+largestTests strategy budget input coeff = tooWide input ∷ tooWide coeff ∷ noneWithin strategy budget input coeff ∷ []
+
+-- `largest_degree`: the greatest degree from 1 to 4,095 whose bits are within the budget
+unfoldable pub largestCall : SplitStrategy → (budget input coeff : ℕ) → LargestDegree
+largestCall strategy budget input coeff =
+    let refusal : ℕ = firstRefusal (largestTests strategy budget input coeff) in
+    unlessRefused refusal (record { refusal = 0; degree = greatestWithin strategy budget input coeff planLimit }) (noLargest refusal)

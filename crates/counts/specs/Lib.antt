@@ -8,6 +8,8 @@ pub mod MinMult
 pub mod Choice
 pub mod Depth
 pub mod ConsumedBits
+pub mod LargestDegree
 pub mod Calls
 pub mod Promises
+pub mod BudgetPromises
 pub mod inside

@@ -2,3 +2,4 @@
 pub mod Tallies
 pub mod Fewest
 pub mod BetterOf
+pub mod SameBits

@@ -51,7 +51,7 @@ fn greatest(a: usize, b: usize) -> usize
 }
 
 // The bits of a degree from 1: the heavier of the two chains.
-fn bits_from_one(strategy: SplitStrategy, degree: usize, input: usize, coeff: usize) -> usize
+pub fn bits_from_one(strategy: SplitStrategy, degree: usize, input: usize, coeff: usize) -> usize
     requires { ⌜ Between 1 degree degreeLimit × (input ≤ scaleLimit) × (coeff ≤ scaleLimit) ⌝ }
     ensures { λ r. ⌜ r ≡ bitsOf strategy degree input coeff ⌝ }
 {

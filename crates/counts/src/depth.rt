@@ -2,7 +2,7 @@
 ghost use mathlib.Core.Path.{_≡_};
 ghost use Rattle.number.specs.Limits.{degreeLimit};
 ghost use Rattle.number.specs.inside.Between.{Between};
-ghost use Rattle.counts.specs.Depth.{depthOf};
+ghost use Rattle.counts.specs.Depth.{threshold, depthOf};
 ghost use Rattle.counts.specs.Calls.{depthCall};
 use super::choice::SplitStrategy;
 use number::DEGREE_LIMIT;
@@ -15,6 +15,14 @@ pub struct EvalDepth {
     pub depth: usize,
 }
 
+// The least degree of a bit length at which MinMult takes one level more.
+pub fn depth_threshold(bits: usize) -> usize
+    requires { ⌜ Between 1 bits 32 ⌝ }
+    ensures { λ r. ⌜ r ≡ threshold bits ⌝ }
+{
+    power_of_two(bits) - power_of_two((bits - 1) / 2) + 1
+}
+
 // The depth of a degree from 1.
 pub fn depth_from_one(strategy: SplitStrategy, degree: usize) -> usize
     requires { ⌜ Between 1 degree degreeLimit ⌝ }
@@ -23,10 +31,11 @@ pub fn depth_from_one(strategy: SplitStrategy, degree: usize) -> usize
     let bits = bit_len(degree);
     match strategy {
         SplitStrategy::MinDepth => bits,
-        SplitStrategy::MinMult => {
-            let threshold = power_of_two(bits) - power_of_two((bits - 1) / 2) + 1;
-            if threshold <= degree { bits + 1 } else { bits }
-        }
+        SplitStrategy::MinMult => if depth_threshold(bits) <= degree {
+            bits + 1
+        } else {
+            bits
+        },
     }
 }
 

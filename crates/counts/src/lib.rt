@@ -1,5 +1,6 @@
-// The choice of the split, the counts of multiplications, depth and bits.
+// The choice of the split, the counts of multiplications, depth and bits, and the largest degree for a budget of bits.
 pub mod bound;
+pub mod budget;
 pub mod choice;
 pub mod consumed;
 pub mod depth;
@@ -7,6 +8,8 @@ pub mod kind;
 pub mod pair;
 pub mod slices;
 
+pub use budget::LargestDegree;
+pub use budget::largest_degree;
 pub use choice::OpCounts;
 pub use choice::SplitChoice;
 pub use choice::SplitStrategy;

@@ -1,5 +1,7 @@
 -- The requests that have landed are met: each statement by the theorem of its name.
-use Rattle.demands.specs.Requests.{BufferSizes, LastConstant, PlanChains, Requests}
+use mathlib.Core.Path.{refl}
+use Rattle.demands.specs.Requests.{BufferSizes, LastConstant, PlanChains, DegreeForBudget, Requests}
+use Rattle.counts.proofs.BudgetPromises.{largest-degrees, bits-fall, none-below-scale}
 use Rattle.walk.proofs.Paths.{heaviest-greatest}
 use Rattle.walk.proofs.StepsWeigh.{steps-weigh}
 use Rattle.walk.proofs.UnusedPower.{unused-left-out}
@@ -32,5 +34,18 @@ plan-chains = record {
   chain-order = chain-order;
 }
 
+pub degree-for-budget : DegreeForBudget
+degree-for-budget = record {
+  largest-degrees = largest-degrees;
+  bits-fall = bits-fall;
+  largest-order = λ strategy budget input coeff. refl;
+  none-below-scale = none-below-scale;
+}
+
 pub requests : Requests
-requests = record { buffer-sizes = buffer-sizes; last-constant = last-constant; plan-chains = plan-chains }
+requests = record {
+  buffer-sizes = buffer-sizes;
+  last-constant = last-constant;
+  plan-chains = plan-chains;
+  degree-for-budget = degree-for-budget;
+}

@@ -25,9 +25,11 @@ use Rattle.number.specs.declared.split.Parts.{Parts}
 use Rattle.number.proofs.Refusal.{none-holds, refusals-say, when-refused, when-accepted}
 use Rattle.interpolation.specs.InterpolateCall.{interpolateRefusal, interpolateAnswer, interpolateBuffer}
 use Rattle.interpolation.specs.declared.Interpolated.{Interpolated}
-use Rattle.counts.specs.Calls.{noSplit, minDepthRefusal, minDepthCall, minMultRefusal, minMultCall, noCounts, countsRefusal, countsCall, noDepth, depthRefusal, depthCall, noBits, bitsRefusal, bitsCall}
+use Rattle.counts.specs.Calls.{noSplit, minDepthRefusal, minDepthCall, minMultRefusal, minMultCall, noCounts, countsRefusal, countsCall}
+use Rattle.counts.specs.Calls.{noDepth, depthRefusal, depthCall, noBits, bitsRefusal, bitsCall, noLargest, largestTests, largestCall}
 use Rattle.counts.specs.Choice.{splitFor, countsOf}
 use Rattle.counts.specs.ConsumedBits.{bitsOf}
+use Rattle.counts.specs.LargestDegree.{greatestWithin, GreatestWithin}
 use Rattle.counts.specs.Depth.{depthOf}
 use Rattle.counts.specs.MinDepth.{minDepth}
 use Rattle.counts.specs.MinMult.{minMult}
@@ -36,7 +38,9 @@ use Rattle.counts.specs.declared.choice.SplitChoice.{SplitChoice}
 use Rattle.counts.specs.declared.choice.SplitStrategy.{SplitStrategy}
 use Rattle.counts.specs.declared.choice.SplitStrategy.the-variants.{MinDepth, MinMult}
 use Rattle.counts.specs.declared.consumed.ConsumedBits.{ConsumedBits}
+use Rattle.counts.specs.declared.budget.LargestDegree.{LargestDegree}
 use Rattle.counts.specs.declared.depth.EvalDepth.{EvalDepth}
+use Rattle.counts.proofs.BudgetPromises.{largest-degrees}
 use Rattle.lists.specs.ListCall.{listTests, listRefusal, listAnswer, listCoefficients, listBoundaries}
 use Rattle.lists.specs.declared.call.Listed.{Listed}
 use Rattle.walk.specs.Limits.{modulusLimit}
@@ -334,6 +338,17 @@ consumed-bits strategy degree input coeff =
     (record { refusal = 0; bits = bitsOf strategy degree input coeff }) (noBits (bitsRefusal degree input coeff)) (λ (r : ConsumedBits). r .refusal)
     (omega arith, (omega arith, (omega arith, tt))) refl refl)
 
+largest-degree : (strategy : SplitStrategy) (budget input coeff : ℕ)
+    → Ends (largestTests strategy budget input coeff) (largestCall strategy budget input coeff .refusal)
+    (GreatestWithin strategy budget input coeff (largestCall strategy budget input coeff .degree)) (largestCall strategy budget input coeff .degree ≡ 0)
+unfolding largestCall
+largest-degree strategy budget input coeff =
+    ends-by (λ is. largest-degrees strategy budget input coeff .answered (ap (λ (r : LargestDegree). r .refusal) is))
+    (λ is. ap (λ (r : LargestDegree). r .degree) is)
+    (either-way (largestTests strategy budget input coeff) (record { refusal = 0; degree = greatestWithin strategy budget input coeff planLimit })
+    (noLargest (firstRefusal (largestTests strategy budget input coeff))) (λ (r : LargestDegree). r .refusal)
+    (omega arith, (omega arith, (omega arith, tt))) refl refl)
+
 plan-sizes : (strategy : SplitStrategy) (parity : Parity) (basis : Basis) (folds : Bool) (degree : ℕ)
     → Ends (settingsTests folds parity degree) (sizesCall strategy parity basis folds degree .refusal)
     (sizesCall strategy parity basis folds degree ≡ sizesOf strategy (plannedParity folds parity) basis (degreeToPlan folds parity degree))
@@ -352,5 +367,6 @@ numbers-total = record {
   op-counts = op-counts;
   eval-depth = eval-depth;
   consumed-bits = consumed-bits;
+  largest-degree = largest-degree;
   plan-sizes = plan-sizes;
 }

@@ -1,11 +1,17 @@
 -- The requests of document 02 that have landed, in its words, each sentence over the statements that say it. docs/REQUESTS.md has a note on each, and
 -- proofs/Requests proves them all.
+use mathlib.Core.Path.{_≡_}
+use mathlib.Core.List.{[], _∷_}
 use Prim.Native.Nat.{ℕ}
 use Rattle.algebra.specs.declared.Parity.{Parity}
+use Rattle.counts.specs.Calls.{largestTests}
+use Rattle.counts.specs.BudgetPromises.{LargestDegrees, BitsFall, NoneBelowScale}
+use Rattle.counts.specs.declared.choice.SplitStrategy.{SplitStrategy}
 use Rattle.walk.specs.Paths.{HeaviestGreatest}
 use Rattle.walk.specs.StepsWeigh.{StepsWeigh}
 use Rattle.walk.specs.UnusedPower.{UnusedLeftOut}
 use Rattle.walk.specs.HeaviestChain.{HeaviestChain}
+use Rattle.demands.specs.Total.{numbersOf}
 use Rattle.demands.specs.Sized.{PlansSized, SizesOrder}
 use Rattle.demands.specs.PlainStep.{PlansPlain}
 use Rattle.demands.specs.Estimated.{PlansEstimated, CheaperReported}
@@ -49,7 +55,21 @@ pub record PlanChains : Type 1 where
   -- "The call refuses a scale with 10 and then an unrunnable plan with 24, as already known." That it ends so on any arguments is in specs/Total.
   pub chain-order : ChainOrder
 
+-- Q-5. Largest degree for a budget.
+pub record DegreeForBudget : Type 0 where
+  -- "Given bits, both scales and strategy, return the greatest degree from 1 to 4,095 whose closed-form bits are within the budget." "It refuses with 31
+  -- exactly if none of these degrees fits". That it ends so on any arguments is in specs/Total.
+  pub largest-degrees : LargestDegrees
+  -- "Bits needn't rise with the degree, so no search may assume it."
+  pub bits-fall : BitsFall
+  -- "tested after refusal 10."
+  pub largest-order : (strategy : SplitStrategy) (budget input coeff : ℕ)
+      → numbersOf (largestTests strategy budget input coeff) ≡ 10 ∷ 10 ∷ 31 ∷ []
+  -- When none fits is said by the budget and one scale.
+  pub none-below-scale : NoneBelowScale
+
 pub record Requests : Type 1 where
   pub buffer-sizes : BufferSizes
   pub last-constant : LastConstant
   pub plan-chains : PlanChains
+  pub degree-for-budget : DegreeForBudget

@@ -28,9 +28,10 @@ use Rattle.number.specs.declared.fold.Folded.{Folded}
 use Rattle.interpolation.specs.Interpolate.{coefficientsOf}
 use Rattle.interpolation.specs.InterpolateCall.{InterpolateCall}
 use Rattle.interpolation.specs.declared.Interpolated.{Interpolated}
-use Rattle.counts.specs.Calls.{minDepthCall, minMultCall, noCounts, countsCall, depthCall, bitsCall}
+use Rattle.counts.specs.Calls.{minDepthCall, minMultCall, noCounts, countsCall, depthCall, bitsCall, largestTests, largestCall}
 use Rattle.counts.specs.Choice.{splitFor, countsOf}
 use Rattle.counts.specs.ConsumedBits.{bitsOf}
+use Rattle.counts.specs.LargestDegree.{GreatestWithin}
 use Rattle.counts.specs.Depth.{depthOf}
 use Rattle.counts.specs.StrategyNumber.{strategyNumber}
 use Rattle.counts.specs.declared.choice.SplitStrategy.{SplitStrategy}
@@ -187,6 +188,10 @@ pub record NumbersTotal : Type 0 where
   pub consumed-bits : (strategy : SplitStrategy) (degree input coeff : ℕ)
       → Ends (tooHigh degreeLimit degree ∷ tooWide input ∷ tooWide coeff ∷ []) (bitsCall strategy degree input coeff .refusal)
       (bitsCall strategy degree input coeff .bits ≡ bitsOf strategy degree input coeff) (bitsCall strategy degree input coeff .bits ≡ 0)
+  pub largest-degree : (strategy : SplitStrategy) (budget input coeff : ℕ)
+      → Ends (largestTests strategy budget input coeff) (largestCall strategy budget input coeff .refusal)
+      (GreatestWithin strategy budget input coeff (largestCall strategy budget input coeff .degree))
+      (largestCall strategy budget input coeff .degree ≡ 0)
   pub plan-sizes : (strategy : SplitStrategy) (parity : Parity) (basis : Basis) (folds : Bool) (degree : ℕ)
       → Ends (settingsTests folds parity degree) (sizesCall strategy parity basis folds degree .refusal)
       (sizesCall strategy parity basis folds degree ≡ sizesOf strategy (plannedParity folds parity) basis (degreeToPlan folds parity degree))

@@ -4,6 +4,7 @@ pub mod Evaluation
 pub mod Interpolation
 pub mod Walk
 pub mod Chain
+pub mod LargestDegree
 pub mod Plan
 pub mod Lines
 pub mod Texts

@@ -1,14 +1,15 @@
 -- The calls on bare numbers, for C: each is its call's own answer, flat; or refusal 43 with zeros.
 use Prim.Native.Nat.{ℕ}
-use Rattle.counts.specs.Calls.{minMultCall, noSplit, countsCall, noCounts, depthCall, noDepth, bitsCall, noBits}
+use Rattle.counts.specs.Calls.{minMultCall, noSplit, countsCall, noCounts, depthCall, noDepth, bitsCall, noBits, largestCall, noLargest}
 use Rattle.plan.specs.PlanSizes.{noSizes, sizesCall}
 use Rattle.exports.specs.Kinds.{isStrategy, foldNumbered, strategyNumbered, parityNumbered, basisNumbered, knowsPair, knowsAll, knowsSettings}
 use Rattle.exports.specs.Unknown.{unknownKind, whenKnown}
-use Rattle.exports.specs.Flat.{flatSplit, flatCounts, flatDepth, flatBits, flatSizes}
+use Rattle.exports.specs.Flat.{flatSplit, flatCounts, flatDepth, flatBits, flatDegree, flatSizes}
 use Rattle.exports.specs.declared.flat.CSplit.{CSplit}
 use Rattle.exports.specs.declared.flat.CCounts.{CCounts}
 use Rattle.exports.specs.declared.flat.CDepth.{CDepth}
 use Rattle.exports.specs.declared.flat.CBits.{CBits}
+use Rattle.exports.specs.declared.flat.CDegree.{CDegree}
 use Rattle.exports.specs.declared.flat.CSizes.{CSizes}
 
 abbrev pub minMultFlat : (parity basis degree : ℕ) → CSplit
@@ -27,6 +28,10 @@ depthFlat strategy degree = whenKnown (isStrategy strategy) (flatDepth (depthCal
 abbrev pub bitsFlat : (strategy degree input coeff : ℕ) → CBits
 bitsFlat strategy degree input coeff =
     whenKnown (isStrategy strategy) (flatBits (bitsCall (strategyNumbered strategy) degree input coeff)) (flatBits (noBits unknownKind))
+
+abbrev pub largestFlat : (strategy budget input coeff : ℕ) → CDegree
+largestFlat strategy budget input coeff =
+    whenKnown (isStrategy strategy) (flatDegree (largestCall (strategyNumbered strategy) budget input coeff)) (flatDegree (noLargest unknownKind))
 
 abbrev pub sizesFlat : (strategy parity basis fold degree : ℕ) → CSizes
 sizesFlat strategy parity basis fold degree =

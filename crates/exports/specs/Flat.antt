@@ -9,6 +9,7 @@ use Rattle.counts.specs.declared.choice.SplitChoice.{SplitChoice}
 use Rattle.counts.specs.declared.choice.OpCounts.{OpCounts}
 use Rattle.counts.specs.declared.depth.EvalDepth.{EvalDepth}
 use Rattle.counts.specs.declared.consumed.ConsumedBits.{ConsumedBits}
+use Rattle.counts.specs.declared.budget.LargestDegree.{LargestDegree}
 use Rattle.lists.specs.declared.call.Listed.{Listed}
 use Rattle.walk.specs.declared.call.Trial.{Trial}
 use Rattle.walk.specs.declared.chain.Chain.{Chain}
@@ -18,6 +19,7 @@ use Rattle.exports.specs.declared.flat.CSplit.{CSplit}
 use Rattle.exports.specs.declared.flat.CCounts.{CCounts}
 use Rattle.exports.specs.declared.flat.CDepth.{CDepth}
 use Rattle.exports.specs.declared.flat.CBits.{CBits}
+use Rattle.exports.specs.declared.flat.CDegree.{CDegree}
 use Rattle.exports.specs.declared.flat.CFolded.{CFolded}
 use Rattle.exports.specs.declared.flat.CInterval.{CInterval}
 use Rattle.exports.specs.declared.flat.CInterpolated.{CInterpolated}
@@ -40,6 +42,9 @@ flatDepth r = record { refusal = r .refusal; depth = r .depth }
 
 abbrev pub flatBits : ConsumedBits → CBits
 flatBits r = record { refusal = r .refusal; bits = r .bits }
+
+abbrev pub flatDegree : LargestDegree → CDegree
+flatDegree r = record { refusal = r .refusal; degree = r .degree }
 
 abbrev pub flatFolded : Folded → CFolded
 flatFolded r = record { refusal = r .refusal; transform = transformNumber (r .transform); parity = parityNumber (r .parity); count = r .count }

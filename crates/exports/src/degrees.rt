@@ -1,12 +1,14 @@
-// The calls on bare numbers: the split of an index, the choice of the split, counts, depth, bits and the sizes of a plan.
+// The calls on bare numbers: the split of an index, the choice of the split, counts, depth, bits, the largest degree for a budget and the sizes of a plan.
 use super::flat::CBits;
 use super::flat::CCounts;
+use super::flat::CDegree;
 use super::flat::CDepth;
 use super::flat::CParts;
 use super::flat::CSizes;
 use super::flat::CSplit;
 use super::flat::flat_bits;
 use super::flat::flat_counts;
+use super::flat::flat_degree;
 use super::flat::flat_depth;
 use super::flat::flat_parts;
 use super::flat::flat_sizes;
@@ -22,6 +24,7 @@ use super::kinds::strategy_of;
 use firrozun::bsgs_consumed_bits;
 use firrozun::bsgs_eval_depth;
 use firrozun::bsgs_op_counts;
+use firrozun::largest_degree;
 use firrozun::min_depth_split;
 use firrozun::min_mult_split;
 use firrozun::plan_sizes;
@@ -30,7 +33,7 @@ ghost use mathlib.Core.Path.{_≡_};
 ghost use Rattle.number.specs.Split.{splitOf};
 ghost use Rattle.counts.specs.Calls.{minDepthCall};
 ghost use Rattle.exports.specs.Flat.{flatParts, flatSplit};
-ghost use Rattle.exports.specs.Degrees.{minMultFlat, countsFlat, depthFlat, bitsFlat, sizesFlat};
+ghost use Rattle.exports.specs.Degrees.{minMultFlat, countsFlat, depthFlat, bitsFlat, largestFlat, sizesFlat};
 
 #[no_mangle]
 pub extern "C" fn firrozun_split_degree(n: usize) -> CParts
@@ -112,6 +115,24 @@ pub extern "C" fn firrozun_bsgs_consumed_bits(
         };
     }
     flat_bits(bsgs_consumed_bits(strategy_of(strategy), degree, input, coeff))
+}
+
+#[no_mangle]
+pub extern "C" fn firrozun_largest_degree(
+    strategy: u8,
+    budget: u64,
+    input: usize,
+    coeff: usize,
+) -> CDegree
+    ensures { λ r. ⌜ r ≡ largestFlat strategy budget input coeff ⌝ }
+{
+    if !is_strategy(strategy) {
+        return CDegree {
+            refusal: 43,
+            degree: 0,
+        };
+    }
+    flat_degree(largest_degree(strategy_of(strategy), budget, input, coeff))
 }
 
 #[no_mangle]

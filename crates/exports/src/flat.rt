@@ -5,6 +5,7 @@ use firrozun::EvalDepth;
 use firrozun::Folded;
 use firrozun::Interpolated;
 use firrozun::Interval;
+use firrozun::LargestDegree;
 use firrozun::Listed;
 use firrozun::OpCounts;
 use firrozun::Parts;
@@ -14,8 +15,8 @@ use firrozun::Trial;
 use firrozun::parity_number;
 use firrozun::transform_number;
 ghost use mathlib.Core.Path.{_≡_};
-ghost use Rattle.exports.specs.Flat.{flatParts, flatSplit, flatCounts, flatDepth, flatBits, flatFolded, flatInterval, flatInterpolated};
-ghost use Rattle.exports.specs.Flat.{flatListed, flatSizes, flatTrial, flatChain};
+ghost use Rattle.exports.specs.Flat.{flatParts, flatSplit, flatCounts, flatDepth, flatBits, flatDegree, flatFolded, flatInterval};
+ghost use Rattle.exports.specs.Flat.{flatInterpolated, flatListed, flatSizes, flatTrial, flatChain};
 
 #[repr(C)]
 pub struct CParts {
@@ -47,6 +48,12 @@ pub struct CDepth {
 pub struct CBits {
     pub refusal: u8,
     pub bits: usize,
+}
+
+#[repr(C)]
+pub struct CDegree {
+    pub refusal: u8,
+    pub degree: usize,
 }
 
 #[repr(C)]
@@ -158,6 +165,15 @@ pub fn flat_bits(answer: ConsumedBits) -> CBits
     CBits {
         refusal: answer.refusal,
         bits: answer.bits,
+    }
+}
+
+pub fn flat_degree(answer: LargestDegree) -> CDegree
+    ensures { λ r. ⌜ r ≡ flatDegree answer ⌝ }
+{
+    CDegree {
+        refusal: answer.refusal,
+        degree: answer.degree,
     }
 }
 

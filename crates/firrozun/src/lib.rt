@@ -1,12 +1,14 @@
 // The public calls and their types, and nothing else. None asks anything of its caller; each answers a number for what it refuses.
 pub use counts::ConsumedBits;
 pub use counts::EvalDepth;
+pub use counts::LargestDegree;
 pub use counts::OpCounts;
 pub use counts::SplitChoice;
 pub use counts::SplitStrategy;
 pub use counts::bsgs_consumed_bits;
 pub use counts::bsgs_eval_depth;
 pub use counts::bsgs_op_counts;
+pub use counts::largest_degree;
 pub use counts::min_depth_split;
 pub use counts::min_mult_split;
 pub use counts::strategy_number;

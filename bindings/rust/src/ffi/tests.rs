@@ -51,6 +51,16 @@ fn unknown_kinds_in_the_calls_on_numbers() {
                 bits: 0
             }
         );
+        // A budget and scales that are accepted, and such as are refused too: 43 comes first.
+        for (budget, scale) in [(100, 1), (0, 1), (100, 65_536)] {
+            assert_eq!(
+                largest_degree(n, budget, scale, scale),
+                CDegree {
+                    refusal: 43,
+                    degree: 0
+                }
+            );
+        }
     }
     for n in unknown(3) {
         assert_eq!(min_mult_split(n, 0, 7), no_split);

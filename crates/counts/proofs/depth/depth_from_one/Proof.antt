@@ -1,9 +1,9 @@
--- `counts::depth::depth_from_one` meets its contract. A degree has 1 to 32 binary digits, so both powers of two are within 2^32.
--- The test against the threshold is the definition's.
+-- `counts::depth::depth_from_one` meets its contract. A degree has 1 to 32 binary digits, which the threshold asks for, and one more does not
+-- overflow. The test against the threshold is the definition's.
 use native.Mathlib.Omega.{arith}
 use borrow.Author.Needs.{needs}
-use Rattle.number.proofs.Bits.{digits-range, power-range}
-use Rattle.counts.proofs.DepthLaws.{depth-least, half-fits, depth-more, depth-same}
+use Rattle.number.proofs.Bits.{digits-range}
+use Rattle.counts.proofs.DepthLaws.{depth-least, depth-more, depth-same}
 use Rattle.counts.proofs.depth.depth_from_one.Statement.{statement}
 use Rattle.counts.proofs.depth.depth_from_one.Tie as tie
 
@@ -16,37 +16,14 @@ enum-told c = search needs
 enum-told-2 : tie.Need-enum-told-2
 enum-told-2 c = search needs
 
-power-of-two-requires : tie.Need-power-of-two-requires
-power-of-two-requires c κs =
+depth-threshold-requires : tie.Need-depth-threshold-requires
+depth-threshold-requires c κs =
     let digits = c .before .before in
-    omega (arith, digits .bit-len .ensures, digits-range (digits .before .args .degree) (digits .before .pre))
-
-sub-power-of-two : tie.Need-sub-power-of-two
-sub-power-of-two c =
-    let digits = c .before .before .before in
-    omega (arith, digits .bit-len .ensures, digits-range (digits .before .args .degree) (digits .before .pre))
-
-power-of-two-requires-2 : tie.Need-power-of-two-requires-2
-power-of-two-requires-2 c κs =
-    let digits = c .before .before .before in
-    omega (arith, digits .bit-len .ensures, digits-range (digits .before .args .degree) (digits .before .pre))
-
-sub-threshold : tie.Need-sub-threshold
-sub-threshold c =
-    let digits = c .before .before .before .before in
-    half-fits (digits .before .args .degree) (digits .before .pre .from) (digits .bit-len .ensures)
-    (c .before .power-of-two .ensures) (c .power-of-two2 .ensures)
-
-add-threshold : tie.Need-add-threshold
-add-threshold c =
-    let digits = c .before .before .before .before in
-    let range = digits-range (digits .before .args .degree) (digits .before .pre) in
-    omega (arith, power-range (omega (arith, digits .bit-len .ensures)) (c .before .power-of-two .ensures))
+    rw (digits .bit-len .ensures) (digits-range (digits .before .args .degree) (digits .before .pre))
 
 add-result : tie.Need-add-result
 add-result c =
-    let powers = c .before in
-    let digits = powers .before .before .before .before in
+    let digits = c .before .before .before .before in
     omega (arith, digits .bit-len .ensures, digits-range (digits .before .args .degree) (digits .before .pre))
 
 returns : tie.Need-returns
@@ -56,21 +33,19 @@ returns c =
 
 returns-2 : tie.Need-returns-2
 returns-2 c =
-    let powers = c .before in
-    let arm = powers .before .before in
+    let arm = c .before .before in
     let digits = arm .before .before in
     rw (arm .enum-told2 .given .1)
     (depth-more (digits .before .args .degree) (digits .before .pre .from) (digits .bit-len .ensures)
-    (powers .before .power-of-two .ensures) (powers .power-of-two2 .ensures) (c .if1 .taken))
+    (rw (c .before .depth-threshold .ensures) at (c .if1 .taken)))
 
 returns-3 : tie.Need-returns-3
 returns-3 c =
-    let powers = c .before in
-    let arm = powers .before .before in
+    let arm = c .before .before in
     let digits = arm .before .before in
     rw (arm .enum-told2 .given .1)
     (depth-same (digits .before .args .degree) (digits .before .pre .from) (digits .bit-len .ensures)
-    (powers .before .power-of-two .ensures) (powers .power-of-two2 .ensures) (c .if1 .left))
+    (rw (c .before .depth-threshold .ensures) at (c .if1 .left)))
 
 pub depth-from-one-spec : {M : Type 1} → statement M
 depth-from-one-spec =
@@ -79,11 +54,7 @@ depth-from-one-spec =
     bit-len-requires
     enum-told
     enum-told-2
-    power-of-two-requires
-    sub-power-of-two
-    power-of-two-requires-2
-    sub-threshold
-    add-threshold
+    depth-threshold-requires
     add-result
     returns
     returns-2
