@@ -230,6 +230,25 @@ impl<W: Write> Recorder<W> {
         self.end(ask(ask_bits), |r, bits| r.field(bits));
     }
 
+    /// The largest degree for a budget. No published function answers it: refusal and degree are given.
+    pub fn largest_degree(
+        &mut self,
+        strategy: SplitStrategy,
+        budget: u64,
+        (input, coeff): (usize, usize),
+        (refusal, degree): (u8, usize),
+    ) {
+        self.begin("largest_degree", Form::Bits);
+        self.field(strategy_letter(strategy));
+        self.field(budget);
+        self.field(input);
+        self.field(coeff);
+        self.end(Some(()), |r, ()| {
+            r.field(refusal);
+            r.field(degree);
+        });
+    }
+
     pub fn parity(&mut self, form: Form, c: &[f64]) {
         self.begin("parity", form);
         self.list(c);

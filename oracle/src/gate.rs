@@ -5,7 +5,7 @@ use std::path::Path;
 
 use crate::calls::{BASES, Basis, Form, PARITIES, Parity, STRATEGIES, SplitStrategy};
 use crate::inputs::*;
-use crate::{Rec, chains, damaged, printed, recording};
+use crate::{Rec, budgets, chains, damaged, printed, recording};
 
 const SEED: u64 = 1;
 const MAX_POINT: i64 = 999_999_999_999_999_999;
@@ -26,7 +26,10 @@ pub fn record(dir: &Path) {
         change_of_basis(r);
         interpolate(r);
     });
-    recording(dir, "counts.tsv", counts);
+    recording(dir, "counts.tsv", |r| {
+        counts(r);
+        budgets::record(r);
+    });
     recording(dir, "lists.tsv", |r| {
         lists_whole(r);
         lists(r);

@@ -5,6 +5,7 @@
 mod bench;
 #[cfg(feature = "both")]
 mod both;
+mod budgets;
 mod calls;
 mod chain;
 mod chains;
@@ -54,6 +55,8 @@ fn main() {
         #[cfg(feature = "both")]
         ["heaviest", count, seed] => both::chains::compare(number(count), number(seed)),
         #[cfg(feature = "both")]
+        ["budgets", count, seed] => both::budgets::compare(number(count), number(seed)),
+        #[cfg(feature = "both")]
         ["bench", rounds, seed] => bench::run(number(rounds) as usize, number(seed)),
         ["degrees", seed] => {
             since::degrees(number(seed), BufWriter::new(stdout().lock())).expect("lines")
@@ -81,6 +84,7 @@ fn usage() -> ! {
     eprintln!("       oracle degrees SEED | oracle since [--moved] BEFORE AFTER");
     eprintln!("       oracle chains");
     eprintln!("       oracle both COUNT SEED | oracle heaviest COUNT SEED (with the feature both)");
+    eprintln!("       oracle budgets COUNT SEED (with the feature both)");
     eprintln!("       oracle bench ROUNDS SEED (with the feature both)");
     std::process::exit(2)
 }

@@ -7,8 +7,8 @@ use common::{BASES, PARITIES, STRATEGIES, TRANSFORMS};
 use firrozun::buffers::{chebyshev_interpolate_into, plan_into, trial_walk, PlanBuffers};
 use firrozun::{
     bsgs_consumed_bits, bsgs_eval_depth, bsgs_op_counts, change_of_basis, detect_parity,
-    evaluate_coeffs, min_depth_split, min_mult_split, split_degree, Basis, Coefficient, Head,
-    Parity, Plan, Polynomial, PolynomialInputTransform, Refusal, SplitStrategy,
+    evaluate_coeffs, largest_degree, min_depth_split, min_mult_split, split_degree, Basis,
+    Coefficient, Head, Parity, Plan, Polynomial, PolynomialInputTransform, Refusal, SplitStrategy,
 };
 use std::path::Path;
 use std::str::{FromStr, Split};
@@ -288,6 +288,13 @@ fn answer(call: &str, arguments: &mut Arguments) -> Answer {
                 input,
                 coeff,
             ))
+        }
+        "largest_degree" => {
+            let (strategy, budget) = (a.strategy(), a.number());
+            let answer = largest_degree(strategy, budget, a.number(), a.number());
+            let (refusal, degree) =
+                answer.map_or_else(|refusal| (refusal.number(), 0), |degree| (0, degree));
+            Ok(vec![refusal.to_string(), degree.to_string()])
         }
         "parity" => parity::<f64>(a),
         "parity_whole" => parity::<i64>(a),

@@ -1,8 +1,11 @@
-// Replays recorded calls of the Rust on a bare degree: split choices, counts, depth and bits. Each line of standard input has one call with
-// the Rust's answer, and our answer is compared with it. Writes the number of each line that does not agree, and how many do.
+// Replays recorded calls of the Rust on a bare degree: split choices, counts, depth and bits; and the largest degree for a budget, by the Rust's
+// bits. Each line of standard input has one call with its answer, and our answer is compared with it. Writes the number of each line that
+// does not agree, and how many do.
+mod budget;
 mod choice;
 mod depth;
 
+use budget::largest_degree_agrees;
 use choice::bsgs_op_counts_agrees;
 use choice::min_depth_split_agrees;
 use choice::min_mult_split_agrees;
@@ -31,6 +34,10 @@ fn agrees(line: &[u8]) -> bool {
     let bsgs_consumed_bits = read_word(line, 0, b"bsgs_consumed_bits");
     if bsgs_consumed_bits.ok {
         return bsgs_consumed_bits_agrees(line, bsgs_consumed_bits.next);
+    }
+    let largest_degree = read_word(line, 0, b"largest_degree");
+    if largest_degree.ok {
+        return largest_degree_agrees(line, largest_degree.next);
     }
     false
 }

@@ -76,7 +76,7 @@ fn list_call<F: Coefficient>(
         let n = call(i, &mut out, &mut ends).lists;
         assert!(same_lists(&cut(p, strategy), &out, &ends[..n]), "{what}");
     }
-    let case = (what, basis, Some(strategy), degree);
+    let case = (what, Some(basis), Some(strategy), degree);
     b.time(
         case,
         |i| cut(&p[i % INPUTS], strategy),
@@ -116,7 +116,7 @@ pub fn plans(b: &mut Bench, basis: Basis, strategy: SplitStrategy, degree: usize
         let n = call(i, &mut room).lists;
         assert!(same_lists(&cut(p, strategy), &room.0, &room.1[..n]), "plan");
     }
-    let case = ("plan", basis, Some(strategy), degree);
+    let case = ("plan", Some(basis), Some(strategy), degree);
     b.time(
         case,
         |i| cut(&p[i % INPUTS], strategy),
@@ -150,7 +150,7 @@ fn fold_call<F: Coefficient>(
         let ours = out[..n].iter().map(|x| x.to_f64());
         assert!(ours.eq(fold(p).0.coeffs), "{what}");
     }
-    let case = (what, Basis::Chebyshev, None, p[0].degree());
+    let case = (what, Some(Basis::Chebyshev), None, p[0].degree());
     b.time(case, |i| fold(&p[i % INPUTS]), |i| call(i, &mut out));
 }
 
@@ -160,7 +160,7 @@ pub fn choice(b: &Bench, basis: Basis, degree: usize) {
     let theirs = |d: usize| rust::min_mult_split(d, Parity::Full, basis);
     let ours = |d: usize| lib::min_mult_split(d, parity, our_basis).expect("a split");
     assert_eq!(theirs(degree), ours(degree), "split");
-    let case = ("MinMult", basis, Some(SplitStrategy::MinMult), degree);
+    let case = ("MinMult", Some(basis), Some(SplitStrategy::MinMult), degree);
     // The compiler must not know that the degree is the same each time.
     b.time(
         case,
@@ -179,7 +179,7 @@ pub fn evaluation(b: &mut Bench, basis: Basis, degree: usize) {
     for i in 0..64 {
         assert_eq!(theirs(i).to_bits(), ours(i).to_bits(), "evaluation");
     }
-    let case = ("evaluation", basis, None, degree);
+    let case = ("evaluation", Some(basis), None, degree);
     b.time(case, theirs, ours);
 }
 
@@ -199,6 +199,6 @@ pub fn walks(b: &mut Bench, basis: Basis, degree: usize) {
     for i in 0..64 {
         assert_eq!(theirs(i), ours(i), "walk");
     }
-    let case = ("trial walk", basis, Some(strategy), degree);
+    let case = ("trial walk", Some(basis), Some(strategy), degree);
     b.time(case, theirs, ours);
 }

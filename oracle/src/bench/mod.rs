@@ -1,5 +1,6 @@
 //! Times of the published planner and of the proved library, on the same inputs in one process. bench/README.md says what is timed.
 
+mod budgets;
 mod cases;
 mod clock;
 
@@ -30,7 +31,11 @@ pub fn run(rounds: usize, seed: u64) {
             cases::walks(&mut b, basis, degree);
         }
         cases::folds(&mut b, degree);
+        for strategy in STRATEGIES {
+            budgets::fitting(&b, strategy, degree);
+        }
     }
+    budgets::none_fits(&b);
 }
 
 struct Bench {
@@ -54,10 +59,11 @@ impl Bench {
     fn time<A, B>(&self, case: Case, rust: impl FnMut(usize) -> A, ours: impl FnMut(usize) -> B) {
         let Times { rust, ours } = clock::best(self.rounds, rust, ours);
         let (what, basis, strategy, degree) = case;
-        let (basis, strategy) = (basis_letter(basis), strategy.map_or('-', strategy_letter));
+        let basis = basis.map_or('-', basis_letter);
+        let strategy = strategy.map_or('-', strategy_letter);
         println!("{what}\t{basis}\t{strategy}\t{degree}\t{rust:.1}\t{ours:.1}");
     }
 }
 
 /// What is timed, basis, strategy and degree.
-type Case = (&'static str, Basis, Option<SplitStrategy>, usize);
+type Case = (&'static str, Option<Basis>, Option<SplitStrategy>, usize);

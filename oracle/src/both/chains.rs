@@ -184,7 +184,7 @@ fn damaged(g: &mut Rng, row: usize, mut plan: Lent) -> Case {
 }
 
 /// Now and then above the limit.
-fn scale(g: &mut Rng) -> usize {
+pub fn scale(g: &mut Rng) -> usize {
     match g.below(40) {
         0 => g.pick(&[
             MAX_SCALE + 1,

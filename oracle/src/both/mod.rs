@@ -1,5 +1,6 @@
 //! The published planner and the proved library in one process: the same calls to both, answer against answer.
 
+pub mod budgets;
 mod call;
 pub mod chains;
 mod lent;
