@@ -218,8 +218,8 @@ firrozun_bits firrozun_bsgs_consumed_bits(uint8_t strategy, size_t degree, size_
 
 /* The largest degree for a budget of bits: the greatest from 1 to 4,095 for which firrozun_bsgs_consumed_bits answers at most `budget`. Bits need not
  * rise with the degree, so a lower one may take more bits than the budget has. At degree 5 with MinMult an even plan's heaviest chain is above these
- * bits if the coefficient scale is above the input scale: ask firrozun_heaviest_chain there. Refusals 43, 10, 31 (the budget is below the coefficient
- * scale). */
+ * bits if the input scale is from 1 up and below the coefficient scale: ask firrozun_heaviest_chain there. Refusals 43, 10, 31 (the budget is below
+ * the coefficient scale). */
 firrozun_degree firrozun_largest_degree(uint8_t strategy, uint64_t budget, size_t input, size_t coeff);
 
 /* ---- calls on coefficients: coefficient j stands at place j */

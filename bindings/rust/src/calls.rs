@@ -117,8 +117,8 @@ pub fn bsgs_consumed_bits(
 
 /// The largest degree for a budget of bits: the greatest from 1 to 4,095 whose [`bsgs_consumed_bits`] are at most the budget, for the
 /// bit scales of the input and of the coefficients. Bits need not rise with the degree, so a lower one may take more bits than the
-/// budget has. At degree 5 with MinMult an even plan's heaviest chain is above these bits if the coefficient scale is above the input
-/// scale: ask [`Plan::heaviest_chain`](crate::Plan::heaviest_chain) there.
+/// budget has. At degree 5 with MinMult an even plan's heaviest chain is above these bits if the input scale is from 1 up and below the
+/// coefficient scale: ask [`Plan::heaviest_chain`](crate::Plan::heaviest_chain) there.
 ///
 /// Refused: 10 for a scale above 65,535, 31 for a budget that no degree is within, which is one below the coefficient scale.
 ///

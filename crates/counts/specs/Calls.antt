@@ -1,4 +1,4 @@
--- The public calls on a bare degree (docs/RULES.md, "Refusals"): their tests in order, and their answers.
+-- The public calls on a bare degree or budget (docs/RULES.md, "Refusals"): their tests in order, and their answers.
 use mathlib.Core.List.{List, [], _∷_}
 use Prim.Native.Nat.{ℕ}
 use Rattle.algebra.specs.declared.Basis.{Basis}

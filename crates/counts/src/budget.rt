@@ -27,7 +27,7 @@ fn no_largest(refusal: u8) -> LargestDegree
     LargestDegree { refusal, degree: 0 }
 }
 
-// The next lower degree whose bits may be others. Degree 5 is an exception, so up to 8 every degree is one.
+// The next lower degree whose bits may differ. Up to degree 8 it is the next one, since degree 5 is an exception.
 fn lower_degree(strategy: SplitStrategy, degree: usize) -> usize
     requires { ⌜ Between 1 degree degreeLimit ⌝ }
     ensures { λ r. ⌜ SameDownTo strategy degree r ⌝ }

@@ -263,7 +263,7 @@ interpolations-total nodes values a b out r left call =
     let is = call .answer ∙ sym (when-refused k _ _ some-test) in
     record { count = rw is; parity = rw is; interval = rw is; buffer = call .buffer ∙ sym (when-refused k _ out some-test) })
 
--- ---- the calls on a bare index or degree
+-- ---- the calls on a bare index, degree or budget
 
 -- what a call says, whose answer is one of two
 either-way : {X : Type 0} (tests : List Test) (accepted refused : X) (read : X → ℕ) → Numbered tests → read accepted ≡ 0

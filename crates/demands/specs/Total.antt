@@ -167,7 +167,7 @@ InterpolationsTotal = (nodes values : List Float) (a b : Float) (out : List Floa
     → Ends (miscounted (length nodes) (length values) ∷ unordered a b ∷ noRoom (length out) (length nodes) ∷ []) (r .refusal)
     (left ≡ sets out 0 (coefficientsOf nodes values)) (InterpolateRefused r out left)
 
--- ---- the calls on a bare index or degree
+-- ---- the calls on a bare index, degree or budget
 
 pub record NumbersTotal : Type 0 where
   pub index-split : (n : ℕ) → Ends (outOfRange n ∷ []) (splitOf n .refusal) (splitOf n ≡ partsOf n) (splitOf n ≡ noParts (splitOf n .refusal))

@@ -167,17 +167,6 @@ fn stop(case: &Case, seed: u64) -> ! {
 
 fn summary(total: &Tally, seed: u64) {
     println!("| budgets | accepted | refused by 10 | by 31 | by 43 |");
-    println!("|---|---|---|---|---|");
-    let mut all = [0; REFUSALS.len()];
-    for (name, row) in ROWS.iter().zip(total) {
-        line(name, row);
-        (all.iter_mut().zip(row)).for_each(|(a, n)| *a += n);
-    }
-    line("all", &all);
-    let calls: u64 = all.iter().sum();
+    let calls = parts::table(&ROWS, total);
     println!("seed {seed}: {calls} calls, no difference");
-}
-
-fn line(name: &str, [accepted, scale, budget, kind]: &[u64; REFUSALS.len()]) {
-    println!("| {name} | {accepted} | {scale} | {budget} | {kind} |");
 }

@@ -284,19 +284,6 @@ fn stop(case: Case, seed: u64) -> ! {
 
 fn summary(total: &Tally, seed: u64) {
     println!("| plans | accepted | refused by 10 | by 24 | by 43 |");
-    println!("|---|---|---|---|---|");
-    let mut all = [0; REFUSALS.len()];
-    for (name, row) in ROWS.iter().zip(total) {
-        line(name, row);
-        (all.iter_mut().zip(row)).for_each(|(a, n)| *a += n);
-    }
-    line("all", &all);
-    println!(
-        "seed {seed}: {} chains, no difference",
-        all.iter().sum::<u64>()
-    );
-}
-
-fn line(name: &str, [accepted, scale, walk, kind]: &[u64; REFUSALS.len()]) {
-    println!("| {name} | {accepted} | {scale} | {walk} | {kind} |");
+    let chains = parts::table(&ROWS, total);
+    println!("seed {seed}: {chains} chains, no difference");
 }

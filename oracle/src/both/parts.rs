@@ -54,3 +54,19 @@ pub fn compare<C: Send, const ROWS: usize>(
         None => Ok(total.into_inner().unwrap()),
     }
 }
+
+/// Prints a table's rows, below its line of headings, and answers the sum of all counts.
+pub fn table<const ROWS: usize>(names: &[&str; ROWS], total: &Tally<ROWS>) -> u64 {
+    println!("|---|---|---|---|---|");
+    let mut all = [0; 4];
+    for (name, row) in names.iter().zip(total) {
+        line(name, row);
+        (all.iter_mut().zip(row)).for_each(|(a, n)| *a += n);
+    }
+    line("all", &all);
+    all.iter().sum()
+}
+
+fn line(name: &str, [a, b, c, d]: &[u64; 4]) {
+    println!("| {name} | {a} | {b} | {c} | {d} |");
+}
