@@ -65,7 +65,7 @@ pub record DegreeForBudget : Type 0 where
   -- "tested after refusal 10."
   pub largest-order : (strategy : SplitStrategy) (budget input coeff : ℕ)
       → numbersOf (largestTests strategy budget input coeff) ≡ 10 ∷ 10 ∷ 31 ∷ []
-  -- When none fits is said by the budget and one scale.
+  -- None fits exactly if the budget is below the coefficient scale.
   pub none-below-scale : NoneBelowScale
 
 pub record Requests : Type 1 where
