@@ -1,8 +1,7 @@
 -- Degrees that have the same bits. Between a degree and its top power all have its bit length, and none is a power of two, so their longest chains
 -- without a pt-ct are equal. The chains with one go by the depth, which is equal on each side of the threshold; degree 5 is left out.
 use mathlib.Core.Path.{_≡_, ap, sym, _∙_}
-use Prim.Native.Nat.{ℕ, suc, _+_, _-_, _*_, _/_, _^_, _≤_, _<_, max}
-use native.Mathlib.Nat.{two-pow-succ}
+use Prim.Native.Nat.{ℕ, _+_, _-_, _*_, _/_, _^_, _≤_, _<_, max}
 use native.Mathlib.Omega.{arith}
 use lib.Pow.{pow-mono}
 use Rattle.number.specs.Bits.{bitLen, topPower}
@@ -11,7 +10,7 @@ use Rattle.counts.specs.ConsumedBits.{pureChain, chainBefore, bitsOf}
 use Rattle.counts.specs.inside.SameBits.{SameDownTo}
 use Rattle.counts.specs.declared.choice.SplitStrategy.{SplitStrategy}
 use Rattle.counts.specs.declared.choice.SplitStrategy.the-variants.{MinDepth, MinMult}
-use Rattle.number.proofs.Bits.{some-digit, len-above, len-unique, top-power}
+use Rattle.number.proofs.Bits.{len-above, len-unique, top-doubled, top-power}
 use Rattle.counts.proofs.DepthLaws.{depth-least, depth-more, depth-same}
 use Rattle.counts.proofs.ConsumedBits.{pure-whole, before-least, before-other, bits-from-one}
 
@@ -23,16 +22,10 @@ one-lower strategy degree positive = record {
 }
 
 module _ (degree : ℕ) (positive : 0 < degree) where
-  -- twice the top power
-  doubled : 2 ^ bitLen degree ≡ topPower degree + topPower degree
-  unfolding topPower
-  doubled =
-      let one-more : suc (bitLen degree - 1) ≡ bitLen degree = omega (arith, some-digit degree positive) in
-      sym (ap (λ (x : ℕ). 2 ^ x) one-more) ∙ two-pow-succ (bitLen degree - 1)
-
   module _ (d : ℕ) (above : topPower degree < d) (most : d ≤ degree) where
     same-length : bitLen degree ≡ bitLen d
-    same-length = len-unique d (bitLen degree) (omega arith) (omega (arith, len-above degree)) (omega (arith, doubled))
+    same-length = len-unique d (bitLen degree) (omega arith) (omega (arith, len-above degree))
+        (omega (arith, top-doubled degree positive))
 
     same-power : topPower degree ≡ topPower d
     unfolding topPower
@@ -79,6 +72,6 @@ module _ (degree : ℕ) (positive : 0 < degree) where
   mult-to-threshold over-eight reached =
       let top = top-power degree positive in
       let half : 2 ^ ((bitLen degree - 1) / 2) ≤ 2 ^ (bitLen degree - 1) = pow-mono (omega arith) in
-      let twice = doubled in
+      let doubled = top-doubled degree positive in
       same-down MinMult (threshold (bitLen degree) - 1) (bitLen degree + 1 - 1) (omega arith) (omega arith)
       (λ d above most. before-other d (depth-more d (omega arith) (same-length d (omega arith) most) (omega arith)) (λ five. omega arith))

@@ -56,11 +56,13 @@ use Rattle.walk.proofs.TrialFollows.{trial-follows}
 use Rattle.walk.proofs.Paths.{heaviest-greatest}
 use Rattle.walk.proofs.ChainLaws.{one-made}
 use Rattle.plan.specs.PlanHead.{noHead}
-use Rattle.plan.specs.PlanCall.{plannedParity, settingsTests, inputTests, planTests, planRefusal, planAnswer, planCoefficients, planBoundaries, planNumbers, PlanCall}
+use Rattle.plan.specs.PlanCall.{plannedParity, settingsTests, inputTests, planTests, planRefusal}
+use Rattle.plan.specs.PlanCall.{planAnswer, planCoefficients, planBoundaries, planNumbers, PlanCall}
 use Rattle.plan.specs.PlanSizes.{degreeToPlan, sizesOf, noSizes, sizesRefusal, sizesCall}
 use Rattle.plan.specs.declared.call.Planned.{Planned}
 use Rattle.plan.specs.declared.sizes.PlanSizes.{PlanSizes}
-use Rattle.demands.specs.Total.{Ends, answers, refuses, ZeroHead, PlansTotal, PlansMade, PlanOrder, FoldsTotal, ListsTotal, TrialAnswered, TrialsTotal, ChainsTotal, InterpolationsTotal, NumbersTotal}
+use Rattle.demands.specs.Total.{Ends, answers, refuses, ZeroHead, PlansTotal, PlansMade, PlanOrder, FoldsTotal, ListsTotal}
+use Rattle.demands.specs.Total.{TrialAnswered, TrialsTotal, ChainsTotal, InterpolationsTotal, NumbersTotal}
 use Rattle.plan.proofs.PlanTests.{settings-numbered, inputs-numbered}
 use Rattle.demands.proofs.Refusals.{refusal-of, lateTests, plan-made, made-accepted, made-long}
 use Rattle.demands.proofs.Right.{plans-right}

@@ -142,16 +142,18 @@ pub record Top (n p : ℕ) : Type 0 where
   pub within : p ≤ n
   pub reaches : n < p + p
 
-pub top-power : (n : ℕ) → 0 < n → Top n (topPower n)
+-- twice the top power is the least power of two above n
+pub top-doubled : (n : ℕ) → 0 < n → 2 ^ bitLen n ≡ topPower n + topPower n
 unfolding topPower
+top-doubled n some =
+    let one-more : suc (bitLen n - 1) ≡ bitLen n = omega (arith, some-digit n some) in
+    sym (ap (λ (x : ℕ). 2 ^ x) one-more) ∙ two-pow-succ (bitLen n - 1)
+
+pub top-power : (n : ℕ) → 0 < n → Top n (topPower n)
 top-power n some =
-    let digit = some-digit n some in
-    let one-more : suc (bitLen n - 1) ≡ bitLen n = omega arith in
-    let doubled : 2 ^ bitLen n ≡ 2 ^ (bitLen n - 1) + 2 ^ (bitLen n - 1) =
-    sym (ap (λ (x : ℕ). 2 ^ x) one-more) ∙ two-pow-succ (bitLen n - 1) in
+    let doubled = top-doubled n some in
     let above = len-above n in
     let below = len-below n some in
-    let positive = pow-pos (bitLen n - 1) in
     record { positive = omega arith; within = omega arith; reaches = omega arith }
 
 -- no power of two at most n is greater
