@@ -88,6 +88,7 @@ typedef struct {
     uint8_t refusal;
     size_t a;
     size_t b;
+    size_t distance; /* of a and b */
 } firrozun_parts;
 
 typedef struct {
@@ -197,7 +198,7 @@ typedef struct {
 
 /* ---- calls on bare numbers */
 
-/* The two parts of the power n: a + b = n. Refusal 9. */
+/* The two parts of the power n, a + b = n, and their distance, |a - b|: x^n = x^a * x^b, T_n = 2 * T_a * T_b - T_distance. Refusal 9. */
 firrozun_parts firrozun_split_degree(size_t n);
 
 /* MinDepth's split of a degree: the base is 2^split. Refusals 2 (above 4,294,967,295), 1. */

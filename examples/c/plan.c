@@ -128,7 +128,7 @@ static void plan_refusals(void) {
 /* The calls on bare numbers. */
 static void bare_numbers(void) {
     firrozun_parts parts = firrozun_split_degree(9);
-    expect(parts.refusal == 0 && parts.a == 7 && parts.b == 2, "the split of 9");
+    expect(parts.refusal == 0 && parts.a == 7 && parts.b == 2 && parts.distance == 5, "the split of 9");
     expect(firrozun_split_degree(1).refusal == FIRROZUN_REFUSAL_INDEX, "the split of 1");
     firrozun_split split = firrozun_min_depth_split(4);
     expect(split.refusal == 0 && split.split == 2, "MinDepth's split of 4");

@@ -5,7 +5,7 @@
 use std::collections::BTreeMap;
 
 use crate::inputs::{MAX_DEGREE, MAX_SCALE};
-use crate::layouts::polynomial_evaluation::split_degree;
+use crate::split::parts;
 
 /// The most values that wait.
 const MAX_WAITING: usize = 16;
@@ -157,12 +157,16 @@ impl Walk {
     }
 
     fn make(&mut self, n: usize, a: usize, b: usize) -> Option<()> {
-        if n > MAX_DEGREE || self.powers.contains_key(&n) || split_degree(n) != (a, b) {
+        if n > MAX_DEGREE || self.powers.contains_key(&n) {
+            return None;
+        }
+        let (first, second, distance) = parts(n);
+        if (first, second) != (a, b) {
             return None;
         }
         let mut of = vec![(self.power(a)?, CtCt), (self.power(b)?, CtCt)];
         if self.chebyshev {
-            of.push((self.power(a.abs_diff(b))?, Added));
+            of.push((self.power(distance)?, Added));
         }
         let made = self.graph.value(of);
         self.powers.insert(n, made);

@@ -18,6 +18,7 @@ mod layouts;
 mod lines;
 mod printed;
 mod since;
+mod split;
 mod texts;
 mod walked;
 

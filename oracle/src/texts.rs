@@ -4,6 +4,7 @@
 use crate::calls::{Basis, Parity, SplitStrategy};
 use crate::inputs::{MAX_DEGREE, MAX_SUM};
 use crate::layouts::polynomial_evaluation as rust;
+use crate::split::parts;
 
 /// The most bytes of a line, and the most digits of a coefficient in it.
 pub const MAX_LINE: usize = 65_535;
@@ -247,12 +248,12 @@ impl<'a> Steps<'a> {
         }
         for n in (2..=self.degree).rev() {
             if marks[n] {
-                let (a, b) = rust::split_degree(n);
+                let (a, b, distance) = parts(n);
                 // Powers 0 and 1 are there: their marks are never read.
                 marks[a] = true;
                 marks[b] = true;
                 if self.basis == Basis::Chebyshev {
-                    marks[a.abs_diff(b)] = true;
+                    marks[distance] = true;
                 }
             }
         }

@@ -8,6 +8,7 @@ use crate::calls::{Basis, Parity, SplitStrategy, value_mod};
 use crate::inputs::Rng;
 use crate::layouts::polynomial_evaluation::bsgs_op_counts;
 use crate::lines::each_line;
+use crate::split::parts;
 use crate::texts::{Answerer, answer};
 
 /// A prime: the powers of a point are spread over the remainders.
@@ -198,12 +199,13 @@ impl Plan {
         for (letter, n) in &self.steps {
             match (letter, &n[..]) {
                 ('P', &[n, a, b]) => {
+                    let (first, second, distance) = parts(n);
+                    assert_eq!((a, b), (first, second), "the parts of a power");
                     let product = times(powers[&a], powers[&b]);
                     let power = match self.basis {
                         Basis::Monomial => product,
-                        Basis::Chebyshev => minus(times(2, product), powers[&a.abs_diff(b)]),
+                        Basis::Chebyshev => minus(times(2, product), powers[&distance]),
                     };
-                    assert_eq!(a + b, n, "the parts of a power");
                     assert!(powers.insert(n, power).is_none(), "a power is made once");
                 }
                 ('B', &[i]) => waiting.push(self.value(i, &powers)),

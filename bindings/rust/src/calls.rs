@@ -5,20 +5,22 @@ use crate::ffi;
 use crate::kinds::{Basis, Parity, SplitStrategy};
 use crate::refusal::Refusal;
 
-/// The two powers that make power `n`: a + b = n.
+/// The two powers that make power `n`, a + b = n, and their distance, |a − b|. With the third number T_n = 2·T_a·T_b − T_distance. (poulpy's
+/// call of this name answers the first two alone, and so does that of [`poulpy`](crate::poulpy).)
 ///
 /// Refused: 9 for an index below 2 or above 4,294,967,295.
 ///
 /// ```
 /// use firrozun::{split_degree, Refusal};
-/// assert_eq!(split_degree(3), Ok((1, 2)));
-/// assert_eq!(split_degree(5), Ok((3, 2)));
+/// assert_eq!(split_degree(3), Ok((1, 2, 1)));
+/// assert_eq!(split_degree(8), Ok((4, 4, 0)));
+/// assert_eq!(split_degree(9), Ok((7, 2, 5)));
 /// assert_eq!(split_degree(1), Err(Refusal::Index));
 /// ```
-pub fn split_degree(n: usize) -> Result<(usize, usize), Refusal> {
+pub fn split_degree(n: usize) -> Result<(usize, usize, usize), Refusal> {
     let answer = ffi::split_degree(n);
     Refusal::test(answer.refusal)?;
-    Ok((answer.a, answer.b))
+    Ok((answer.a, answer.b, answer.distance))
 }
 
 /// The split of strategy MinDepth for a degree; the base is 2 to this power. (poulpy's inner call of this name takes the number of

@@ -9,6 +9,7 @@ pub struct CParts {
     pub refusal: u8,
     pub a: usize,
     pub b: usize,
+    pub distance: usize,
 }
 
 #[repr(C)]

@@ -20,7 +20,7 @@ pub use crate::kinds::{
 };
 pub use crate::polynomial::Polynomial;
 
-/// [`firrozun::split_degree`](crate::split_degree), bare.
+/// [`firrozun::split_degree`](crate::split_degree), bare and without the distance of the parts.
 ///
 /// # Panics
 ///
@@ -30,7 +30,8 @@ pub use crate::polynomial::Polynomial;
 /// assert_eq!(firrozun::poulpy::split_degree(5), (3, 2));
 /// ```
 pub fn split_degree(n: usize) -> (usize, usize) {
-    bare(calls::split_degree(n))
+    let (a, b, _) = bare(calls::split_degree(n));
+    (a, b)
 }
 
 /// [`firrozun::bsgs_op_counts`](crate::bsgs_op_counts), bare.

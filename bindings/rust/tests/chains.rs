@@ -3,7 +3,7 @@
 mod common;
 
 use common::settings;
-use firrozun::{Basis, Parity, Plan, PolynomialInputTransform, SplitStrategy, Step};
+use firrozun::{split_degree, Basis, Parity, Plan, PolynomialInputTransform, SplitStrategy, Step};
 use std::collections::{BTreeMap, BTreeSet};
 
 /// Input scale and coefficient scale.
@@ -41,6 +41,12 @@ fn load(plan: &Plan, list: u16, powers: &BTreeMap<u16, Weights>, coeff: usize) -
     products.fold(given(), |so_far, weights| &so_far | &weights)
 }
 
+/// The distance of the parts of power n.
+fn distance(n: u16) -> u16 {
+    let (_, _, distance) = split_degree(n.into()).expect("an index");
+    distance as u16
+}
+
 /// The weights of the paths that end in the plan's value.
 fn paths(plan: &Plan, (input, coeff): Scales) -> Weights {
     let head = plan.head();
@@ -57,7 +63,7 @@ fn paths(plan: &Plan, (input, coeff): Scales) -> Weights {
                 let made = product(input, &powers[&a], &powers[&b]);
                 let less = match head.basis {
                     Basis::Monomial => Weights::new(),
-                    Basis::Chebyshev => powers[&a.abs_diff(b)].clone(),
+                    Basis::Chebyshev => powers[&distance(n)].clone(),
                 };
                 powers.insert(n, &made | &less);
             }

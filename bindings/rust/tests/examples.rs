@@ -21,14 +21,29 @@ fn lengths(plan: &Plan) -> Vec<usize> {
 
 #[test]
 fn splits() {
-    assert_eq!(split_degree(3), Ok((1, 2)));
-    assert_eq!(split_degree(5), Ok((3, 2)));
+    assert_eq!(split_degree(3), Ok((1, 2, 1)));
+    assert_eq!(split_degree(5), Ok((3, 2, 1)));
     assert_eq!(split_degree(1), Err(Refusal::Index));
     // Degrees of 1, 2, 3, 4 and 5 binary digits.
     assert_eq!(
         [1, 2, 4, 8, 16].map(min_depth_split),
         [1, 1, 2, 2, 3].map(Ok)
     );
+}
+
+/// Each T_n from three smaller ones, by the three numbers of its split, is 2·x·T_(n−1) − T_(n−2), at a point modulo a prime.
+#[test]
+fn chebyshev_powers_by_the_split() {
+    const PRIME: i64 = 1_000_003;
+    let x = 12_345;
+    let mut powers = vec![1, x];
+    for n in 2..=4_095 {
+        let (a, b, distance) = split_degree(n).expect("an index");
+        let split = (2 * powers[a] * powers[b] - powers[distance]).rem_euclid(PRIME);
+        let recurrence = (2 * x * powers[n - 1] - powers[n - 2]).rem_euclid(PRIME);
+        assert_eq!(split, recurrence, "T_{n}");
+        powers.push(split);
+    }
 }
 
 #[test]

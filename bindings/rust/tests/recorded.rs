@@ -267,7 +267,8 @@ fn single(answer: Result<usize, Refusal>) -> Answer {
 fn answer(call: &str, arguments: &mut Arguments) -> Answer {
     let a = arguments;
     match call {
-        "split_degree" => pair(split_degree(a.number())),
+        // The Rust has no third number.
+        "split_degree" => pair(split_degree(a.number()).map(|(a, b, _)| (a, b))),
         "min_depth_split" => single(min_depth_split(a.number())),
         "min_mult_split" => single(min_mult_split(a.number(), a.parity(), a.basis())),
         "bsgs_op_counts" => pair(bsgs_op_counts(

@@ -220,8 +220,8 @@ fn refusal_9_index() {
     for n in [0, 1, LAST_U32 + 1, usize::MAX] {
         assert_eq!(number(split_degree(n)), 9);
     }
-    assert_eq!(split_degree(2), Ok((1, 1)));
-    assert_eq!(split_degree(LAST_U32), Ok(((1 << 31) - 1, 1 << 31)));
+    assert_eq!(split_degree(2), Ok((1, 1, 0)));
+    assert_eq!(split_degree(LAST_U32), Ok(((1 << 31) - 1, 1 << 31, 1)));
 }
 
 #[test]

@@ -149,7 +149,8 @@ fn bare_answers_are_those_of_the_root() {
         }
     }
     for n in 2..300 {
-        assert_eq!(firrozun::split_degree(n), Ok(split_degree(n)));
+        let same = firrozun::split_degree(n).map(|(a, b, _)| (a, b));
+        assert_eq!(same, Ok(split_degree(n)));
     }
 }
 

@@ -4,12 +4,11 @@ use mathlib.Core.Path.{_≡_, refl, sym, _∙_, ap}
 use mathlib.Core.Logic.{⊎-elim}
 use mathlib.Core.List.{List, [], _∷_, map, List·Memᴰ, List·Memᴰ·head, List·Memᴰ·tail, List·Memᴰ·not-nil, List·Memᴰ·cases-cons}
 use mathlib.Core.Option.{some, none}
-use Prim.Native.Nat.{ℕ, zero, suc, _+_, _≤_, _<_}
+use Prim.Native.Nat.{ℕ, zero, suc, _≤_, _<_}
 use native.Mathlib.Decide.{ℕ-discrete, decLt}
 use native.Mathlib.Omega.{arith}
 use borrow.Author.Tests.{eq-eqb, ne-eqb, le-leb}
 use lib.IntN.{ℤ}
-use Rattle.algebra.specs.Distance.{distanceOf}
 use Rattle.algebra.specs.Operations.{wholeOps}
 use Rattle.algebra.specs.Power.{pow, power}
 use Rattle.algebra.specs.declared.Basis.{Basis}
@@ -17,11 +16,13 @@ use Rattle.algebra.specs.declared.Basis.the-variants.{Monomial, Chebyshev}
 use Rattle.algebra.specs.declared.Parity.{Parity}
 use Rattle.algebra.proofs.Chebyshev.{cheb-zero, cheb-one}
 use Rattle.algebra.proofs.Integers.{integers}
-use Rattle.algebra.proofs.ProductLaw.{product-law}
 use Rattle.number.specs.Limits.{planLimit}
-use Rattle.number.specs.Split.{partsOf}
+use Rattle.number.specs.Split.{partsOf, splitOf}
+use Rattle.number.specs.SplitDistance.{Taken}
+use Rattle.number.specs.declared.split.Parts.{Parts}
 use Rattle.number.proofs.SplitParts.{parted, split-accepted}
-use Rattle.needed.specs.Needed.{partsDistance, first, second, apart, Closed}
+use Rattle.number.proofs.SplitDistance.{split-product}
+use Rattle.needed.specs.Needed.{first, second, apart, Closed}
 use Rattle.needed.specs.Promises.{Rising}
 use Rattle.needed.proofs.RisingLists.{rising-from, rising-rest}
 use Rattle.walk.specs.Rules.{exactRules}
@@ -51,13 +52,14 @@ with-other : (n : ℕ) (v : ℤ) (powers : Powers ℤ) (m : ℕ) → (m ≡ n �
 unfolding withPower
 with-other n v powers m other = rw (ne-eqb m n other)
 
--- the powers a and b, and in Chebyshev that at their distance, make power a + b
-product : (basis : Basis) (y : ℤ) (powers : Powers ℤ) (a b : ℕ) → powers a ≡ some (power wholeOps basis y a)
-    → powers b ≡ some (power wholeOps basis y b) → (basis ≡ Chebyshev → powers (distanceOf a b) ≡ some (power wholeOps basis y (distanceOf a b)))
-    → powerFrom exactRules basis powers a b ≡ some (power wholeOps basis y (a + b))
+-- the powers at the parts of a taken index, and in Chebyshev that at their distance, make its power
+product : (basis : Basis) (y : ℤ) (powers : Powers ℤ) (n : ℕ) → Taken n → powers (splitOf n .a) ≡ some (power wholeOps basis y (splitOf n .a))
+    → powers (splitOf n .b) ≡ some (power wholeOps basis y (splitOf n .b))
+    → (basis ≡ Chebyshev → powers (splitOf n .distance) ≡ some (power wholeOps basis y (splitOf n .distance)))
+    → powerFrom exactRules basis powers (splitOf n .a) (splitOf n .b) (splitOf n .distance) ≡ some (power wholeOps basis y n)
 unfolding powerFrom
-product Monomial y powers a b one two distance = rw (one, two) (ap some (sym (product-law integers y Monomial a b)))
-product Chebyshev y powers a b one two distance = rw (one, two, distance refl) (ap some (sym (product-law integers y Chebyshev a b)))
+product Monomial y powers n taken one two distance = rw (one, two) (ap some (sym (split-product integers y Monomial n taken)))
+product Chebyshev y powers n taken one two distance = rw (one, two, distance refl) (ap some (sym (split-product integers y Chebyshev n taken)))
 
 -- ---- the powers that were made
 
@@ -127,16 +129,17 @@ module _ (basis : Basis) (y : ℤ) (Set : ℕ → Type 0) where
 
   -- its parts are there
   from-parts : Makeable basis Set → (n : ℕ) (powers : Powers ℤ) → Upto n powers → Set n
-      → powerFrom exactRules basis powers (partsOf n .a) (partsOf n .b) ≡ some (power wholeOps basis y n)
+      → powerFrom exactRules basis powers (partsOf n .a) (partsOf n .b) (partsOf n .distance) ≡ some (power wholeOps basis y n)
   from-parts makeable n powers upto in-set =
       let two = makeable .from-two n in-set in
+      let limit = makeable .to-limit n in-set in
       let parts = parted n two in
-      product basis y powers (partsOf n .a) (partsOf n .b)
+      let accepted = split-accepted n two (omega arith) in
+      let distance = partsOf n .distance in
+      rw accepted at (product basis y powers n (ap (λ (x : Parts). x .refusal) accepted ∙ parts .taken))
       (there n (partsOf n .a) powers upto (omega arith) (λ up. makeable .closed n (partsOf n .a) two in-set (first up refl)))
       (there n (partsOf n .b) powers upto (omega arith) (λ up. makeable .closed n (partsOf n .b) two in-set (second up refl)))
-      (λ chebyshev. there n (partsDistance n) powers upto (omega arith)
-      (λ up. makeable .closed n (partsDistance n) two in-set (apart chebyshev up refl)))
-      ∙ ap (λ k. some (power wholeOps basis y k)) (parts .whole)
+      (λ chebyshev. there n distance powers upto (omega arith) (λ up. makeable .closed n distance two in-set (apart chebyshev up refl)))
 
 -- ---- the steps
 

@@ -1,6 +1,7 @@
 -- The requests that have landed are met: each statement by the theorem of its name.
 use mathlib.Core.Path.{refl}
-use Rattle.demands.specs.Requests.{BufferSizes, LastConstant, PlanChains, DegreeForBudget, Requests}
+use Rattle.demands.specs.Requests.{BufferSizes, LastConstant, PlanChains, DegreeForBudget, SplitWithDistance, Requests}
+use Rattle.number.proofs.SplitDistance.{third-is-distance, parts-differ, refused-zero, split-product}
 use Rattle.counts.proofs.BudgetPromises.{largest-degrees, bits-fall, none-below-scale}
 use Rattle.walk.proofs.Paths.{heaviest-greatest}
 use Rattle.walk.proofs.StepsWeigh.{steps-weigh}
@@ -42,10 +43,19 @@ degree-for-budget = record {
   none-below-scale = none-below-scale;
 }
 
+pub split-with-distance : SplitWithDistance
+split-with-distance = record {
+  third-is-distance = third-is-distance;
+  parts-differ = parts-differ;
+  refused-zero = refused-zero;
+  split-product = λ 𝓡. split-product 𝓡;
+}
+
 pub requests : Requests
 requests = record {
   buffer-sizes = buffer-sizes;
   last-constant = last-constant;
   plan-chains = plan-chains;
   degree-for-budget = degree-for-budget;
+  split-with-distance = split-with-distance;
 }

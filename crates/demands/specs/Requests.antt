@@ -3,7 +3,9 @@
 use mathlib.Core.Path.{_≡_}
 use mathlib.Core.List.{[], _∷_}
 use Prim.Native.Nat.{ℕ}
+use Rattle.algebra.specs.Ring.{Ring}
 use Rattle.algebra.specs.declared.Parity.{Parity}
+use Rattle.number.specs.SplitDistance.{ThirdIsDistance, PartsDiffer, RefusedZero, SplitProduct}
 use Rattle.counts.specs.Calls.{largestTests}
 use Rattle.counts.specs.BudgetPromises.{LargestDegrees, BitsFall, NoneBelowScale}
 use Rattle.counts.specs.declared.choice.SplitStrategy.{SplitStrategy}
@@ -68,8 +70,19 @@ pub record DegreeForBudget : Type 0 where
   -- None fits exactly if the budget is below the coefficient scale.
   pub none-below-scale : NoneBelowScale
 
+-- Q-6. Split with its distance.
+pub record SplitWithDistance : Type 1 where
+  -- "The index split is to return it as a third number, equal to the absolute difference of the parts." It is 0 in a refusal.
+  pub third-is-distance : ThirdIsDistance
+  pub parts-differ : PartsDiffer
+  pub refused-zero : RefusedZero
+  -- "All who need the distance use this number." The needed powers (`Part`, needed/specs/Needed) and the walk (`powerFrom`, walk/specs/Make; `partsUsed`,
+  -- walk/specs/Uses) are defined by it; the plan and the heaviest chain are by these. They need it for the product that makes power n:
+  pub split-product : {A : Type 0} (𝓡 : Ring A) → SplitProduct 𝓡
+
 pub record Requests : Type 1 where
   pub buffer-sizes : BufferSizes
   pub last-constant : LastConstant
   pub plan-chains : PlanChains
   pub degree-for-budget : DegreeForBudget
+  pub split-with-distance : SplitWithDistance

@@ -28,9 +28,9 @@ pub record MultFull (basis : Basis) (degree split ct pt : ℕ) : Type 0 where
 
 pub record Starred : Type 0 where
   -- split 3 → (1, 2), 5 → (3, 2); 1 → refusal 9
-  pub split-3 : splitOf 3 ≡ record { refusal = 0; a = 1; b = 2 }
-  pub split-5 : splitOf 5 ≡ record { refusal = 0; a = 3; b = 2 }
-  pub split-1 : splitOf 1 ≡ record { refusal = 9; a = 0; b = 0 }
+  pub split-3 : splitOf 3 ≡ record { refusal = 0; a = 1; b = 2; distance = 1 }
+  pub split-5 : splitOf 5 ≡ record { refusal = 0; a = 3; b = 2; distance = 1 }
+  pub split-1 : splitOf 1 ≡ record { refusal = 9; a = 0; b = 0; distance = 0 }
   -- MinDepth split at L = 1..5: 1, 1, 2, 2, 3
   pub depth-splits : map minDepth (1 ∷ 2 ∷ 3 ∷ 4 ∷ 5 ∷ []) ≡ 1 ∷ 1 ∷ 2 ∷ 2 ∷ 3 ∷ []
   -- MinMult, Full, in both bases: degree 2 split 1 (tie), pair (1, 2); degree 4 split 1, (3, 3); degree 5 split 1, (4, 3);

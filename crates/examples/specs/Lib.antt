@@ -1,4 +1,5 @@
 pub mod Algebra
+pub mod Split
 pub mod Folding
 pub mod Evaluation
 pub mod Interpolation

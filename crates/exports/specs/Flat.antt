@@ -29,7 +29,7 @@ use Rattle.exports.specs.declared.flat.CTrial.{CTrial}
 use Rattle.exports.specs.declared.flat.CChain.{CChain}
 
 abbrev pub flatParts : Parts → CParts
-flatParts r = record { refusal = r .refusal; a = r .a; b = r .b }
+flatParts r = record { refusal = r .refusal; a = r .a; b = r .b; distance = r .distance }
 
 abbrev pub flatSplit : SplitChoice → CSplit
 flatSplit r = record { refusal = r .refusal; split = r .split }

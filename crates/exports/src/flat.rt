@@ -23,6 +23,7 @@ pub struct CParts {
     pub refusal: u8,
     pub a: usize,
     pub b: usize,
+    pub distance: usize,
 }
 
 #[repr(C)]
@@ -128,6 +129,7 @@ pub fn flat_parts(parts: Parts) -> CParts
         refusal: parts.refusal,
         a: parts.a,
         b: parts.b,
+        distance: parts.distance,
     }
 }
 

@@ -8,7 +8,7 @@ use Prim.Native.Nat.{ℕ, zero, suc, _+_, _-_, _/_, _^_, _≤_, _<_}
 use native.Mathlib.Nat.{two-pow-succ, eq-or-lt-of-le, lt-of-not-le}
 use native.Mathlib.Omega.{arith}
 use lib.ListN.{length, length-append}
-use lib.Pow.{pow-mono, pow-lt}
+use lib.Pow.{pow-mono, pow-lt, pow-pos}
 use Rattle.algebra.specs.declared.Basis.{Basis}
 use Rattle.algebra.specs.declared.Parity.{Parity}
 use Rattle.number.specs.Bits.{bitLen, topPower}
@@ -20,6 +20,7 @@ use Rattle.needed.specs.Promises.{Rising, empty, single, next}
 use Rattle.needed.specs.inside.Planned.{Planned}
 use Rattle.needed.specs.inside.Marks.{twoPowers}
 use Rattle.number.proofs.Bits.{len-above, len-unique, is-power}
+use Rattle.number.proofs.SplitParts.{parted}
 use Rattle.needed.proofs.Needed.{needed-least, needed-within, part-less, half-is-part, two-powers-needed}
 use Rattle.needed.proofs.NeededList.{needed-listed, needed-rising}
 use Rattle.needed.proofs.RisingLists.{rising-append, rising-same}
@@ -37,7 +38,10 @@ half-is-second j =
 half-part : (basis : Basis) (j m : ℕ) → Part basis (2 ^ suc j) m → (1 < m) × (m ≡ 2 ^ j)
 half-part basis j m (first above is) = (above, is ∙ sym (half-is-part j))
 half-part basis j m (second above is) = (above, is ∙ sym (half-is-second j))
-half-part basis j m (apart in-chebyshev above is) = absurd (omega (arith, half-is-part j, half-is-second j))
+half-part basis j m (apart in-chebyshev above is) =
+    let doubles = two-pow-succ j in
+    let halves = parted (2 ^ suc j) (omega (arith, pow-pos j)) in
+    absurd (omega (arith, half-is-part j, half-is-second j))
 
 pub split-under : (degree split : ℕ) → 2 ^ split ≤ degree → split < bitLen degree
 split-under degree split reached =

@@ -13,7 +13,7 @@ use lib.Seq.{getD-set-same, getD-set-other}
 use Rattle.algebra.specs.declared.Basis.{Basis}
 use Rattle.algebra.specs.declared.Basis.the-variants.{Monomial, Chebyshev}
 use Rattle.number.specs.Split.{partsOf}
-use Rattle.needed.specs.Needed.{partsDistance, Part, first, second, apart}
+use Rattle.needed.specs.Needed.{Part, first, second, apart}
 use Rattle.needed.specs.inside.Marks.{Marked, markAt, markApart, markParts, sweepAt}
 use Rattle.number.proofs.SplitParts.{parted}
 use Rattle.needed.proofs.Flags.{by-test}
@@ -73,26 +73,26 @@ module _ (n : ℕ) (marks : List Bool) where
   unfolding markApart
   apart-monomial in-monomial = rw in-monomial
 
-  pub apart-chebyshev : {basis : Basis} → basis ≡ Chebyshev → markApart basis n marks ≡ markAt (partsDistance n) marks
+  pub apart-chebyshev : {basis : Basis} → basis ≡ Chebyshev → markApart basis n marks ≡ markAt (partsOf n .distance) marks
   unfolding markApart
   apart-chebyshev in-chebyshev = rw in-chebyshev
 
   pub apart-length : (basis : Basis) → length (markApart basis n marks) ≡ length marks
   unfolding markApart
   apart-length Monomial = refl
-  apart-length Chebyshev = mark-length (partsDistance n) marks
+  apart-length Chebyshev = mark-length (partsOf n .distance) marks
 
   apart-keeps : (basis : Basis) (m : ℕ) → Marked marks m → Marked (markApart basis n marks) m
   unfolding markApart
   apart-keeps Monomial m marked = marked
-  apart-keeps Chebyshev m marked = mark-keeps (partsDistance n) marks m marked
+  apart-keeps Chebyshev m marked = mark-keeps (partsOf n .distance) marks m marked
 
-  apart-other : (basis : Basis) (m : ℕ) → m ≢ partsDistance n → getD (markApart basis n marks) m false ≡ getD marks m false
+  apart-other : (basis : Basis) (m : ℕ) → m ≢ partsOf n .distance → getD (markApart basis n marks) m false ≡ getD marks m false
   unfolding markApart
   apart-other Monomial m other = refl
-  apart-other Chebyshev m other = mark-other (partsDistance n) marks m other
+  apart-other Chebyshev m other = mark-other (partsOf n .distance) marks m other
 
-  apart-here : (basis : Basis) (m : ℕ) → basis ≡ Chebyshev → 1 < m → m ≡ partsDistance n → m < length marks
+  apart-here : (basis : Basis) (m : ℕ) → basis ≡ Chebyshev → 1 < m → m ≡ partsOf n .distance → m < length marks
       → Marked (markApart basis n marks) m
   unfolding markApart
   apart-here basis m in-chebyshev above is inside =
@@ -104,7 +104,7 @@ module _ (n : ℕ) (marks : List Bool) where
   apart-only Monomial m marked = inr marked
   apart-only Chebyshev m marked =
       ⊎-elim (λ new. inl (apart refl (rw (new .0) (new .1)) (new .0))) (λ old. inr old)
-      (mark-only (partsDistance n) marks m marked)
+      (mark-only (partsOf n .distance) marks m marked)
 
 -- ---- all parts
 

@@ -12,7 +12,6 @@ use lib.Seq.{set-append-left, set-at, take-at, take-nil}
 use Rattle.algebra.specs.declared.Basis.{Basis}
 use Rattle.algebra.specs.declared.Basis.the-variants.{Monomial, Chebyshev}
 use Rattle.number.specs.Split.{partsOf}
-use Rattle.needed.specs.Needed.{partsDistance}
 use Rattle.needed.specs.inside.Marks.{Marked, places, padded, markAt, markApart, markParts, sweepAt, sweepFrom, countMarks}
 use Rattle.number.proofs.SplitParts.{parted}
 use Rattle.needed.proofs.Flags.{by-test}
@@ -90,7 +89,7 @@ unfolding markApart
 apart-pad Monomial n marks rest from-two inside = refl
 apart-pad Chebyshev n marks rest from-two inside =
     let two = parted n from-two in
-    mark-pad (partsDistance n) marks rest (omega arith)
+    mark-pad (partsOf n .distance) marks rest (omega arith)
 
 parts-pad : (basis : Basis) (n : ℕ) (marks rest : List Bool) → 2 ≤ n → n < length marks
     → markParts basis n (marks ++ rest) ≡ markParts basis n marks ++ rest

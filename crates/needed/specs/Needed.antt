@@ -3,22 +3,17 @@ use mathlib.Core.Path.{_≡_}
 use mathlib.Core.Bool.{true}
 use Prim.Native.Nat.{ℕ, _+_, _^_, _≤_, _<_, min}
 use Rattle.algebra.specs.Allowed.{allows}
-use Rattle.algebra.specs.Distance.{distanceOf}
 use Rattle.algebra.specs.declared.Basis.{Basis}
 use Rattle.algebra.specs.declared.Basis.the-variants.{Chebyshev}
 use Rattle.algebra.specs.declared.Parity.{Parity}
 use Rattle.number.specs.Split.{partsOf}
 use Rattle.number.specs.Bits.{topPower}
 
--- the distance of the two parts of n
-abbrev pub partsDistance : (n : ℕ) → ℕ
-partsDistance n = distanceOf (partsOf n .a) (partsOf n .b)
-
 -- m is one of those parts of the split of n that are above 1, or in Chebyshev their distance if that is at least 2
 pub data Part (basis : Basis) (n m : ℕ) : Type 0 where
   first : 1 < m → m ≡ partsOf n .a → Part basis n m
   second : 1 < m → m ≡ partsOf n .b → Part basis n m
-  apart : basis ≡ Chebyshev → 1 < m → m ≡ partsDistance n → Part basis n m
+  apart : basis ≡ Chebyshev → 1 < m → m ≡ partsOf n .distance → Part basis n m
 
 -- the least set that holds every target and, with each n above 1, its parts
 pub data Needed (basis : Basis) (Target : ℕ → Type 0) : ℕ → Type 0 where

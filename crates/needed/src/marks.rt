@@ -12,7 +12,6 @@ use algebra::Basis;
 use algebra::Parity;
 use number::PLAN_LIMIT;
 use number::bit_len;
-use number::distance;
 use number::is_allowed;
 use number::power_of_two;
 use number::split_degree;
@@ -84,14 +83,12 @@ fn mark_parts(basis: Basis, n: usize, marks: &mut [bool; MARKS])
     ensures { λ _. ⌜ now (marks .exit) ≡ markParts basis n (now (marks .entry)) ⌝ }
 {
     let parts = split_degree(n);
-    let a = parts.a;
-    let b = parts.b;
     match basis {
         Basis::Monomial => {}
-        Basis::Chebyshev => mark(distance(a, b), marks),
+        Basis::Chebyshev => mark(parts.distance, marks),
     }
-    mark(a, marks);
-    mark(b, marks);
+    mark(parts.a, marks);
+    mark(parts.b, marks);
 }
 
 // All that the marked powers need, swept from the last place down.

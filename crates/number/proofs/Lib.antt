@@ -8,6 +8,7 @@ mod WholeFloats
 pub mod Exact
 pub mod Bits
 pub mod SplitParts
+pub mod SplitDistance
 mod Cutting
 mod Pair
 pub mod CutSame

@@ -1,10 +1,12 @@
--- The laws of the index split that callers use: within the limits the call answers the parts, both at least 1, and they make up n.
+-- The laws of the index split that callers use: within the limits the call answers the parts, both at least 1, and they make up n. The third number is
+-- their distance.
 use mathlib.Core.Path.{_≡_, refl, sym, _∙_}
 use mathlib.Core.Bool.{Bool, true, false}
-use Prim.Native.Nat.{ℕ, _+_, _≤_, _<_}
+use Prim.Native.Nat.{ℕ, _+_, _/_, _≤_, _<_}
 use native.Mathlib.Nat.{lt-of-not-le}
 use native.Mathlib.Omega.{arith}
 use borrow.Author.Tests.{le-ltb, lt-ltb}
+use Rattle.algebra.specs.Distance.{distanceOf}
 use Rattle.number.specs.Bits.{isPowerOfTwo, powerBelow}
 use Rattle.number.specs.Limits.{degreeLimit}
 use Rattle.number.specs.Refusal.{unlessRefused}
@@ -28,10 +30,12 @@ split-above n over =
     let from-two : 2 ≤ n = omega arith in
     rw (le-ltb n 2 from-two, lt-ltb degreeLimit n over)
 
--- the parts, by the test that the code makes: whether n is twice the greatest power of two below it
-pub parts-doubled : (n : ℕ) → n ≡ powerBelow n + powerBelow n → partsOf n ≡ partsBy true n
+-- the parts, by the test that the code makes: whether n is twice the greatest power of two below it. Two halves have no distance.
+pub parts-doubled : (n : ℕ) → n ≡ powerBelow n + powerBelow n → partsOf n ≡ record { refusal = 0; a = n / 2; b = n / 2; distance = 0 }
 unfolding partsOf
-parts-doubled n doubled = rw (doubled-is-power n doubled)
+parts-doubled n doubled =
+    let none : distanceOf (n / 2) (n / 2) ≡ 0 = omega arith in
+    rw (doubled-is-power n doubled, none)
 
 pub parts-other : (n : ℕ) → 2 ≤ n → (n ≡ powerBelow n + powerBelow n → ⊥) → partsOf n ≡ partsBy false n
 unfolding partsOf
@@ -41,11 +45,13 @@ parts-other n from-two other = rw (not-power (isPowerOfTwo n) refl)
     not-power true is = absurd (other (power-is-doubled n from-two is))
     not-power false is = is
 
--- two parts of n
+-- two parts of n, and their distance
 pub record Parted (n : ℕ) (parts : Parts) : Type 0 where
+  pub taken : parts .refusal ≡ 0
   pub first : 0 < parts .a
   pub second : 0 < parts .b
   pub whole : parts .a + parts .b ≡ n
+  pub distance : parts .distance ≡ distanceOf (parts .a) (parts .b)
 
 pub parted : (n : ℕ) → 2 ≤ n → Parted n (partsOf n)
 unfolding partsOf
@@ -54,7 +60,7 @@ parted n from-two = by-test (isPowerOfTwo n) refl
     by-test : (test : Bool) → isPowerOfTwo n ≡ test → Parted n (partsBy test n)
     by-test true is =
         let doubled = power-is-doubled n from-two is in
-        record { first = omega arith; second = omega arith; whole = omega arith }
+        record { taken = refl; first = omega arith; second = omega arith; whole = omega arith; distance = refl }
     by-test false is =
         let below = power-below n from-two in
         let more : 1 < powerBelow n = lt-of-not-le (λ (one : powerBelow n ≤ 1).
@@ -62,4 +68,4 @@ parted n from-two = by-test (isPowerOfTwo n) refl
         let same : _≡_ {A = Bool} true false = sym (doubled-is-power n doubled) ∙ is in
         let clash : _≡_ {A = ℕ} 0 1 = cc in
         omega arith) in
-        record { first = omega arith; second = omega arith; whole = omega arith }
+        record { taken = refl; first = omega arith; second = omega arith; whole = omega arith; distance = refl }

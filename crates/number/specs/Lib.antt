@@ -7,6 +7,7 @@ pub mod Parity
 pub mod ParityTold
 pub mod Tests
 pub mod Split
+pub mod SplitDistance
 pub mod CutSame
 pub mod FoldCall
 pub mod FoldSame

@@ -39,7 +39,6 @@ pub use parity::detect_parity_f64;
 pub use parity::is_allowed;
 pub use powers::bit_len;
 pub use split::Parts;
-pub use split::distance;
 pub use split::split_degree;
 // What serves planning, which calls it within its ranges.
 pub use factor::factorize_coeffs_chebyshev;

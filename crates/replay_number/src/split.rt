@@ -4,7 +4,7 @@ use recording::read_number;
 use recording::read_word;
 use recording::refused;
 
-// split_degree  n  =  a  b
+// split_degree  n  =  a  b. The Rust has no distance.
 pub fn split_degree_agrees(line: &[u8], at: usize) -> bool {
     let n = read_number(line, at);
     let answer = read_word(line, n.next, b"=");
@@ -13,7 +13,7 @@ pub fn split_degree_agrees(line: &[u8], at: usize) -> bool {
     }
     let parts = firrozun::split_degree(n.value as usize);
     if refused(line, answer.next) {
-        return parts.refusal == 9 && parts.a == 0 && parts.b == 0;
+        return parts.refusal == 9 && parts.a == 0 && parts.b == 0 && parts.distance == 0;
     }
     let a = read_number(line, answer.next);
     let b = read_number(line, a.next);

@@ -9,10 +9,10 @@ use lib.Dec.{eqb, ltb}
 use lib.IntN.{ℤ}
 use lib.ListN.{length, length-map}
 use Rattle.algebra.specs.Allowed.{allows}
-use Rattle.algebra.specs.Distance.{distanceOf}
 use Rattle.algebra.specs.declared.Basis.{Basis}
 use Rattle.algebra.specs.declared.Basis.the-variants.{Monomial, Chebyshev}
 use Rattle.algebra.specs.declared.Parity.{Parity}
+use Rattle.number.specs.Split.{splitOf}
 use Rattle.walk.specs.Limits.{waitingLimit}
 use Rattle.walk.specs.Options.{_then_, image}
 use Rattle.walk.specs.Kinds.{Kind, make, load, combine, unknown, kindOf}
@@ -61,12 +61,13 @@ module _ {A B : Type 0} (𝓡 : Rules A) (𝓢 : Rules B) (f : A → B) (H : Tak
       at (suc (suc m)) = refl
 
   -- a make
-  power-image : (basis : Basis) (powers : Powers A) (a b : ℕ) → powerFrom 𝓢 basis (powersBy f powers) a b ≡ image f (powerFrom 𝓡 basis powers a b)
+  power-image : (basis : Basis) (powers : Powers A) (a b distance : ℕ)
+      → powerFrom 𝓢 basis (powersBy f powers) a b distance ≡ image f (powerFrom 𝓡 basis powers a b distance)
   unfolding powerFrom
-  power-image Monomial powers a b =
+  power-image Monomial powers a b distance =
       then-image f f (powers a) _ _ _ refl (λ u. then-image f f (powers b) _ _ _ refl (λ v. ap some (sym (H .product u v))))
-  power-image Chebyshev powers a b =
-      then-image f f (powers a) _ _ _ refl (λ u. then-image f f (powers b) _ _ _ refl (λ v. then-image f f (powers (distanceOf a b)) _ _ _ refl
+  power-image Chebyshev powers a b distance =
+      then-image f f (powers a) _ _ _ refl (λ u. then-image f f (powers b) _ _ _ refl (λ v. then-image f f (powers distance) _ _ _ refl
       (λ w. ap some (sym (H .productLess u v w)))))
 
   make-image : (basis : Basis) (powers : Powers A) (n a b : ℕ)
@@ -75,7 +76,8 @@ module _ {A B : Type 0} (𝓡 : Rules A) (𝓢 : Rules B) (f : A → B) (H : Tak
   make-image basis powers n a b =
       rw missing-image
       (when-image (powersBy f) (isMakeable n a b && _) _ _
-      (then-image f (powersBy f) (powerFrom 𝓡 basis powers a b) _ _ _ (power-image basis powers a b) (λ v. ap some (with-image f n v powers))))
+      (then-image f (powersBy f) (powerFrom 𝓡 basis powers a b (splitOf n .distance)) _ _ _ (power-image basis powers a b (splitOf n .distance))
+      (λ v. ap some (with-image f n v powers))))
 
   -- a load
   module _ (parity : Parity) (powers : Powers A) where

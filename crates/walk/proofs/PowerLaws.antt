@@ -9,7 +9,6 @@ use borrow.Author.Tests.{eq-eqb, ne-eqb, eqb-true, le-leb, lt-leb, leb-true}
 use lib.Dec.{eqb, leb}
 use lib.ListN.{length, getD, set}
 use lib.Seq.{getD-set-same, getD-set-other}
-use Rattle.algebra.specs.Distance.{distanceOf}
 use Rattle.algebra.specs.declared.Basis.{Basis}
 use Rattle.algebra.specs.declared.Basis.the-variants.{Monomial, Chebyshev}
 use Rattle.number.specs.Limits.{planLimit}
@@ -71,27 +70,27 @@ module _ (n a b : ℕ) where
       )
 
 -- the product, by what is found
-module _ (𝓡 : Rules ℕ) (powers : Powers ℕ) (a b : ℕ) where
-  pub no-first : (basis : Basis) → powers a ≡ none → none ≡ powerFrom 𝓡 basis powers a b
+module _ (𝓡 : Rules ℕ) (powers : Powers ℕ) (a b distance : ℕ) where
+  pub no-first : (basis : Basis) → powers a ≡ none → none ≡ powerFrom 𝓡 basis powers a b distance
   unfolding powerFrom
   no-first Monomial e = rw e
   no-first Chebyshev e = rw e
 
-  pub no-second : (basis : Basis) (u : ℕ) → powers a ≡ some u → powers b ≡ none → none ≡ powerFrom 𝓡 basis powers a b
+  pub no-second : (basis : Basis) (u : ℕ) → powers a ≡ some u → powers b ≡ none → none ≡ powerFrom 𝓡 basis powers a b distance
   unfolding powerFrom
   no-second Monomial u e f = rw (e, f)
   no-second Chebyshev u e f = rw (e, f)
 
-  pub monomial-product : (u v : ℕ) → powers a ≡ some u → powers b ≡ some v → some (𝓡 .product u v) ≡ powerFrom 𝓡 Monomial powers a b
+  pub monomial-product : (u v : ℕ) → powers a ≡ some u → powers b ≡ some v → some (𝓡 .product u v) ≡ powerFrom 𝓡 Monomial powers a b distance
   unfolding powerFrom
   monomial-product u v e f = rw (e, f)
 
-  pub no-third : (u v : ℕ) → powers a ≡ some u → powers b ≡ some v → powers (distanceOf a b) ≡ none → none ≡ powerFrom 𝓡 Chebyshev powers a b
+  pub no-third : (u v : ℕ) → powers a ≡ some u → powers b ≡ some v → powers distance ≡ none → none ≡ powerFrom 𝓡 Chebyshev powers a b distance
   unfolding powerFrom
   no-third u v e f g = rw (e, f, g)
 
-  pub chebyshev-product : (u v w : ℕ) → powers a ≡ some u → powers b ≡ some v → powers (distanceOf a b) ≡ some w
-      → some (𝓡 .productLess u v w) ≡ powerFrom 𝓡 Chebyshev powers a b
+  pub chebyshev-product : (u v w : ℕ) → powers a ≡ some u → powers b ≡ some v → powers distance ≡ some w
+      → some (𝓡 .productLess u v w) ≡ powerFrom 𝓡 Chebyshev powers a b distance
   unfolding powerFrom
   chebyshev-product u v w e f g = rw (e, f, g)
 
@@ -105,11 +104,11 @@ module _ (𝓡 : Rules ℕ) (basis : Basis) (powers : Powers ℕ) (n a b : ℕ) 
   unfolding makeOf
   make-again u e f = rw (e, f)
 
-  pub make-without : isMakeable n a b ≡ true → powers n ≡ none → powerFrom 𝓡 basis powers a b ≡ none → none ≡ makeOf 𝓡 basis powers n a b
+  pub make-without : isMakeable n a b ≡ true → powers n ≡ none → powerFrom 𝓡 basis powers a b (splitOf n .distance) ≡ none → none ≡ makeOf 𝓡 basis powers n a b
   unfolding makeOf
   make-without e f g = rw (e, f, g)
 
-  pub make-is : (v : ℕ) → isMakeable n a b ≡ true → powers n ≡ none → powerFrom 𝓡 basis powers a b ≡ some v
+  pub make-is : (v : ℕ) → isMakeable n a b ≡ true → powers n ≡ none → powerFrom 𝓡 basis powers a b (splitOf n .distance) ≡ some v
       → some (withPower n v powers) ≡ makeOf 𝓡 basis powers n a b
   unfolding makeOf
   make-is v e f g = rw (e, f, g)

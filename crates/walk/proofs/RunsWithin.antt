@@ -13,12 +13,12 @@ use lib.Dec.{eqb, ltb}
 use lib.IntN.{ℤ}
 use lib.ListN.{length}
 use Rattle.algebra.specs.Allowed.{allows}
-use Rattle.algebra.specs.Distance.{distanceOf}
 use Rattle.algebra.specs.declared.Basis.{Basis}
 use Rattle.algebra.specs.declared.Basis.the-variants.{Monomial, Chebyshev}
 use Rattle.algebra.specs.declared.Parity.{Parity}
 use Rattle.algebra.specs.declared.PolynomialInputTransform.{PolynomialInputTransform}
 use Rattle.number.specs.Limits.{planLimit}
+use Rattle.number.specs.Split.{splitOf}
 use Rattle.number.proofs.BothHold.{and-left, and-right}
 use Rattle.walk.specs.Limits.{waitingLimit}
 use Rattle.walk.specs.Options.{_then_, missing}
@@ -98,23 +98,24 @@ module _ {A : Type 0} {𝓡 : Rules A} {Within : ℕ → A → Type 0} (G : Grow
 
   -- a make, of parts that are up to a level less
   module _ (n a b : ℕ) (from-two : 2 ≤ n) (makeable : isMakeable n a b ≡ true) where
-    parts-half : (j : ℕ) → n ≤ 2 ^ suc j → Halves (2 ^ j) a b
+    parts-half : (j : ℕ) → n ≤ 2 ^ suc j → Halves (2 ^ j) a b (splitOf n .distance)
     parts-half j h =
         let most : n ≤ planLimit = makeable-within n a b makeable in
         let parts = makeable-parts n a b makeable in
         rw (parts .0, parts .1) (split-halves n j from-two h (omega arith))
 
-    raised : {v : A} → ((j : ℕ) → Halves (2 ^ j) a b → Within (suc (suc j)) v) → PowerWithin Within n v
+    raised : {v : A} → ((j : ℕ) → Halves (2 ^ j) a b (splitOf n .distance) → Within (suc (suc j)) v) → PowerWithin Within n v
     raised k zero h = absurd (omega arith)
     raised k (suc j) h = k j (parts-half j h)
 
-    power-within : (basis : Basis) {powers : Powers A} → EachPower Within powers → All (PowerWithin Within n) (powerFrom 𝓡 basis powers a b)
+    power-within : (basis : Basis) {powers : Powers A} → EachPower Within powers
+        → All (PowerWithin Within n) (powerFrom 𝓡 basis powers a b (splitOf n .distance))
     unfolding powerFrom
     power-within Monomial each =
         all-then (by-number (each a)) (λ u p. all-then (by-number (each b)) (λ v q.
         holds (raised (λ j half. G .product (p j (half .first)) (q j (half .second))))))
     power-within Chebyshev each =
-        all-then (by-number (each a)) (λ u p. all-then (by-number (each b)) (λ v q. all-then (by-number (each (distanceOf a b))) (λ w r.
+        all-then (by-number (each a)) (λ u p. all-then (by-number (each b)) (λ v q. all-then (by-number (each (splitOf n .distance))) (λ w r.
         holds (raised (λ j half. G .productLess (p j (half .first)) (q j (half .second)) (r j (half .distance)))))))
 
   with-kept : (n : ℕ) {v : A} {powers : Powers A} → n ≤ planLimit → PowerWithin Within n v → EachPower Within powers

@@ -7,22 +7,17 @@ use native.Mathlib.Nat.{two-pow-succ, lt-of-not-le}
 use native.Mathlib.Numerals.{lt-of-le-of-ne}
 use native.Mathlib.Omega.{arith}
 use lib.Pow.{pow-mono}
-use Rattle.algebra.specs.Distance.{distanceOf}
 use Rattle.number.specs.Bits.{powerBelow}
 use Rattle.number.specs.Limits.{degreeLimit}
 use Rattle.number.specs.Split.{partsOf, splitOf}
 use Rattle.number.proofs.Bits.{power-below, powers-of-two}
 use Rattle.number.proofs.SplitParts.{split-accepted, parts-doubled, parts-other}
 
--- two parts and their distance, all at most a half
-pub record Halves (half a b : ℕ) : Type 0 where
+-- two parts and their distance c, all at most a half
+pub record Halves (half a b c : ℕ) : Type 0 where
   pub first : a ≤ half
   pub second : b ≤ half
-  pub distance : distanceOf a b ≤ half
-
--- a distance is at most the greater of the two
-halves : {half a b : ℕ} → a ≤ half → b ≤ half → Halves half a b
-halves first second = record { first = first; second = second; distance = omega arith }
+  pub distance : c ≤ half
 
 module _ (n j : ℕ) (from-two : 2 ≤ n) (most : n ≤ 2 ^ suc j) where
   -- the greatest power of two below n is at most 2^j
@@ -34,14 +29,15 @@ module _ (n j : ℕ) (from-two : 2 ≤ n) (most : n ≤ 2 ^ suc j) where
       omega (arith, below .power, below .holds)) in
       rw (below .power) (pow-mono (omega arith))
 
-  pub split-halves : n ≤ degreeLimit → Halves (2 ^ j) (splitOf n .a) (splitOf n .b)
+  pub split-halves : n ≤ degreeLimit → Halves (2 ^ j) (splitOf n .a) (splitOf n .b) (splitOf n .distance)
   split-halves to-limit = rw (split-accepted n from-two to-limit) (by (ℕ-discrete n (powerBelow n + powerBelow n)))
     where
-      by : Dec (n ≡ powerBelow n + powerBelow n) → Halves (2 ^ j) (partsOf n .a) (partsOf n .b)
+      by : Dec (n ≡ powerBelow n + powerBelow n) → Halves (2 ^ j) (partsOf n .a) (partsOf n .b) (partsOf n .distance)
       by (yes doubled) =
           let doubles = two-pow-succ j in
-          rw (parts-doubled n doubled) (halves (omega arith) (omega arith))
+          rw (parts-doubled n doubled) (record { first = omega arith; second = omega arith; distance = omega arith })
       by (no other) =
           let under = power-below n from-two .under in
           let reaches = lt-of-le-of-ne (power-below n from-two .reaches) other in
-          rw (parts-other n from-two other) (halves (omega (arith, below-half)) (omega (arith, below-half)))
+          let half = below-half in
+          rw (parts-other n from-two other) (record { first = omega arith; second = omega arith; distance = omega arith })

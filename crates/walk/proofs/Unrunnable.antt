@@ -11,11 +11,11 @@ use lib.Dec.{leb, ltb}
 use lib.IntN.{ℤ}
 use lib.ListN.{length}
 use Rattle.algebra.specs.Allowed.{allows}
-use Rattle.algebra.specs.Distance.{distanceOf}
 use Rattle.algebra.specs.declared.Basis.{Basis}
 use Rattle.algebra.specs.declared.Basis.the-variants.{Monomial, Chebyshev}
 use Rattle.algebra.specs.declared.Parity.{Parity}
 use Rattle.number.specs.Limits.{planLimit}
+use Rattle.number.specs.Split.{splitOf}
 use Rattle.walk.specs.Limits.{waitingLimit}
 use Rattle.walk.specs.Options.{_then_, missing}
 use Rattle.walk.specs.Kinds.{Kind, make, load, combine, unknown, kindOf}
@@ -81,21 +81,25 @@ then-fails none f t g e k = rw (← e)
 module _ {A : Type 0} (𝓡 : Rules A) where
   -- ---- a make
 
-  power-missing : (basis : Basis) (powers : Powers A) (a b : ℕ) → missing (powerFrom 𝓡 basis powers a b) ≡ anyMissing powers (partsUsed basis a b)
+  power-missing : (basis : Basis) (powers : Powers A) (a b distance : ℕ)
+      → missing (powerFrom 𝓡 basis powers a b distance) ≡ anyMissing powers (partsUsed basis a b distance)
   unfolding powerFrom anyMissing
-  power-missing Monomial powers a b =
+  power-missing Monomial powers a b distance =
       then-test (powers a) _ _ (λ u. then-test (powers b) _ false (λ v. refl))
-  power-missing Chebyshev powers a b =
-      then-test (powers a) _ _ (λ u. then-test (powers b) _ _ (λ v. then-test (powers (distanceOf a b)) _ false (λ w. refl)))
+  power-missing Chebyshev powers a b distance =
+      then-test (powers a) _ _ (λ u. then-test (powers b) _ _ (λ v. then-test (powers distance) _ false (λ w. refl)))
 
   make-missing : (basis : Basis) (powers : Powers A) (n a b : ℕ)
       → missing (makeOf 𝓡 basis powers n a b)
-      ≡ (ltb planLimit n || (not (missing (powers n)) || (not (isSplit n a b) || (anyMissing powers (partsUsed basis a b) || false))))
+      ≡ (ltb planLimit n
+      || (not (missing (powers n)) || (not (isSplit n a b) || (anyMissing powers (partsUsed basis a b (splitOf n .distance)) || false))))
   unfolding makeOf isMakeable
   make-missing basis powers n a b =
+      let distance = splitOf n .distance in
       missing-when (isMakeable n a b && missing (powers n)) _
-      ∙ ap (not (isMakeable n a b && missing (powers n)) ||_) (missing-then (powerFrom 𝓡 basis powers a b) _ ∙ power-missing basis powers a b)
-      ∙ make-tests (leb n planLimit) (isSplit n a b) (missing (powers n)) (anyMissing powers (partsUsed basis a b))
+      ∙ ap (not (isMakeable n a b && missing (powers n)) ||_)
+      (missing-then (powerFrom 𝓡 basis powers a b distance) _ ∙ power-missing basis powers a b distance)
+      ∙ make-tests (leb n planLimit) (isSplit n a b) (missing (powers n)) (anyMissing powers (partsUsed basis a b distance))
       ∙ rw (not-leb n planLimit)
 
   -- ---- a load

@@ -12,10 +12,10 @@ use borrow.Author.Tests.{eqb-false, eq-eqb, ne-eqb}
 use lib.Dec.{eqb}
 use lib.IntN.{ℤ}
 use Rattle.algebra.specs.Allowed.{allows}
-use Rattle.algebra.specs.Distance.{distanceOf}
 use Rattle.algebra.specs.declared.Basis.{Basis}
 use Rattle.algebra.specs.declared.Basis.the-variants.{Monomial, Chebyshev}
 use Rattle.algebra.specs.declared.Parity.{Parity}
+use Rattle.number.specs.Split.{splitOf}
 use Rattle.walk.specs.Options.{_then_, when, missing, image}
 use Rattle.walk.specs.Kinds.{Kind, make, load, combine, unknown, kindOf}
 use Rattle.walk.specs.Rules.{Rules}
@@ -73,14 +73,13 @@ module _ {A : Type 0} (n : ℕ) (v : A) where
   module _ (𝓡 : Rules A) where
     -- ---- what doesn't use power n reads the same powers
 
-    same-power : (basis : Basis) (powers : Powers A) (a b : ℕ) → isAmong n (partsUsed basis a b) ≡ false
-        → powerFrom 𝓡 basis (withPower n v powers) a b ≡ powerFrom 𝓡 basis powers a b
+    same-power : (basis : Basis) (powers : Powers A) (a b distance : ℕ) → isAmong n (partsUsed basis a b distance) ≡ false
+        → powerFrom 𝓡 basis (withPower n v powers) a b distance ≡ powerFrom 𝓡 basis powers a b distance
     unfolding powerFrom
-    same-power Monomial powers a b e =
+    same-power Monomial powers a b distance e =
         let not-b = not-later n a (b ∷ []) e in
         rw (other-power powers a (not-first n a (b ∷ []) e), other-power powers b (not-first n b [] not-b))
-    same-power Chebyshev powers a b e =
-        let distance = distanceOf a b in
+    same-power Chebyshev powers a b distance e =
         let not-b = not-later n a (b ∷ distance ∷ []) e in
         let not-distance = not-later n b (distance ∷ []) not-b in
         rw (
@@ -135,13 +134,14 @@ module _ {A : Type 0} (n : ℕ) (v : A) where
 
     -- ---- a make of another power, and one of power n, which is refused
 
-    make-beside : (basis : Basis) (powers : Powers A) (m a b : ℕ) → eqb n m ≡ false → isAmong n (partsUsed basis a b) ≡ false
+    make-beside : (basis : Basis) (powers : Powers A) (m a b : ℕ) → eqb n m ≡ false
+        → isAmong n (partsUsed basis a b (splitOf m .distance)) ≡ false
         → makeOf 𝓡 basis (withPower n v powers) m a b ≡ image (withPower n v) (makeOf 𝓡 basis powers m a b)
     unfolding makeOf
     make-beside basis powers m a b other e =
-        rw (other-power powers m other, same-power basis powers a b e)
+        rw (other-power powers m other, same-power basis powers a b (splitOf m .distance) e)
         (when-image (withPower n v) (isMakeable m a b && missing (powers m)) _ _
-        (image-then (withPower n v) (powerFrom 𝓡 basis powers a b) _ _ (λ u. ap some (with-both m u powers other))))
+        (image-then (withPower n v) (powerFrom 𝓡 basis powers a b (splitOf m .distance)) _ _ (λ u. ap some (with-both m u powers other))))
 
     make-again : (basis : Basis) (powers : Powers A) (m a b : ℕ) → n ≡ m → makeOf 𝓡 basis (withPower n v powers) m a b ≡ none
     unfolding makeOf
@@ -208,7 +208,7 @@ module _ {A : Type 0} (𝓡 : Rules A) (parity : Parity) (basis : Basis) (lists 
   unfolding actOf makeOf
   made x y z state next e =
       let taken = then-some (makeOf 𝓡 basis (state .powers) x y z) _ next e in
-      let power = then-some (powerFrom 𝓡 basis (state .powers) y z) _ (taken .value)
+      let power = then-some (powerFrom 𝓡 basis (state .powers) y z (splitOf x .distance)) _ (taken .value)
       (when-some (isMakeable x y z && missing (state .powers x)) _ (taken .value) (taken .is)) in
       record { power = power .value; is = ap (withPowers state) (same-some (power .next)) ∙ same-some (taken .next) }
 

@@ -11,6 +11,7 @@ use borrow.Author.Tests.{eq-eqb, ne-eqb}
 use lib.Dec.{eqb}
 use Rattle.algebra.specs.declared.Basis.{Basis}
 use Rattle.algebra.specs.declared.Parity.{Parity}
+use Rattle.number.specs.Split.{splitOf}
 use Rattle.walk.specs.Options.{_then_, missing}
 use Rattle.walk.specs.Kinds.{Kind, make, load, combine, unknown, kindOf}
 use Rattle.walk.specs.Rules.{Rules}
@@ -90,7 +91,7 @@ module _ {A : Type 0} (𝓡 : Rules A) (parity : Parity) (basis : Basis) (lists 
   unfolding actOf makeOf
   act-known make x y z state next made e known =
       let taken = then-some (makeOf 𝓡 basis (state .powers) x y z) _ next e in
-      let power = then-some (powerFrom 𝓡 basis (state .powers) y z) _ (taken .value)
+      let power = then-some (powerFrom 𝓡 basis (state .powers) y z (splitOf x .distance)) _ (taken .value)
       (when-some (isMakeable x y z && missing (state .powers x)) _ (taken .value) (taken .is)) in
       let is : withPower x (power .value) (state .powers) ≡ next .powers = same-some (power .next)
       ∙ ap (λ (s : State A). s .powers) (same-some (taken .next)) in

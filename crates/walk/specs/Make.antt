@@ -3,7 +3,6 @@ use mathlib.Core.Bool.{Bool, cond, _&&_}
 use mathlib.Core.Option.{Option, some, none}
 use Prim.Native.Nat.{ℕ, zero, suc}
 use lib.Dec.{eqb, leb}
-use Rattle.algebra.specs.Distance.{distanceOf}
 use Rattle.algebra.specs.declared.Basis.{Basis}
 use Rattle.algebra.specs.declared.Basis.the-variants.{Monomial, Chebyshev}
 use Rattle.number.specs.Limits.{planLimit}
@@ -32,11 +31,12 @@ module _ {A : Type 0} (𝓡 : Rules A) where
   firstPowers y (suc (suc n)) = none
 
   -- from powers a and b, in Chebyshev from that at their distance too; none if one of these is not there
-  unfoldable pub powerFrom : Basis → Powers A → (a b : ℕ) → Option A
-  powerFrom Monomial powers a b = powers a then λ u. powers b then λ v. some (𝓡 .product u v)
-  powerFrom Chebyshev powers a b = powers a then λ u. powers b then λ v. powers (distanceOf a b) then λ w. some (𝓡 .productLess u v w)
+  unfoldable pub powerFrom : Basis → Powers A → (a b distance : ℕ) → Option A
+  powerFrom Monomial powers a b distance = powers a then λ u. powers b then λ v. some (𝓡 .product u v)
+  powerFrom Chebyshev powers a b distance =
+      powers a then λ u. powers b then λ v. powers distance then λ w. some (𝓡 .productLess u v w)
 
-  -- refused, too, if power n was made before; powers 0 and 1 always were
+  -- the distance is the third number of the split of n; refused, too, if power n was made before; powers 0 and 1 always were
   unfoldable pub makeOf : Basis → Powers A → (n a b : ℕ) → Option (Powers A)
   makeOf basis powers n a b =
-      when (isMakeable n a b && missing (powers n)) (powerFrom basis powers a b then λ v. some (withPower n v powers))
+      when (isMakeable n a b && missing (powers n)) (powerFrom basis powers a b (splitOf n .distance) then λ v. some (withPower n v powers))

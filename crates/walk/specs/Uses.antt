@@ -5,18 +5,18 @@ use mathlib.Core.Option.{Option, some, none}
 use Prim.Native.Nat.{ℕ, suc}
 use lib.IntN.{ℤ}
 use Rattle.algebra.specs.Allowed.{allows}
-use Rattle.algebra.specs.Distance.{distanceOf}
 use Rattle.algebra.specs.declared.Basis.{Basis}
 use Rattle.algebra.specs.declared.Basis.the-variants.{Monomial, Chebyshev}
 use Rattle.algebra.specs.declared.Parity.{Parity}
+use Rattle.number.specs.Split.{splitOf}
 use Rattle.walk.specs.Kinds.{Kind, make, load, combine, unknown, kindOf}
 use Rattle.walk.specs.State.{Lists}
 use Rattle.walk.specs.declared.plan.Step.{Step}
 
 -- the two parts of a power, and in Chebyshev their distance
-abbrev pub partsUsed : Basis → (a b : ℕ) → List ℕ
-partsUsed Monomial a b = a ∷ b ∷ []
-partsUsed Chebyshev a b = a ∷ b ∷ distanceOf a b ∷ []
+abbrev pub partsUsed : Basis → (a b distance : ℕ) → List ℕ
+partsUsed Monomial a b distance = a ∷ b ∷ []
+partsUsed Chebyshev a b distance = a ∷ b ∷ distance ∷ []
 
 -- the allowed places of a list from place j on, power 0 being that of its constant
 abbrev pub usedIf : (allowed : Bool) (j : ℕ) → List ℕ → List ℕ
@@ -32,9 +32,9 @@ abbrev pub listUses : Parity → Option (List ℤ) → List ℕ
 listUses parity (some c) = placesUsed parity 0 c
 listUses parity none = []
 
--- by kind: a make uses its parts, a load its list's allowed powers, a combine its power
+-- by kind: a make uses its parts, whose distance is the third number of the split of its power; a load its list's allowed powers, a combine its power
 unfoldable pub usesBy : Parity → Basis → Lists → Kind → (x y z : ℕ) → List ℕ
-usesBy parity basis lists make x y z = partsUsed basis y z
+usesBy parity basis lists make x y z = partsUsed basis y z (splitOf x .distance)
 usesBy parity basis lists load x y z = listUses parity (lists x)
 usesBy parity basis lists (combine plain) x y z = x ∷ []
 usesBy parity basis lists unknown x y z = []

@@ -6,11 +6,12 @@ use crate::arithmetic::product_less;
 use crate::limits::POWERS;
 use number::Basis;
 use number::PLAN_LIMIT;
-use number::distance;
+use number::Parts;
 use number::split_degree;
 ghost use mathlib.Core.Path.{_≡_};
 ghost use mathlib.Core.Option.{some};
 ghost use Rattle.number.specs.Limits.{countLimit};
+ghost use Rattle.number.specs.Split.{splitOf};
 ghost use Rattle.walk.specs.Options.{when};
 ghost use Rattle.walk.specs.Make.{isMakeable, powerFrom, makeOf};
 ghost use Rattle.walk.specs.inside.Arithmetic.{rulesOf, Usable};
@@ -42,30 +43,31 @@ pub fn power_at(n: usize, powers: &[u64; POWERS], made: &[bool; POWERS]) -> Foun
 }
 
 // Whether power n may be made of a and b: it is at most 4,095, and they are its split.
-fn is_makeable(n: usize, a: usize, b: usize) -> bool
+fn is_makeable(n: usize, a: usize, b: usize, parts: Parts) -> bool
+    requires { ⌜ parts ≡ splitOf n ⌝ }
     ensures { λ r. ⌜ r ≡ isMakeable n a b ⌝ }
 {
     if PLAN_LIMIT < n {
         return false;
     }
-    let parts = split_degree(n);
     if a != parts.a {
         return false;
     }
     b == parts.b
 }
 
-// X_a·X_b, or 2·T_a·T_b - T_c.
+// X_a·X_b, or 2·T_a·T_b - T_c with c the distance.
 fn power_from(
     basis: Basis,
     a: usize,
     b: usize,
+    distance: usize,
     arithmetic: Arithmetic,
     powers: &[u64; POWERS],
     made: &[bool; POWERS],
 ) -> Found
     requires { ⌜ Usable arithmetic ⌝ }
-    ensures { λ r. ⌜ found r ≡ powerFrom (rulesOf arithmetic) basis (powersOf (now (powers .entry)) (now (made .entry))) a b ⌝ }
+    ensures { λ r. ⌜ found r ≡ powerFrom (rulesOf arithmetic) basis (powersOf (now (powers .entry)) (now (made .entry))) a b distance ⌝ }
 {
     let Found::Number(u) = power_at(a, powers, made) else {
         return Found::Missing;
@@ -76,7 +78,7 @@ fn power_from(
     match basis {
         Basis::Monomial => Found::Number(product(arithmetic, u, v)),
         Basis::Chebyshev => {
-            let Found::Number(w) = power_at(distance(a, b), powers, made) else {
+            let Found::Number(w) = power_at(distance, powers, made) else {
                 return Found::Missing;
             };
             Found::Number(product_less(arithmetic, u, v, w))
@@ -98,13 +100,14 @@ pub fn make_power(
     ensures { λ r. ⌜ when r (some (powersOf (now (powers .exit)) (now (made .exit))))
         ≡ makeOf (rulesOf arithmetic) basis (powersOf (now (powers .entry)) (now (made .entry))) n a b ⌝ }
 {
-    if !is_makeable(n, a, b) {
+    let parts = split_degree(n);
+    if !is_makeable(n, a, b, parts) {
         return false;
     }
     if let Found::Number(_) = power_at(n, powers, made) {
         return false;
     }
-    let Found::Number(v) = power_from(basis, a, b, arithmetic, powers, made) else {
+    let Found::Number(v) = power_from(basis, a, b, parts.distance, arithmetic, powers, made) else {
         return false;
     };
     powers[n] = v;

@@ -3,7 +3,7 @@
 use crate::chain::Head;
 use crate::chains::Lent;
 use crate::inputs::Rng;
-use crate::layouts::polynomial_evaluation::split_degree;
+use crate::split::parts;
 
 /// Plans at the limits of the walk: all powers with one list of about 4,096 places, and about 16 values waiting.
 pub fn limits() -> Vec<Lent> {
@@ -12,7 +12,7 @@ pub fn limits() -> Vec<Lent> {
         let mut powers = Lent::default();
         (powers.head.basis, powers.head.parity) = (basis, parity);
         for n in 2..=4_095 {
-            let (a, b) = split_degree(n);
+            let (a, b, _) = parts(n);
             powers.numbers.extend([1, n as u16, a as u16, b as u16]);
         }
         for length in [4_095, 4_096, 4_097, 4_098, 65_535] {
@@ -91,13 +91,9 @@ pub fn random(g: &mut Rng) -> Lent {
 /// Makes a power if its parts are there.
 fn make(g: &mut Rng, plan: &mut Lent, powers: &mut Vec<usize>, top: usize) {
     let n = 2 + g.below(top);
-    let (a, b) = split_degree(n);
-    let distance = if plan.head.basis == 1 {
-        a.abs_diff(b)
-    } else {
-        0
-    };
-    if !powers.contains(&n) && [a, b, distance].iter().all(|p| powers.contains(p)) {
+    let (a, b, distance) = parts(n);
+    let third = if plan.head.basis == 1 { distance } else { 0 };
+    if !powers.contains(&n) && [a, b, third].iter().all(|p| powers.contains(p)) {
         plan.numbers.extend([1, n as u16, a as u16, b as u16]);
         powers.push(n);
     }

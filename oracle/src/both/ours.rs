@@ -21,8 +21,8 @@ fn say(call: &Call, w: &mut Words) -> Result<(), Refusal> {
     let degree = call.degree;
     match call.name {
         SplitDegree => {
-            let (a, b) = lib::split_degree(degree)?;
-            w.numbers(&[a, b]);
+            let (a, b, distance) = lib::split_degree(degree)?;
+            w.numbers(&[a, b, distance]);
         }
         MinDepthSplit => w.number(lib::min_depth_split(degree)?),
         MinMultSplit => w.number(lib::min_mult_split(degree, parity, basis)?),

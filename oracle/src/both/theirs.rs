@@ -6,6 +6,7 @@ use super::call::*;
 use super::rules::{Refusal, refusal};
 use crate::calls::{Basis, Form, Parity, SplitStrategy, ask, bit_len};
 use crate::layouts::polynomial_evaluation as rust;
+use crate::split::parts;
 use crate::walked::{moved, slices};
 
 /// Its answer in words. If it refuses, and where only we do, the number is that of docs/RULES.md.
@@ -27,8 +28,9 @@ fn say(call: &Call, w: &mut Words) -> anyhow::Result<()> {
     let (degree, form) = (call.degree, call.form);
     match call.name {
         SplitDegree => {
-            let (a, b) = rust::split_degree(degree);
-            w.numbers(&[a, b]);
+            // Two numbers of the Rust, and their absolute difference, which it does not answer.
+            let (a, b, distance) = parts(degree);
+            w.numbers(&[a, b, distance]);
         }
         MinDepthSplit => w.number(rust::min_depth_split(bit_len(degree))),
         MinMultSplit => w.number(rust::min_mult_split(degree, parity, basis)),

@@ -11,7 +11,7 @@ use Rattle.algebra.specs.declared.Basis.the-variants.{Monomial, Chebyshev}
 use Rattle.algebra.specs.declared.Parity.{Parity}
 use Rattle.number.specs.Split.{partsOf}
 use Rattle.number.specs.Bits.{topPower}
-use Rattle.needed.specs.Needed.{partsDistance, babyLimit}
+use Rattle.needed.specs.Needed.{babyLimit}
 
 -- power n is marked
 abbrev pub Marked : List Bool → (n : ℕ) → Type 0
@@ -37,7 +37,7 @@ markAt n marks = cond (ltb 1 n) (set marks n true) marks
 -- in Chebyshev a mark at the distance of the parts of n
 unfoldable pub markApart : Basis → (n : ℕ) → List Bool → List Bool
 markApart Monomial n marks = marks
-markApart Chebyshev n marks = markAt (partsDistance n) marks
+markApart Chebyshev n marks = markAt (partsOf n .distance) marks
 
 -- and marks at the parts
 unfoldable pub markParts : Basis → (n : ℕ) → List Bool → List Bool

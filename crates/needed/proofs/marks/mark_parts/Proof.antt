@@ -6,7 +6,6 @@ use Prim.Native.Nat.{ℕ, _≤_}
 use native.Mathlib.Omega.{arith}
 use borrow.Author.Needs.{needs}
 use denote.Ref.{now}
-use Rattle.algebra.specs.Distance.{distanceOf}
 use Rattle.number.specs.Limits.{degreeLimit}
 use Rattle.number.specs.Split.{splitOf, partsOf}
 use Rattle.number.specs.declared.split.Parts.{Parts}
@@ -35,15 +34,11 @@ enum-told c = search needs
 enum-told-2 : tie.Need-enum-told-2
 enum-told-2 c = search needs
 
-distance-requires : tie.Need-distance-requires
-distance-requires c κs = search needs
-
 mark-requires : tie.Need-mark-requires
 mark-requires c κs =
-    let distance = c .before in
-    let split = distance .before .before .before in
+    let split = c .before .before .before in
     let parts = made (split .before .pre .0) (omega (arith, split .before .pre)) (split .split-degree .ensures) in
-    omega (arith, distance .distance .ensures, parts .two, split .before .pre)
+    omega (arith, parts .two, split .before .pre)
 
 mark-requires-2 : tie.Need-mark-requires-2
 mark-requires-2 c κs =
@@ -73,8 +68,7 @@ returns c =
     ⊎-elim
     (λ came. came .2 ∙ sym (apart-monomial n marks (came .1 .given .1)))
     (λ came.
-    came .5 ∙ came .4 .ensures ∙ ap (λ (x : ℕ). markAt x marks) (came .2 .ensures)
-    ∙ ap (λ (x : Parts). markAt (distanceOf (x .a) (x .b)) marks) parts-are
+    came .4 ∙ came .3 .ensures ∙ ap (λ (x : Parts). markAt (x .distance) marks) parts-are
     ∙ sym (apart-chebyshev n marks (came .1 .given .1)))
     (arms .match .came) in
     c .mark3 .ensures ∙ ap (markAt (parts .b)) (first .mark2 .ensures ∙ ap (markAt (parts .a)) apart-made)
@@ -87,7 +81,6 @@ mark-parts-spec =
     split-degree-requires
     enum-told
     enum-told-2
-    distance-requires
     mark-requires
     mark-requires-2
     mark-requires-3

@@ -34,7 +34,7 @@ returns : tie.Need-returns
 returns c = let a = c .before .before .before .args in
     let 𝓡 = rulesOf (a .arithmetic) in
     let powers = powersOf (now (a .powers)) (now (a .made)) in
-    no-first 𝓡 powers (a .a) (a .b) (a .basis) (sym (c .before .before .power-at .ensures .is) ∙ ap found (c .enum-told .given .1))
+    no-first 𝓡 powers (a .a) (a .b) (a .distance) (a .basis) (sym (c .before .before .power-at .ensures .is) ∙ ap found (c .enum-told .given .1))
 
 power-at-requires-2 : tie.Need-power-at-requires-2
 power-at-requires-2 c κs = search needs
@@ -53,7 +53,7 @@ returns-2 c =
     let a = entry .args in
     let 𝓡 = rulesOf (a .arithmetic) in
     let powers = powersOf (now (a .powers)) (now (a .made)) in
-    no-second 𝓡 powers (a .a) (a .b) (a .basis) _ (first at-known-told)
+    no-second 𝓡 powers (a .a) (a .b) (a .distance) (a .basis) _ (first at-known-told)
     (sym (at-power-at2 .power-at2 .ensures .is) ∙ ap found (c .enum-told2 .given .1))
 
 enum-told-3 : tie.Need-enum-told-3
@@ -64,9 +64,6 @@ product-requires c κs = search needs
 
 enum-told-4 : tie.Need-enum-told-4
 enum-told-4 c = search needs
-
-distance-requires : tie.Need-distance-requires
-distance-requires c κs = search needs
 
 power-at-requires-3 : tie.Need-power-at-requires-3
 power-at-requires-3 c κs = search needs
@@ -80,17 +77,16 @@ enum-told-5 c = search needs
 returns-3 : tie.Need-returns-3
 returns-3 c =
     let at-power-at3 = c .before .before in
-    let at-distance = at-power-at3 .before in
-    let at-enum-told4 = at-distance .before in
+    let at-enum-told4 = at-power-at3 .before in
     let at-known-told2 = at-enum-told4 .before .before in
     let at-known-told = at-known-told2 .before .before .before .before in
     let entry = at-known-told .before .before .before .before in
     let a = entry .args in
     let 𝓡 = rulesOf (a .arithmetic) in
     let powers = powersOf (now (a .powers)) (now (a .made)) in
-    no-third 𝓡 powers (a .a) (a .b) _ _ (first at-known-told) (second at-known-told2)
-    (ap powers (sym (at-distance .distance .ensures)) ∙ sym (at-power-at3 .power-at3 .ensures .is) ∙ ap found (c .enum-told5 .given .1))
-    ∙ ap (λ (basis : Basis). powerFrom 𝓡 basis powers (a .a) (a .b)) (sym (at-enum-told4 .enum-told4 .given .1))
+    no-third 𝓡 powers (a .a) (a .b) (a .distance) _ _ (first at-known-told) (second at-known-told2)
+    (sym (at-power-at3 .power-at3 .ensures .is) ∙ ap found (c .enum-told5 .given .1))
+    ∙ ap (λ (basis : Basis). powerFrom 𝓡 basis powers (a .a) (a .b) (a .distance)) (sym (at-enum-told4 .enum-told4 .given .1))
 
 product-less-requires : tie.Need-product-less-requires
 product-less-requires c κs = search needs
@@ -105,15 +101,14 @@ returns-4 c =
     let 𝓡 = rulesOf (a .arithmetic) in
     let powers = powersOf (now (a .powers)) (now (a .made)) in
     ap some (c .product .ensures)
-    ∙ monomial-product 𝓡 powers (a .a) (a .b) _ _ (first at-known-told) (second at-known-told2)
-    ∙ ap (λ (basis : Basis). powerFrom 𝓡 basis powers (a .a) (a .b)) (sym (at-enum-told3 .enum-told3 .given .1))
+    ∙ monomial-product 𝓡 powers (a .a) (a .b) (a .distance) _ _ (first at-known-told) (second at-known-told2)
+    ∙ ap (λ (basis : Basis). powerFrom 𝓡 basis powers (a .a) (a .b) (a .distance)) (sym (at-enum-told3 .enum-told3 .given .1))
 
 returns-5 : tie.Need-returns-5
 returns-5 c =
     let at-w = c .before .before in
     let at-power-at3 = at-w .before .before in
-    let at-distance = at-power-at3 .before in
-    let at-enum-told4 = at-distance .before in
+    let at-enum-told4 = at-power-at3 .before in
     let at-known-told2 = at-enum-told4 .before .before in
     let at-known-told = at-known-told2 .before .before .before .before in
     let entry = at-known-told .before .before .before .before in
@@ -121,9 +116,9 @@ returns-5 c =
     let 𝓡 = rulesOf (a .arithmetic) in
     let powers = powersOf (now (a .powers)) (now (a .made)) in
     ap some (c .product-less .ensures)
-    ∙ chebyshev-product 𝓡 powers (a .a) (a .b) _ _ _ (first at-known-told) (second at-known-told2)
-    (ap powers (sym (at-distance .distance .ensures)) ∙ sym (at-power-at3 .power-at3 .ensures .is) ∙ ap found (at-w .w .given .1))
-    ∙ ap (λ (basis : Basis). powerFrom 𝓡 basis powers (a .a) (a .b)) (sym (at-enum-told4 .enum-told4 .given .1))
+    ∙ chebyshev-product 𝓡 powers (a .a) (a .b) (a .distance) _ _ _ (first at-known-told) (second at-known-told2)
+    (sym (at-power-at3 .power-at3 .ensures .is) ∙ ap found (at-w .w .given .1))
+    ∙ ap (λ (basis : Basis). powerFrom 𝓡 basis powers (a .a) (a .b) (a .distance)) (sym (at-enum-told4 .enum-told4 .given .1))
 
 pub power-from-spec : {M : Type 1} → statement M
 power-from-spec =
@@ -140,7 +135,6 @@ power-from-spec =
     enum-told-3
     product-requires
     enum-told-4
-    distance-requires
     power-at-requires-3
     enum-known-w
     enum-told-5
