@@ -35,7 +35,7 @@ fn splits() {
 #[test]
 fn chebyshev_powers_by_the_split() {
     const PRIME: i64 = 1_000_003;
-    let x = 12_345;
+    let x: i64 = 12_345;
     let mut powers = vec![1, x];
     for n in 2..=4_095 {
         let (a, b, distance) = split_degree(n).expect("an index");
