@@ -232,7 +232,8 @@ pub(crate) fn part<'a, F>(coefficients: &'a [F], boundaries: &[u16], i: usize) -
 /// ```
 #[derive(Clone, Copy, Debug, PartialEq, Eq, Hash)]
 pub enum Step {
-    /// Makes power n: X_a · X_b, and in the Chebyshev basis 2 · T_a · T_b − T_c with c = |a − b|.
+    /// Makes power n: X_a · X_b, and in the Chebyshev basis 2 · T_a · T_b − T_c with c = |a − b|, the third number of
+    /// [`split_degree`](crate::split_degree).
     Power {
         /// The power that is made.
         n: u16,

@@ -2,7 +2,7 @@
 -- Rust's. Split choice, counts, factorisation, folding, Horner and Clenshaw are also proved equal to definitions written from their published rules."
 -- The first sentence compares with a program that is not in this language: the replay programs hold the public calls to its recorded answers, bit
 -- by bit, and a call on whole numbers is compared through the f64 call on the same coefficients, to which it is proved equal below. Each call is
--- held by its contract to one definition, one NaN standing for all:
+-- held by its contract to one definition, one NaN standing for all; of `split_degree` the first two numbers are compared, since the Rust has no third:
 --   split_degree                            splitOf                 number/specs/Split
 --   min_depth_split, min_mult_split         minDepthCall, minMultCall
 --   bsgs_op_counts                          countsCall
