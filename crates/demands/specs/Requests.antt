@@ -76,8 +76,9 @@ pub record SplitWithDistance : Type 1 where
   pub third-is-distance : ThirdIsDistance
   pub parts-differ : PartsDiffer
   pub refused-zero : RefusedZero
-  -- "All who need the distance use this number." The needed powers (`Part`, needed/specs/Needed) and the walk (`powerFrom`, walk/specs/Make; `partsUsed`,
-  -- walk/specs/Uses) are defined by it; the plan and the heaviest chain are by these. They need it for the product that makes power n:
+  -- "All who need the distance use this number." By it are defined the needed powers (`Part`, needed/specs/Needed), and so the plan; the making of a power
+  -- (`makeOf`, walk/specs/Make), and so the walk and the heaviest chain; the powers that a step uses (`usesBy`, walk/specs/Uses). It is what the product
+  -- that makes power n wants:
   pub split-product : {A : Type 0} (𝓡 : Ring A) → SplitProduct 𝓡
 
 pub record Requests : Type 1 where

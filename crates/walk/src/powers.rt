@@ -42,7 +42,7 @@ pub fn power_at(n: usize, powers: &[u64; POWERS], made: &[bool; POWERS]) -> Foun
     Found::Missing
 }
 
-// Whether power n may be made of a and b: it is at most 4,095, and they are its split.
+// Whether power n may be made of a and b: it is at most 4,095, and they are the parts of its split, which is handed in.
 fn is_makeable(n: usize, a: usize, b: usize, parts: Parts) -> bool
     requires { ⌜ parts ≡ splitOf n ⌝ }
     ensures { λ r. ⌜ r ≡ isMakeable n a b ⌝ }
