@@ -21,6 +21,10 @@ first-holds ((false, k) ∷ tests) numbered some = later (first-holds tests (num
 pub refusals-say : RefusalsSay
 refusals-say tests numbered = record { accepted = none-holds tests numbered; refused = first-holds tests numbered }
 
+pub numbered-append : (tests more : List Test) → Numbered tests → Numbered more → Numbered (tests ++ more)
+numbered-append [] more first second = second
+numbered-append (test ∷ tests) more first second = (first .0, numbered-append tests more (first .1) second)
+
 -- a refusal is the same whatever tests follow
 pub first-kept : (tests more : List Test) → 0 < firstRefusal tests → firstRefusal (tests ++ more) ≡ firstRefusal tests
 first-kept [] more some = absurd (omega arith)

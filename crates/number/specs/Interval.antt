@@ -1,5 +1,7 @@
 -- The interval from a to b with its change pair: the coefficients are expressed in y = u·x + w.
-use lib.Ieee.{Float, binary64, div}
+use mathlib.Core.Path.{_≡_}
+use mathlib.Core.Bool.{true}
+use lib.Ieee.{Float, binary64, div, lt}
 use Rattle.algebra.specs.Operations.{two}
 use Rattle.algebra.specs.declared.Basis.{Basis}
 use Rattle.algebra.specs.declared.Basis.the-variants.{Monomial, Chebyshev}
@@ -12,6 +14,10 @@ changeOfBasis Monomial a b = record { a = a; b = b; u = floatOps .one; w = float
 changeOfBasis Chebyshev a b =
     let span = floatOps .sub b a in
     record { a = a; b = b; u = div binary64 (two floatOps) span; w = div binary64 (floatOps .neg (floatOps .add a b)) span }
+
+-- the lower bound is below the upper one, so that neither is a NaN
+abbrev pub Ordered : (a b : Float) → Type 0
+Ordered a b = lt a b ≡ true
 
 -- what a refusal has in place of an interval: +0 in every field
 abbrev pub noInterval : Interval

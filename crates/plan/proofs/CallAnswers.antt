@@ -1,31 +1,35 @@
--- The plan call over plain values: a refusal of the input or of the buffers leaves all as it was; past the tests the head is that of the planned degree,
--- and the buffers can be filled.
+-- The plan call over plain values: a refusal of the polynomial, of the interval or of the buffers leaves all as it was; past the tests the head is that
+-- of the planned degree on its interval, and the buffers can be filled.
 use mathlib.Core.Path.{_≡_, ap, sym, subst, _∙_}
 use mathlib.Core.Bool.{Bool, true, false}
 use mathlib.Core.List.{List}
 use Prim.Native.Nat.{ℕ, suc, _-_, _*_, _≤_, _<_}
 use native.Mathlib.Omega.{arith}
+use lib.Ieee.{Float, lt}
 use lib.IntN.{ℤ}
 use lib.ListN.{length}
 use Rattle.algebra.specs.Fold.{foldedLength}
 use Rattle.algebra.specs.declared.Basis.{Basis}
 use Rattle.algebra.specs.declared.Parity.{Parity}
+use Rattle.number.specs.Interval.{changeOfBasis, Ordered}
 use Rattle.number.specs.Limits.{planLimit}
 use Rattle.number.specs.Refusal.{firstRefusal}
 use Rattle.number.specs.Tests.{degreeOf}
+use Rattle.number.specs.declared.interval.Interval.{Interval}
 use Rattle.number.specs.inside.Between.{Between}
 use Rattle.number.proofs.Refusal.{first-kept, first-of-more, when-refused, when-accepted}
 use Rattle.counts.specs.declared.choice.SplitStrategy.{SplitStrategy}
 use Rattle.walk.specs.declared.plan.Head.{Head}
 use Rattle.plan.specs.PlanHead.{headOf, noHead}
-use Rattle.plan.specs.PlanCall.{plannedParity, plannedTransform, inputTests, Accepted, bufferTests, headFor, planRefusal}
+use Rattle.plan.specs.PlanCall.{plannedParity, plannedTransform, inputTests, Accepted, earlyTests, bufferTests, headFor, planRefusal}
 use Rattle.plan.specs.PlanCall.{planAnswer, planCoefficients, planBoundaries, planNumbers, PlanCall}
 use Rattle.plan.specs.PlanSizes.{degreeToPlan, sizesIn}
 use Rattle.plan.specs.inside.Outlines.{outlineFor}
 use Rattle.plan.specs.inside.Filling.{plannedCount, bufferRefusal, PlanFits, PlanPut}
 use Rattle.plan.specs.declared.call.Planned.{Planned}
 use Rattle.plan.specs.declared.outline.Outline.{Outline}
-use Rattle.plan.proofs.PlanTests.{inputs-numbered, passed, planned-length, degree-range, degree-planned, count-planned, buffers-fit}
+use Rattle.plan.proofs.PlanTests.{passed, planned-length, degree-range, degree-planned, count-planned, early-numbered, early-kept}
+use Rattle.plan.proofs.PlanTests.{early-unordered, early-passed, buffers-fit}
 
 -- ---- the outline
 
@@ -52,15 +56,21 @@ module _ (strategy : SplitStrategy) (parity : Parity) (basis : Basis) (folded : 
 
 -- ---- the call
 
-module _ (strategy : SplitStrategy) (parity : Parity) (basis : Basis) (folded : Bool) (c out : List ℤ) (bounds steps : List ℕ) where
+module _ (strategy : SplitStrategy) (parity : Parity) (basis : Basis) (folded : Bool) (c : List ℤ) (a b : Float) (out : List ℤ)
+    (bounds steps : List ℕ) where
   abbrev refusal : ℕ
-  refusal = planRefusal strategy parity basis folded c out bounds steps
+  refusal = planRefusal strategy parity basis folded c a b out bounds steps
 
   abbrev head : Head
-  head = headFor strategy parity basis folded c
+  head = headFor strategy parity basis folded c a b
+
+  -- the tests ahead of 21 decide where one of them holds
+  early : 0 < firstRefusal (earlyTests folded parity c a b) → refusal ≡ firstRefusal (earlyTests folded parity c a b)
+  unfolding planRefusal
+  early positive = first-kept (earlyTests folded parity c a b) _ positive
 
   refuses : {k : ℕ} {r : Planned} → refusal ≡ k → 0 < k → r ≡ record { refusal = k; head = noHead }
-      → PlanCall strategy parity basis folded c out bounds steps r out bounds steps
+      → PlanCall strategy parity basis folded c a b out bounds steps r out bounds steps
   unfolding planAnswer planCoefficients planBoundaries planNumbers
   refuses {k} {r} is positive r-is =
       let held : 0 < refusal = omega arith in
@@ -71,24 +81,33 @@ module _ (strategy : SplitStrategy) (parity : Parity) (basis : Basis) (folded : 
         numbers = when-refused refusal _ steps held;
       }
 
-  -- a test of the input holds
+  -- a test of the polynomial holds
   pub refused-input : {k : ℕ} {r : Planned} → k ≡ firstRefusal (inputTests folded parity c) → 0 < k → r ≡ record { refusal = k; head = noHead }
-      → PlanCall strategy parity basis folded c out bounds steps r out bounds steps
-  unfolding planRefusal
-  refused-input k-is positive r-is = refuses (first-kept (inputTests folded parity c) _ (omega arith) ∙ sym k-is) positive r-is
+      → PlanCall strategy parity basis folded c a b out bounds steps r out bounds steps
+  refused-input k-is positive r-is =
+      let kept = early-kept folded parity c a b (omega arith) in
+      refuses (early (omega arith) ∙ kept ∙ sym k-is) positive r-is
 
-  module _ (accepted : Accepted folded parity c) where
+  -- the polynomial is accepted, and a < b does not hold
+  pub refused-interval : {r : Planned} → Accepted folded parity c → lt a b ≡ false → r ≡ record { refusal = 7; head = noHead }
+      → PlanCall strategy parity basis folded c a b out bounds steps r out bounds steps
+  refused-interval accepted unordered r-is =
+      let seven = early-unordered folded parity c a b accepted unordered in
+      refuses (early (omega arith) ∙ seven) (omega arith) r-is
+
+  module _ (accepted : Accepted folded parity c) (ordered : Ordered a b) where
     -- then those of the buffers decide
     late : refusal ≡ bufferRefusal head (length out) (length bounds) (length steps)
     unfolding planRefusal bufferRefusal
     late =
         let later = bufferTests (head .coefficients) (head .lists) (head .steps) (length out) (length bounds) (length steps) in
-        first-of-more (inputTests folded parity c) later (inputs-numbered folded parity c) accepted
+        first-of-more (earlyTests folded parity c a b) later (early-numbered folded parity c a b) (early-passed folded parity c a b accepted ordered)
 
-    module _ {count : ℕ} {h : Head} (count-is : count ≡ plannedCount folded parity (length c))
-        (h-is : h ≡ headOf strategy (plannedParity folded parity) basis (plannedTransform folded parity basis) (count - 1)) where
+    module _ {count : ℕ} {interval : Interval} {h : Head} (count-is : count ≡ plannedCount folded parity (length c))
+        (interval-is : interval ≡ changeOfBasis basis a b)
+        (h-is : h ≡ headOf strategy (plannedParity folded parity) basis (plannedTransform folded parity basis) interval (count - 1)) where
       head-same : h ≡ head
-      head-same = h-is ∙ rw (count-is ∙ sym (planned-length folded parity basis c))
+      head-same = h-is ∙ rw (interval-is, count-is ∙ sym (planned-length folded parity basis c))
 
       module _ {k : ℕ} (k-is : k ≡ bufferRefusal h (length out) (length bounds) (length steps)) where
         refusal-is : refusal ≡ k
@@ -99,7 +118,7 @@ module _ (strategy : SplitStrategy) (parity : Parity) (basis : Basis) (folded : 
 
         -- a test of the buffers holds
         pub refused-buffers : {r : Planned} → 0 < k → r ≡ record { refusal = k; head = noHead }
-            → PlanCall strategy parity basis folded c out bounds steps r out bounds steps
+            → PlanCall strategy parity basis folded c a b out bounds steps r out bounds steps
         refused-buffers positive r-is = refuses refusal-is positive r-is
 
         -- no test holds
@@ -140,7 +159,7 @@ module _ (strategy : SplitStrategy) (parity : Parity) (basis : Basis) (folded : 
                   omega arith
 
           pub planned-call : {out′ : List ℤ} {bounds′ steps′ : List ℕ} → PlanPut strategy parity basis folded c out bounds steps out′ bounds′ steps′
-              → PlanCall strategy parity basis folded c out bounds steps (record { refusal = 0; head = h }) out′ bounds′ steps′
+              → PlanCall strategy parity basis folded c a b out bounds steps (record { refusal = 0; head = h }) out′ bounds′ steps′
           unfolding planAnswer planCoefficients planBoundaries planNumbers
           planned-call put =
               let passes : refusal ≡ 0 = refusal-is ∙ none in

@@ -12,6 +12,7 @@ use Rattle.algebra.specs.declared.Parity.{Parity}
 use Rattle.algebra.specs.declared.PolynomialInputTransform.{PolynomialInputTransform}
 use Rattle.algebra.specs.declared.PolynomialInputTransform.the-variants.{Identity, Square, SquareTimesInput, ChebyshevT2, ChebyshevT2TimesInput}
 use Rattle.number.specs.Limits.{planLimit, countLimit}
+use Rattle.number.specs.declared.interval.Interval.{Interval}
 use Rattle.number.specs.inside.Between.{Between}
 use Rattle.needed.specs.NeededList.{neededCount}
 use Rattle.needed.specs.inside.Planned.{Planned}
@@ -111,10 +112,10 @@ step-count strategy parity basis degree =
     omega (arith, counted .steps)
 
 -- those of a degree are in its head
-pub head-sizes : (strategy : SplitStrategy) (parity : Parity) (basis : Basis) (transform : PolynomialInputTransform) (degree : ℕ)
-    → sizesIn (headOf strategy parity basis transform degree) ≡ sizesOf strategy parity basis degree
+pub head-sizes : (strategy : SplitStrategy) (parity : Parity) (basis : Basis) (transform : PolynomialInputTransform) (interval : Interval) (degree : ℕ)
+    → sizesIn (headOf strategy parity basis transform interval degree) ≡ sizesOf strategy parity basis degree
 unfolding headOf sizesOf
-head-sizes strategy parity basis transform degree = rw (step-count strategy parity basis degree)
+head-sizes strategy parity basis transform interval degree = rw (step-count strategy parity basis degree)
 
 -- ---- the head
 
@@ -137,8 +138,8 @@ cost-most SquareTimesInput = omega arith
 cost-most ChebyshevT2 = omega arith
 cost-most ChebyshevT2TimesInput = omega arith
 
-module _ (strategy : SplitStrategy) (parity : Parity) (basis : Basis) (transform : PolynomialInputTransform) (degree : ℕ) {outline : Outline}
-    {four cost depth base : ℕ} (range : Between 1 degree planLimit) (outline-for : outline ≡ outlineFor strategy parity basis degree)
+module _ (strategy : SplitStrategy) (parity : Parity) (basis : Basis) (transform : PolynomialInputTransform) (interval : Interval) (degree : ℕ)
+    {outline : Outline} {four cost depth base : ℕ} (range : Between 1 degree planLimit) (outline-for : outline ≡ outlineFor strategy parity basis degree)
     (four-is : four ≡ cond (outline .plain && leb 2 (outline .lists)) 1 0) (cost-is : cost ≡ transformCost transform)
     (depth-is : depth ≡ depthOf strategy degree) (base-is : base ≡ 2 ^ outline .split) where
   pub head-is : record {
@@ -154,8 +155,9 @@ module _ (strategy : SplitStrategy) (parity : Parity) (basis : Basis) (transform
     coefficients = outline .coefficients;
     lists = outline .lists;
     steps = outline .steps;
+    interval = interval;
   }
-      ≡ headOf strategy parity basis transform degree
+      ≡ headOf strategy parity basis transform interval degree
   unfolding headOf reported
   head-is =
       let split = splitFor strategy parity basis degree in

@@ -1,12 +1,13 @@
--- The tests of the plan call: of degree and settings, of the coefficients, of the buffers, and what holds where none of them does; the degree that is
--- planned is then within the limits.
-use mathlib.Core.Path.{_≡_, refl, sym, _∙_}
-use mathlib.Core.Bool.{Bool, true, false, cond, true≢false, false≢true}
-use mathlib.Core.List.{List}
+-- The tests of the plan call: of degree and settings, of the coefficients, of the interval, of the buffers, and what holds where none of them does;
+-- the degree that is planned is then within the limits.
+use mathlib.Core.Path.{_≡_, refl, sym, ap, _∙_}
+use mathlib.Core.Bool.{Bool, true, false, not, cond, true≢false, false≢true}
+use mathlib.Core.List.{List, [], _∷_}
 use Prim.Native.Nat.{ℕ, suc, _-_, _*_, _/_, _≤_, _<_}
 use native.Mathlib.Omega.{arith}
 use borrow.Author.Tests.{lt-ltb, le-ltb, ltb-false, leb-true, eqb-false, not-false}
 use lib.Dec.{ltb, eqb}
+use lib.Ieee.{Float, lt}
 use lib.IntN.{ℤ}
 use lib.ListN.{length}
 use Rattle.algebra.specs.Operations.{wholeOps}
@@ -16,16 +17,17 @@ use Rattle.algebra.specs.declared.Basis.{Basis}
 use Rattle.algebra.specs.declared.Parity.{Parity}
 use Rattle.algebra.specs.declared.Parity.the-variants.{Full, Even, Odd}
 use Rattle.algebra.proofs.FoldPlaces.{fold-length}
+use Rattle.number.specs.Interval.{Ordered}
 use Rattle.number.specs.Limits.{planLimit, sumLimit}
 use Rattle.number.specs.Numbers.{wholeNumbers}
 use Rattle.number.specs.Refusal.{Test, Numbered, firstRefusal}
-use Rattle.number.specs.Tests.{degreeOf, isFull, leastFolded}
+use Rattle.number.specs.Tests.{degreeOf, isFull, leastFolded, unordered}
 use Rattle.number.specs.inside.Between.{Between}
 use Rattle.number.specs.inside.Room.{SumByLengthTo53}
-use Rattle.number.proofs.Refusal.{NumbersTo, none-holds, first-of-more, first-passed}
+use Rattle.number.proofs.Refusal.{NumbersTo, none-holds, numbered-append, first-kept, first-of-more, first-passed}
 use Rattle.lists.proofs.SumByLength.{sum-by-length-start}
 use Rattle.lists.proofs.Bounds.{fold-sum-by-length}
-use Rattle.plan.specs.PlanCall.{plannedCoefficients, settingsTests, coefficientTests, inputTests, Accepted, bufferTests}
+use Rattle.plan.specs.PlanCall.{plannedCoefficients, settingsTests, coefficientTests, inputTests, Accepted, earlyTests, bufferTests}
 use Rattle.plan.specs.PlanSizes.{degreeToPlan, HasSizes}
 use Rattle.plan.specs.inside.Filling.{plannedCount}
 use Rattle.plan.specs.declared.sizes.PlanSizes.{PlanSizes}
@@ -145,6 +147,27 @@ module _ (folded : Bool) (parity : Parity) (c : List ℤ) where
   count-planned accepted count-is =
       let range = degree-range folded parity (degreeOf c) (passed accepted .settings) in
       omega (arith, degree-planned folded parity (length c), range .from)
+
+-- ---- the interval
+
+module _ (folded : Bool) (parity : Parity) (c : List ℤ) (a b : Float) where
+  pub early-numbered : Numbered (earlyTests folded parity c a b)
+  early-numbered = numbered-append (inputTests folded parity c) (unordered a b ∷ []) (inputs-numbered folded parity c) (omega arith, tt)
+
+  -- a refusal of the polynomial stays
+  pub early-kept : 0 < firstRefusal (inputTests folded parity c)
+      → firstRefusal (earlyTests folded parity c a b) ≡ firstRefusal (inputTests folded parity c)
+  early-kept positive = first-kept (inputTests folded parity c) (unordered a b ∷ []) positive
+
+  -- of an accepted one the interval decides
+  interval-decides : Accepted folded parity c → firstRefusal (earlyTests folded parity c a b) ≡ cond (not (lt a b)) 7 0
+  interval-decides accepted = first-of-more (inputTests folded parity c) (unordered a b ∷ []) (inputs-numbered folded parity c) accepted
+
+  pub early-unordered : Accepted folded parity c → lt a b ≡ false → firstRefusal (earlyTests folded parity c a b) ≡ 7
+  early-unordered accepted unordered-is = interval-decides accepted ∙ ap (λ (test : Bool). cond (not test) 7 0) unordered-is
+
+  pub early-passed : Accepted folded parity c → Ordered a b → firstRefusal (earlyTests folded parity c a b) ≡ 0
+  early-passed accepted ordered = interval-decides accepted ∙ ap (λ (test : Bool). cond (not test) 7 0) ordered
 
 -- ---- the buffers
 

@@ -4,6 +4,7 @@ use mathlib.Core.Path.{_≡_}
 use mathlib.Core.Bool.{Bool, true, false}
 use mathlib.Core.List.{List, [], _∷_, _++_}
 use Prim.Native.Nat.{ℕ}
+use lib.Ieee.{Float}
 use lib.IntN.{ℤ}
 use lib.ListN.{length}
 use lib.Seq.{sets}
@@ -15,10 +16,11 @@ use Rattle.algebra.specs.declared.Parity.{Parity}
 use Rattle.algebra.specs.declared.Parity.the-variants.{Full}
 use Rattle.algebra.specs.declared.PolynomialInputTransform.{PolynomialInputTransform}
 use Rattle.algebra.specs.declared.PolynomialInputTransform.the-variants.{Identity}
+use Rattle.number.specs.Interval.{changeOfBasis}
 use Rattle.number.specs.Limits.{planLimit}
 use Rattle.number.specs.Numbers.{wholeNumbers}
 use Rattle.number.specs.Refusal.{Test, firstRefusal, unlessRefused}
-use Rattle.number.specs.Tests.{degreeOf, tooHigh, noDegree, fullParity, tooLow, wrongParity, tooLarge, noRoom, noBoundaries, noSteps}
+use Rattle.number.specs.Tests.{degreeOf, tooHigh, noDegree, fullParity, tooLow, wrongParity, tooLarge, unordered, noRoom, noBoundaries, noSteps}
 use Rattle.counts.specs.declared.choice.SplitStrategy.{SplitStrategy}
 use Rattle.lists.specs.Tree.{Tree, planTree}
 use Rattle.lists.specs.Arrange.{arranged, endsOf}
@@ -65,6 +67,10 @@ inputTests folded parity c = settingsTests folded parity (degreeOf c) ++ coeffic
 abbrev pub Accepted : (folded : Bool) → Parity → List ℤ → Type 0
 Accepted folded parity c = firstRefusal (inputTests folded parity c) ≡ 0
 
+-- behind them 7, which the interval decides
+abbrev pub earlyTests : (folded : Bool) → Parity → List ℤ → (a b : Float) → List Test
+earlyTests folded parity c a b = inputTests folded parity c ++ (unordered a b ∷ [])
+
 -- ---- the tests from 21 on
 
 -- 21, 22, 23: buffers of so many places, for so many coefficients, lists and steps
@@ -85,10 +91,7 @@ module _ (strategy : SplitStrategy) (parity : Parity) (basis : Basis) (folded : 
   abbrev pub tree : Tree
   tree = planTree strategy (plannedParity folded parity) basis plannedDegree
 
-  -- what is planned: the head, the lists one after another, their boundaries, the numbers of the steps
-  abbrev pub headFor : Head
-  headFor = headOf strategy (plannedParity folded parity) basis (plannedTransform folded parity basis) plannedDegree
-
+  -- what is planned: the lists one after another, their boundaries, the numbers of the steps
   abbrev pub coefficientsFor : List ℤ
   coefficientsFor = arranged wholeOps basis tree planned
 
@@ -98,12 +101,16 @@ module _ (strategy : SplitStrategy) (parity : Parity) (basis : Basis) (folded : 
   abbrev pub numbersFor : List ℕ
   numbersFor = flat (planSteps strategy (plannedParity folded parity) basis plannedDegree)
 
-  module _ (out : List ℤ) (bounds steps : List ℕ) where
-    -- the tests of the input, then 21, 22, 23
+  -- and on the interval from a to b the head, which has it with its change pair, folded or not
+  abbrev pub headFor : (a b : Float) → Head
+  headFor a b = headOf strategy (plannedParity folded parity) basis (plannedTransform folded parity basis) (changeOfBasis basis a b) plannedDegree
+
+  module _ (a b : Float) (out : List ℤ) (bounds steps : List ℕ) where
+    -- the tests of polynomial and interval, then 21, 22, 23
     abbrev pub planTests : List Test
     planTests =
-        inputTests folded parity c
-        ++ bufferTests (headFor .coefficients) (headFor .lists) (headFor .steps) (length out) (length bounds) (length steps)
+        earlyTests folded parity c a b
+        ++ bufferTests (headFor a b .coefficients) (headFor a b .lists) (headFor a b .steps) (length out) (length bounds) (length steps)
 
     unfoldable pub planRefusal : ℕ
     planRefusal = firstRefusal planTests
@@ -111,7 +118,7 @@ module _ (strategy : SplitStrategy) (parity : Parity) (basis : Basis) (folded : 
     -- the answer
     unfoldable pub planAnswer : Planned
     planAnswer =
-        unlessRefused planRefusal (record { refusal = 0; head = headFor }) (record { refusal = planRefusal; head = noHead })
+        unlessRefused planRefusal (record { refusal = 0; head = headFor a b }) (record { refusal = planRefusal; head = noHead })
 
     -- the buffers: what is planned in their first places, and the places beyond unchanged; after a refusal all of them unchanged
     unfoldable pub planCoefficients : List ℤ

@@ -7,6 +7,8 @@ use Rattle.algebra.specs.declared.Parity.{Parity}
 use Rattle.algebra.specs.declared.Parity.the-variants.{Full}
 use Rattle.algebra.specs.declared.PolynomialInputTransform.{PolynomialInputTransform}
 use Rattle.algebra.specs.declared.PolynomialInputTransform.the-variants.{Identity}
+use Rattle.number.specs.Interval.{noInterval}
+use Rattle.number.specs.declared.interval.Interval.{Interval}
 use Rattle.counts.specs.Choice.{splitFor}
 use Rattle.counts.specs.Depth.{depthOf}
 use Rattle.counts.specs.declared.pair.Pair.{Pair}
@@ -23,9 +25,9 @@ abbrev pub planCounts : SplitStrategy → Parity → Basis → PolynomialInputTr
 planCounts strategy parity basis transform degree =
     reported parity transform (lengthsOf (planTree strategy parity basis degree) (suc degree)) (planSteps strategy parity basis degree)
 
--- the head of a degree, behind a transform
-unfoldable pub headOf : SplitStrategy → Parity → Basis → PolynomialInputTransform → (degree : ℕ) → Head
-headOf strategy parity basis transform degree = record {
+-- the head of a degree, behind a transform, on an interval
+unfoldable pub headOf : SplitStrategy → Parity → Basis → PolynomialInputTransform → Interval → (degree : ℕ) → Head
+headOf strategy parity basis transform interval degree = record {
   basis = basis;
   parity = parity;
   strategy = strategy;
@@ -38,6 +40,7 @@ headOf strategy parity basis transform degree = record {
   coefficients = suc degree;
   lists = leavesOf (planTree strategy parity basis degree);
   steps = length (planSteps strategy parity basis degree);
+  interval = interval;
 }
 
 -- after a refusal everything is zero, and an enum has its first value
@@ -55,4 +58,5 @@ noHead = record {
   coefficients = 0;
   lists = 0;
   steps = 0;
+  interval = noInterval;
 }

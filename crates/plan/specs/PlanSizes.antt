@@ -1,7 +1,9 @@
 -- The sizes of a plan before its curve is there (docs/RULES.md, "The sizes of a plan"): degree and settings alone decide how many coefficients, lists
 -- and steps it has, and so how long its buffers must be.
 use mathlib.Core.Bool.{Bool, true, false}
+use mathlib.Core.List.{List}
 use Prim.Native.Nat.{ℕ, suc, _+_, _-_, _*_, _/_, _≤_}
+use lib.IntN.{ℤ}
 use Rattle.algebra.specs.declared.Basis.{Basis}
 use Rattle.algebra.specs.declared.Parity.{Parity}
 use Rattle.algebra.specs.declared.Parity.the-variants.{Full, Even, Odd}
@@ -12,7 +14,7 @@ use Rattle.counts.specs.declared.choice.SplitStrategy.{SplitStrategy}
 use Rattle.lists.specs.Tree.{planTree}
 use Rattle.lists.specs.Arrange.{leavesOf}
 use Rattle.walk.specs.declared.plan.Head.{Head}
-use Rattle.plan.specs.PlanCall.{plannedParity, settingsTests}
+use Rattle.plan.specs.PlanCall.{plannedParity, settingsTests, plannedDegree}
 use Rattle.plan.specs.declared.sizes.PlanSizes.{PlanSizes}
 
 -- ---- the degree that is planned
@@ -42,6 +44,10 @@ sizesOf strategy parity basis degree = record {
   lists = leavesOf (planTree strategy parity basis degree);
   steps = stepCount (neededCount parity basis degree (splitFor strategy parity basis degree)) (leavesOf (planTree strategy parity basis degree));
 }
+
+-- those of the plan of a polynomial
+abbrev pub sizesFor : SplitStrategy → Parity → Basis → (folded : Bool) → List ℤ → PlanSizes
+sizesFor strategy parity basis folded c = sizesOf strategy (plannedParity folded parity) basis (plannedDegree strategy parity basis folded c)
 
 -- those that a head tells
 abbrev pub sizesIn : Head → PlanSizes

@@ -7,6 +7,7 @@ use super::write::fill;
 use counts::SplitStrategy;
 use number::Basis;
 use number::Parity;
+use number::change_of_basis;
 use number::degree_of;
 use walk::Head;
 ghost use mathlib.Core.Path.{_≡_};
@@ -41,28 +42,34 @@ fn refused(refusal: u8) -> Planned
     Planned { refusal, head }
 }
 
-// Plans whole coefficients: the lists one after another in `out`, in `bounds` the place just past each, and in `steps` four numbers a step.
-// Every test is made before the first write.
+// Plans whole coefficients on the interval from a to b: the lists one after another in `out`, in `bounds` the place just past each, and in `steps`
+// four numbers a step. Every test is made before the first write.
 pub fn plan(
     strategy: SplitStrategy,
     parity: Parity,
     basis: Basis,
     fold: bool,
     c: &[i64],
+    a: f64,
+    b: f64,
     out: &mut [i64],
     bounds: &mut [u16],
     steps: &mut [u16],
 ) -> Planned
-    ensures { λ r. ⌜ PlanCall strategy parity basis fold (now (c .entry)) (now (out .entry)) (now (bounds .entry)) (now (steps .entry))
+    ensures { λ r. ⌜ PlanCall strategy parity basis fold (now (c .entry)) a b (now (out .entry)) (now (bounds .entry)) (now (steps .entry))
         r (now (out .exit)) (now (bounds .exit)) (now (steps .exit)) ⌝ }
 {
     let wrong = input_refusal(fold, parity, c);
     if 0 < wrong {
         return refused(wrong);
     }
+    if !(a < b) {
+        return refused(7);
+    }
     let outline = planned_outline(strategy, parity, basis, fold, degree_of(c.len()));
     let count = outline.coefficients;
-    let head = head_of(strategy, parity, basis, fold, count - 1, outline);
+    let interval = change_of_basis(basis, a, b);
+    let head = head_of(strategy, parity, basis, fold, interval, count - 1, outline);
     let short = buffer_refusal(head, out.len(), bounds.len(), steps.len());
     if 0 < short {
         return refused(short);

@@ -5,8 +5,10 @@ use super::outline::Outline;
 use counts::SplitStrategy;
 use counts::depth_from_one;
 use number::Basis;
+use number::Interval;
 use number::Parity;
 use number::PolynomialInputTransform;
+use number::no_interval;
 use number::power_of_two;
 use walk::Head;
 ghost use mathlib.Core.Path.{_≡_};
@@ -42,17 +44,18 @@ fn cost_of(transform: PolynomialInputTransform) -> usize
     }
 }
 
-// The head of what is planned, which has this degree and outline.
+// The head of what is planned, which has this interval, degree and outline.
 pub fn head_of(
     strategy: SplitStrategy,
     parity: Parity,
     basis: Basis,
     fold: bool,
+    interval: Interval,
     degree: usize,
     outline: Outline,
 ) -> Head
     requires { ⌜ Between 1 degree planLimit × (outline ≡ outlineFor strategy (plannedParity fold parity) basis degree) ⌝ }
-    ensures { λ r. ⌜ r ≡ headOf strategy (plannedParity fold parity) basis (plannedTransform fold parity basis) degree ⌝ }
+    ensures { λ r. ⌜ r ≡ headOf strategy (plannedParity fold parity) basis (plannedTransform fold parity basis) interval degree ⌝ }
 {
     let planned = planned_parity(fold, parity);
     let transform = planned_transform(fold, parity, basis);
@@ -74,6 +77,7 @@ pub fn head_of(
         coefficients: outline.coefficients,
         lists: outline.lists,
         steps: outline.steps,
+        interval,
     }
 }
 
@@ -81,6 +85,7 @@ pub fn head_of(
 pub fn no_head() -> Head
     ensures { λ r. ⌜ r ≡ noHead ⌝ }
 {
+    let interval = no_interval();
     Head {
         basis: Basis::Monomial,
         parity: Parity::Full,
@@ -94,5 +99,6 @@ pub fn no_head() -> Head
         coefficients: 0,
         lists: 0,
         steps: 0,
+        interval,
     }
 }

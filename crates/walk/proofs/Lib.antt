@@ -26,3 +26,4 @@ mod RunsWithin
 mod WeightBound
 pub mod ChainLaws
 pub mod HeaviestChain
+pub mod IntervalUnread

@@ -24,4 +24,5 @@ pub mod StepsWeigh
 pub mod UnusedPower
 pub mod Chain
 pub mod HeaviestChain
+pub mod IntervalUnread
 pub mod inside

@@ -1,6 +1,7 @@
 // A lent plan: its head, and its steps of four numbers each.
 use counts::SplitStrategy;
 use number::Basis;
+use number::Interval;
 use number::Parity;
 use number::PolynomialInputTransform;
 ghost use mathlib.Core.Path.{_≡_};
@@ -8,7 +9,7 @@ ghost use Prim.Native.Nat.{_+_, _*_, _≤_};
 ghost use lib.ListN.{length};
 ghost use Rattle.walk.specs.Lent.{stepAt};
 
-// What a plan is of, its costs, and how many coefficients, lists and steps it has.
+// What a plan is of, its costs, how many coefficients, lists and steps it has, and the interval of its polynomial, which nothing here reads.
 pub struct Head {
     pub basis: Basis,
     pub parity: Parity,
@@ -22,6 +23,7 @@ pub struct Head {
     pub coefficients: usize,
     pub lists: usize,
     pub steps: usize,
+    pub interval: Interval,
 }
 
 // A step: its kind, and three numbers that the kind gives their meaning.

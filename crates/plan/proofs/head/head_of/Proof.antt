@@ -47,26 +47,26 @@ power-of-two-requires c κs = omega (arith, known (c .before .before .before) .s
 sub-cuts : tie.Need-sub-cuts
 sub-cuts c = omega (arith, known (c .before .before .before .before .before) .nonempty)
 
-add-t14 : tie.Need-add-t14
-add-t14 c = let range = known (c .before .before .before .before .before .before) in omega (arith, range .powers, range .at-most)
+add-t15 : tie.Need-add-t15
+add-t15 c = let range = known (c .before .before .before .before .before .before) in omega (arith, range .powers, range .at-most)
 
-sub-t15 : tie.Need-sub-t15
-sub-t15 c = omega (arith, plain-most (c .before .before .before .before .before))
+sub-t16 : tie.Need-sub-t16
+sub-t16 c = omega (arith, plain-most (c .before .before .before .before .before))
 
-add-t16 : tie.Need-add-t16
-add-t16 c =
+add-t17 : tie.Need-add-t17
+add-t17 c =
     let cost = c .before .before .before .before in
     let range = known (cost .before .before) in
     omega (arith, cost-most (cost .before .before .planned-transform .result), cost .cost-of .ensures, range .powers, range .at-most)
 
-add-t17 : tie.Need-add-t17
-add-t17 c =
+add-t18 : tie.Need-add-t18
+add-t18 c =
     let plain = c .before .before .before .before .before .before in
     let range = known (plain .before) in
     omega (arith, plain-most plain, range .at-most)
 
-add-t18 : tie.Need-add-t18
-add-t18 c =
+add-t19 : tie.Need-add-t19
+add-t19 c =
     let depth = c .before .before .before .before in
     let cost = depth .before in
     let transform = cost .before .before in
@@ -85,11 +85,11 @@ returns c =
     let parity = transform .before in
     let start = parity .before in
     head-is (start .args .strategy) (parity .planned-parity .result) (start .args .basis) (transform .planned-transform .result)
-    (start .args .degree) (start .pre .0)
+    (start .args .interval) (start .args .degree) (start .pre .0)
     (start .pre .1
     ∙ ap (λ (p : Parity). outlineFor (start .args .strategy) p (start .args .basis) (start .args .degree)) (sym (parity .planned-parity .ensures)))
     (plain .plain-steps .ensures) (cost .cost-of .ensures) (depth .depth-from-one .ensures) (power .power-of-two .ensures)
-    ∙ ap₂ (λ (p : Parity) (t : PolynomialInputTransform). headOf (start .args .strategy) p (start .args .basis) t (start .args .degree))
+    ∙ ap₂ (λ (p : Parity) (t : PolynomialInputTransform). headOf (start .args .strategy) p (start .args .basis) t (start .args .interval) (start .args .degree))
     (parity .planned-parity .ensures) (transform .planned-transform .ensures)
 
 pub head-of-spec : {M : Type 1} → statement M
@@ -103,9 +103,9 @@ head-of-spec =
     depth-from-one-requires
     power-of-two-requires
     sub-cuts
-    add-t14
-    sub-t15
-    add-t16
+    add-t15
+    sub-t16
     add-t17
     add-t18
+    add-t19
     returns)
