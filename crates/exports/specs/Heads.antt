@@ -1,14 +1,23 @@
 -- The head of a plan as a struct of numbers, and the head that such a struct means.
 use mathlib.Core.Bool.{Bool, _&&_}
 use Rattle.algebra.specs.EnumNumbers.{basisNumber, parityNumber, transformNumber}
+use Rattle.number.specs.declared.interval.Interval.{Interval}
 use Rattle.counts.specs.StrategyNumber.{strategyNumber}
 use Rattle.walk.specs.declared.plan.Head.{Head}
 use Rattle.plan.specs.PlanHead.{noHead}
 use Rattle.plan.specs.declared.call.Planned.{Planned}
 use Rattle.exports.specs.Kinds.{isTransform, transformNumbered, strategyNumbered, parityNumbered, basisNumbered, knowsAll}
 use Rattle.exports.specs.Unknown.{unknownKind}
+use Rattle.exports.specs.declared.head.CHeadInterval.{CHeadInterval}
 use Rattle.exports.specs.declared.head.CHead.{CHead}
 use Rattle.exports.specs.declared.head.CPlanned.{CPlanned}
+
+-- its interval with the change pair, number by number, and back
+abbrev pub flatHeadInterval : Interval → CHeadInterval
+flatHeadInterval r = record { a = r .a; b = r .b; u = r .u; w = r .w }
+
+abbrev pub intervalMeant : CHeadInterval → Interval
+intervalMeant r = record { a = r .a; b = r .b; u = r .u; w = r .w }
 
 -- a head with its kinds by their numbers
 abbrev pub flatHead : Head → CHead
@@ -25,6 +34,7 @@ flatHead h = record {
   coefficients = h .coefficients;
   lists = h .lists;
   steps = h .steps;
+  interval = flatHeadInterval (h .interval);
 }
 
 -- the head that a head of numbers means
@@ -42,6 +52,7 @@ headMeant h = record {
   coefficients = h .coefficients;
   lists = h .lists;
   steps = h .steps;
+  interval = intervalMeant (h .interval);
 }
 
 -- whether all four of its kinds are known

@@ -4,6 +4,7 @@ use mathlib.Core.Path.{_≡_}
 use mathlib.Core.Bool.{Bool}
 use mathlib.Core.List.{List}
 use Prim.Native.Nat.{ℕ}
+use lib.Ieee.{Float}
 use lib.IntN.{ℤ}
 use Rattle.algebra.specs.declared.Basis.{Basis}
 use Rattle.algebra.specs.declared.Parity.{Parity}
@@ -20,13 +21,13 @@ use Rattle.exports.specs.declared.flat.CChain.{CChain}
 use Rattle.exports.specs.declared.head.CHead.{CHead}
 use Rattle.exports.specs.declared.head.CPlanned.{CPlanned}
 
-module _ (strategy parity basis fold : ℕ) (c out : List ℤ) (bounds steps : List ℕ) where
+module _ (strategy parity basis fold : ℕ) (c : List ℤ) (a b : Float) (out : List ℤ) (bounds steps : List ℕ) where
   abbrev known : Bool
   known = knowsSettings strategy parity basis fold
 
   -- what a definition says of the settings with these numbers
-  abbrev planned : {X : Type 0} → (SplitStrategy → Parity → Basis → Bool → List ℤ → List ℤ → List ℕ → List ℕ → X) → X
-  planned of = of (strategyNumbered strategy) (parityNumbered parity) (basisNumbered basis) (foldNumbered fold) c out bounds steps
+  abbrev planned : {X : Type 0} → (SplitStrategy → Parity → Basis → Bool → List ℤ → Float → Float → List ℤ → List ℕ → List ℕ → X) → X
+  planned of = of (strategyNumbered strategy) (parityNumbered parity) (basisNumbered basis) (foldNumbered fold) c a b out bounds steps
 
   pub record PlanFlat (r : CPlanned) (out′ : List ℤ) (bounds′ steps′ : List ℕ) : Type 0 where
     pub answer : r ≡ whenKnown known (flatPlanned (planned planAnswer)) noPlan

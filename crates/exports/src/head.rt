@@ -6,15 +6,25 @@ use super::kinds::parity_of;
 use super::kinds::strategy_of;
 use super::kinds::transform_of;
 use firrozun::Head;
+use firrozun::Interval;
 use firrozun::Planned;
 use firrozun::basis_number;
 use firrozun::parity_number;
 use firrozun::strategy_number;
 use firrozun::transform_number;
 ghost use mathlib.Core.Path.{_≡_};
-ghost use Rattle.exports.specs.Heads.{flatHead, headMeant, knowsHead, flatPlanned, noPlan};
+ghost use Rattle.exports.specs.Heads.{flatHeadInterval, intervalMeant, flatHead, headMeant, knowsHead, flatPlanned, noPlan};
 
-// The four kinds by their numbers.
+// The interval with its change pair.
+#[repr(C)]
+pub struct CHeadInterval {
+    pub a: f64,
+    pub b: f64,
+    pub u: f64,
+    pub w: f64,
+}
+
+// The four kinds by their numbers. The interval stands last, so that the other fields are where they were before there was one.
 #[repr(C)]
 pub struct CHead {
     pub basis: u8,
@@ -29,12 +39,35 @@ pub struct CHead {
     pub coefficients: usize,
     pub lists: usize,
     pub steps: usize,
+    pub interval: CHeadInterval,
 }
 
 #[repr(C)]
 pub struct CPlanned {
     pub refusal: u8,
     pub head: CHead,
+}
+
+fn flat_head_interval(interval: Interval) -> CHeadInterval
+    ensures { λ r. ⌜ r ≡ flatHeadInterval interval ⌝ }
+{
+    CHeadInterval {
+        a: interval.a,
+        b: interval.b,
+        u: interval.u,
+        w: interval.w,
+    }
+}
+
+fn interval_of(interval: CHeadInterval) -> Interval
+    ensures { λ r. ⌜ r ≡ intervalMeant interval ⌝ }
+{
+    Interval {
+        a: interval.a,
+        b: interval.b,
+        u: interval.u,
+        w: interval.w,
+    }
 }
 
 fn flat_head(head: Head) -> CHead
@@ -44,6 +77,7 @@ fn flat_head(head: Head) -> CHead
     let parity = head.parity;
     let strategy = head.strategy;
     let transform = head.transform;
+    let interval = head.interval;
     CHead {
         basis: basis_number(basis),
         parity: parity_number(parity),
@@ -57,6 +91,7 @@ fn flat_head(head: Head) -> CHead
         coefficients: head.coefficients,
         lists: head.lists,
         steps: head.steps,
+        interval: flat_head_interval(interval),
     }
 }
 
@@ -64,6 +99,7 @@ fn flat_head(head: Head) -> CHead
 pub fn head_of(head: CHead) -> Head
     ensures { λ r. ⌜ r ≡ headMeant head ⌝ }
 {
+    let interval = head.interval;
     Head {
         basis: basis_of(head.basis),
         parity: parity_of(head.parity),
@@ -77,6 +113,7 @@ pub fn head_of(head: CHead) -> Head
         coefficients: head.coefficients,
         lists: head.lists,
         steps: head.steps,
+        interval: interval_of(interval),
     }
 }
 
@@ -119,6 +156,12 @@ pub fn no_plan() -> CPlanned
             coefficients: 0,
             lists: 0,
             steps: 0,
+            interval: CHeadInterval {
+                a: 0.0,
+                b: 0.0,
+                u: 0.0,
+                w: 0.0,
+            },
         },
     }
 }

@@ -27,11 +27,13 @@ pub extern "C" fn firrozun_plan(
     basis: u8,
     fold: u8,
     c: &[i64],
+    a: f64,
+    b: f64,
     out: &mut [i64],
     bounds: &mut [u16],
     steps: &mut [u16],
 ) -> CPlanned
-    ensures { λ r. ⌜ PlanFlat strategy parity basis fold (now (c .entry)) (now (out .entry)) (now (bounds .entry)) (now (steps .entry))
+    ensures { λ r. ⌜ PlanFlat strategy parity basis fold (now (c .entry)) a b (now (out .entry)) (now (bounds .entry)) (now (steps .entry))
         r (now (out .exit)) (now (bounds .exit)) (now (steps .exit)) ⌝ }
 {
     if !knows_settings(strategy, parity, basis, fold) {
@@ -43,6 +45,8 @@ pub extern "C" fn firrozun_plan(
         basis_of(basis),
         fold_of(fold),
         c,
+        a,
+        b,
         out,
         bounds,
         steps,

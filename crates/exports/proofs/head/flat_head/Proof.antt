@@ -1,4 +1,4 @@
--- `exports::head::flat_head` meets its contract. Each kind becomes its number, and the other fields stay.
+-- `exports::head::flat_head` meets its contract. Each kind becomes its number, the interval is shown number by number, and the other fields stay.
 use borrow.Author.Needs.{needs}
 use Rattle.exports.proofs.head.flat_head.Statement.{statement}
 use Rattle.exports.proofs.head.flat_head.Tie as tie
@@ -15,11 +15,16 @@ strategy-number-requires c κs = search needs
 transform-number-requires : tie.Need-transform-number-requires
 transform-number-requires c κs = search needs
 
+flat-head-interval-requires : tie.Need-flat-head-interval-requires
+flat-head-interval-requires c κs = search needs
+
 returns : tie.Need-returns
 returns c =
-    let chosen = c .before in
+    let numbered = c .before in
+    let chosen = numbered .before in
     let told = chosen .before in
-    rw (c .transform-number .ensures, chosen .strategy-number .ensures, told .parity-number .ensures, told .before .basis-number .ensures)
+    rw (c .flat-head-interval .ensures, numbered .transform-number .ensures, chosen .strategy-number .ensures, told .parity-number .ensures,
+    told .before .basis-number .ensures)
 
 pub flat-head-spec : {M : Type 1} → statement M
 flat-head-spec =
@@ -29,4 +34,5 @@ flat-head-spec =
     parity-number-requires
     strategy-number-requires
     transform-number-requires
+    flat-head-interval-requires
     returns)

@@ -1,4 +1,4 @@
--- `exports::head::head_of` meets its contract. Each number becomes the kind that it stands for, and the other fields stay.
+-- `exports::head::head_of` meets its contract. Each number becomes the kind that it stands for, the interval is read back, and the other fields stay.
 use borrow.Author.Needs.{needs}
 use Rattle.exports.specs.Heads.{headMeant}
 use Rattle.exports.proofs.head.head_of.Statement.{statement}
@@ -16,12 +16,16 @@ strategy-of-requires c κs = search needs
 transform-of-requires : tie.Need-transform-of-requires
 transform-of-requires c κs = search needs
 
+interval-of-requires : tie.Need-interval-of-requires
+interval-of-requires c κs = search needs
+
 returns : tie.Need-returns
 unfolding headMeant
 returns c =
-    let chosen = c .before in
+    let numbered = c .before in
+    let chosen = numbered .before in
     let told = chosen .before in
-    rw (c .transform-of .ensures, chosen .strategy-of .ensures, told .parity-of .ensures, told .before .basis-of .ensures)
+    rw (c .interval-of .ensures, numbered .transform-of .ensures, chosen .strategy-of .ensures, told .parity-of .ensures, told .before .basis-of .ensures)
 
 pub head-of-spec : {M : Type 1} → statement M
 head-of-spec =
@@ -31,4 +35,5 @@ head-of-spec =
     parity-of-requires
     strategy-of-requires
     transform-of-requires
+    interval-of-requires
     returns)

@@ -1,8 +1,11 @@
 -- `exports::planning::firrozun_plan` meets its contract. With known settings the answer is the call's own answer for them, with its head in numbers
 -- and the call's own buffers, and else refusal 43 with the buffers unchanged.
+use mathlib.Core.Path.{ap, _∙_}
 use borrow.Author.Needs.{needs}
+use Rattle.plan.specs.PlanCall.{planAnswer, planCoefficients, planBoundaries, planNumbers}
 use Rattle.exports.specs.Unknown.{whenKnown}
-use Rattle.exports.proofs.Known.{unknown, known}
+use Rattle.exports.specs.Heads.{flatPlanned, noPlan}
+use Rattle.exports.proofs.Known.{unknown, known, when-known, same-settings}
 use Rattle.exports.proofs.planning.firrozun_plan.Statement.{statement}
 use Rattle.exports.proofs.planning.firrozun_plan.Tie as tie
 
@@ -52,7 +55,6 @@ same-length-3 : tie.Need-same-length-3
 same-length-3 c = search needs
 
 returns-2 : tie.Need-returns-2
-unfolding whenKnown
 returns-2 c =
     let called = c .before .before .before .before .before .before in
     let folded = called .before .before .before .before in
@@ -65,11 +67,28 @@ returns-2 c =
     let parity = told .parity-of .ensures in
     let strategy = chosen .strategy-of .ensures in
     let sure = known (test .if1 .left) (test .before .knows-settings .ensures) in
+    let start = test .before .before .before .before in
+    let coeffs = start .args .c .now in
+    let a = start .args .a in
+    let b = start .args .b in
+    let out = start .args .out .now in
+    let bounds = start .args .bounds .now in
+    let steps = start .args .steps .now in
     record {
-      answer = rw (sure, c .flat-planned .ensures, called .plan .ensures .answer, fold, basis, parity, strategy);
-      coefficients = rw (sure, called .plan .ensures .coefficients, fold, basis, parity, strategy);
-      boundaries = rw (sure, called .plan .ensures .boundaries, fold, basis, parity, strategy);
-      numbers = rw (sure, called .plan .ensures .numbers, fold, basis, parity, strategy);
+      answer = c .flat-planned .ensures
+          ∙ ap flatPlanned
+          (called .plan .ensures .answer
+          ∙ same-settings (λ s p q f. planAnswer s p q f coeffs a b out bounds steps) strategy parity basis fold)
+          ∙ when-known _ noPlan sure;
+      coefficients = called .plan .ensures .coefficients
+          ∙ same-settings (λ s p q f. planCoefficients s p q f coeffs a b out bounds steps) strategy parity basis fold
+          ∙ when-known _ out sure;
+      boundaries = called .plan .ensures .boundaries
+          ∙ same-settings (λ s p q f. planBoundaries s p q f coeffs a b out bounds steps) strategy parity basis fold
+          ∙ when-known _ bounds sure;
+      numbers = called .plan .ensures .numbers
+          ∙ same-settings (λ s p q f. planNumbers s p q f coeffs a b out bounds steps) strategy parity basis fold
+          ∙ when-known _ steps sure;
     }
 
 pub firrozun-plan-spec : {M : Type 1} → statement M
