@@ -5,6 +5,7 @@ use mathlib.Core.Bool.{Bool}
 use mathlib.Core.List.{List, [], _∷_, map}
 use Prim.Native.Nat.{ℕ, suc, _+_, _-_}
 use native.Mathlib.Omega.{arith}
+use lib.Ieee.{Float}
 use lib.IntN.{ℤ}
 use lib.ListN.{length, take}
 use lib.Seq.{take-at}
@@ -34,29 +35,29 @@ lengths-read at (list ∷ lists) =
     ap₂ _∷_ size (lengths-read (at + length list) lists)
 
 -- the lengths of the planned lists, by the boundaries that the buffer holds
-pub lent-lengths : (strategy : SplitStrategy) (parity : Parity) (basis : Basis) (folded : Bool) (c coefficients : List ℤ) (bounds steps : List ℕ)
-    → Accepted folded parity c → Stored strategy parity basis folded c coefficients bounds steps
-    → lengthsFrom 0 (take (headFor strategy parity basis folded c .lists) bounds)
+pub lent-lengths : (strategy : SplitStrategy) (parity : Parity) (basis : Basis) (folded : Bool) (c : List ℤ) (a b : Float) (coefficients : List ℤ)
+    (bounds steps : List ℕ) → Accepted folded parity c → Stored strategy parity basis folded c coefficients bounds steps
+    → lengthsFrom 0 (take (headFor strategy parity basis folded c a b .lists) bounds)
     ≡ lengthsOf (tree strategy parity basis folded c) (suc (plannedDegree strategy parity basis folded c))
-lent-lengths strategy parity basis folded c coefficients bounds steps accepted stored =
-    let lists = headFor strategy parity basis folded c .lists in
+lent-lengths strategy parity basis folded c a b coefficients bounds steps accepted stored =
+    let lists = headFor strategy parity basis folded c a b .lists in
     let order = ordered strategy parity basis folded c accepted in
     let places : suc (plannedDegree strategy parity basis folded c) ≡ length (planned strategy parity basis folded c) =
     omega (arith, plannable folded parity basis c accepted .several) in
     ap (λ (l : List ℕ). lengthsFrom 0 (take lists l)) (stored .bounds-are)
     ∙ ap (lengthsFrom 0) (take-at (boundariesFor strategy parity basis folded c) (stored .more-bounds) lists
-    (boundaries-length strategy parity basis folded c accepted) ∙ order .ends 0)
+    (boundaries-length strategy parity basis folded c accepted a b) ∙ order .ends 0)
     ∙ lengths-read 0 (listsFor strategy parity basis folded c)
     ∙ sym (ap (lengthsOf (tree strategy parity basis folded c)) places ∙ order .lengths)
 
 pub plans-report : PlansReport
 unfolding headOf reported
-plans-report strategy parity basis folded c out bounds steps r out′ bounds′ steps′ accepted long call =
-    let right = plans-right strategy parity basis folded c out bounds steps r out′ bounds′ steps′ accepted long call in
+plans-report strategy parity basis folded c a b out bounds steps r out′ bounds′ steps′ brings call =
+    let right = plans-right strategy parity basis folded c a b out bounds steps r out′ bounds′ steps′ brings call in
     rw (
       right .answer,
-      lent-steps strategy parity basis folded c out′ bounds′ steps′ (right .stored),
-      lent-lengths strategy parity basis folded c out′ bounds′ steps′ accepted (right .stored),
+      lent-steps strategy parity basis folded c a b out′ bounds′ steps′ (right .stored),
+      lent-lengths strategy parity basis folded c a b out′ bounds′ steps′ (brings .accepted) (right .stored),
     ) (record { encrypted = refl; plain = refl })
 
 -- ---- the transform

@@ -117,64 +117,65 @@ planned-floats : (folded : Bool) (parity : Parity) (basis : Basis) (c : List ℤ
 planned-floats true parity basis c small = folds-same parity basis c (small-told c small) .written
 planned-floats false parity basis c small = refl
 
-module _ (strategy : SplitStrategy) (parity : Parity) (basis : Basis) (folded : Bool) (c : List ℤ) (accepted : Accepted folded parity c) where
-  abbrev head : Head
-  head = headFor strategy parity basis folded c
+module _ (strategy : SplitStrategy) (parity : Parity) (basis : Basis) (folded : Bool) (c : List ℤ) (a b : Float) (accepted : Accepted folded parity c)
+  where
+    abbrev head : Head
+    head = headFor strategy parity basis folded c a b
 
-  abbrev floats : List Float
-  floats = map num (planned strategy parity basis folded c)
+    abbrev floats : List Float
+    floats = map num (planned strategy parity basis folded c)
 
-  facts : Plannable (plannedParity folded parity) (planned strategy parity basis folded c)
-  facts = plannable folded parity basis c accepted
+    facts : Plannable (plannedParity folded parity) (planned strategy parity basis folded c)
+    facts = plannable folded parity basis c accepted
 
-  covered : Covered folded parity c
-  covered = covered-accepted folded parity c .0 accepted
+    covered : Covered folded parity c
+    covered = covered-accepted folded parity c .0 accepted
 
-  same-length : length floats ≡ length (planned strategy parity basis folded c)
-  same-length = length-map (planned strategy parity basis folded c) num
+    same-length : length floats ≡ length (planned strategy parity basis folded c)
+    same-length = length-map (planned strategy parity basis folded c) num
 
-  -- the listing
-  same-listing : arranged floatOps basis (tree strategy parity basis folded c) floats ≡ map num (coefficientsFor strategy parity basis folded c)
-  same-listing =
-      arranged-same (relists strategy) basis (plannedDegree strategy parity basis folded c)
-      (splitFor strategy (plannedParity folded parity) basis (plannedDegree strategy parity basis folded c)) (planned strategy parity basis folded c)
-      (planned-to-53 folded parity basis c (covered .magnitudes) (covered .degree-to)) (omega (arith, facts .several)) (facts .few)
-      (from-one strategy parity basis folded c accepted)
+    -- the listing
+    same-listing : arranged floatOps basis (tree strategy parity basis folded c) floats ≡ map num (coefficientsFor strategy parity basis folded c)
+    same-listing =
+        arranged-same (relists strategy) basis (plannedDegree strategy parity basis folded c)
+        (splitFor strategy (plannedParity folded parity) basis (plannedDegree strategy parity basis folded c)) (planned strategy parity basis folded c)
+        (planned-to-53 folded parity basis c (covered .magnitudes) (covered .degree-to)) (omega (arith, facts .several)) (facts .few)
+        (from-one strategy parity basis folded c accepted)
 
-  -- the list call passes all its tests
-  module _ (out : List Float) (bounds : List ℕ) (room : head .coefficients ≤ length out) (ends : head .lists ≤ length bounds) where
-    list-passes : listRefusal floatNumbers strategy (plannedParity folded parity) basis floats out bounds ≡ 0
-    unfolding listRefusal headOf
-    list-passes =
-        let degree = plannedDegree strategy parity basis folded c in
-        let positive = facts .several in
-        let enough : length (planned strategy parity basis folded c) ≤ length out = omega arith in
-        rw (
-          same-length,
-          le-ltb planLimit degree (facts .few),
-          ne-eqb degree 0 (λ zero-is. omega arith),
-          le-ltb (length out) (length (planned strategy parity basis folded c)) enough,
-          le-ltb (length bounds) (leavesOf (tree strategy parity basis folded c)) ends,
-        )
+    -- the list call passes all its tests
+    module _ (out : List Float) (bounds : List ℕ) (room : head .coefficients ≤ length out) (ends : head .lists ≤ length bounds) where
+      list-passes : listRefusal floatNumbers strategy (plannedParity folded parity) basis floats out bounds ≡ 0
+      unfolding listRefusal headOf
+      list-passes =
+          let degree = plannedDegree strategy parity basis folded c in
+          let positive = facts .several in
+          let enough : length (planned strategy parity basis folded c) ≤ length out = omega arith in
+          rw (
+            same-length,
+            le-ltb planLimit degree (facts .few),
+            ne-eqb degree 0 (λ zero-is. omega arith),
+            le-ltb (length out) (length (planned strategy parity basis folded c)) enough,
+            le-ltb (length bounds) (leavesOf (tree strategy parity basis folded c)) ends,
+          )
 
-    listed : (r : Listed) (out′ : List Float) (bounds′ : List ℕ)
-        → ListCall floatNumbers strategy (plannedParity folded parity) basis floats out bounds r out′ bounds′
-        → ListsPlan head (coefficientsFor strategy parity basis folded c) (boundariesFor strategy parity basis folded c) out bounds r out′ bounds′
-    unfolding listAnswer listCoefficients listBoundaries headOf
-    listed r out′ bounds′ call =
-        let places : length (planned strategy parity basis folded c) ≡ suc (plannedDegree strategy parity basis folded c) = omega (arith, facts .several) in
-        record {
-          answer = call .answer ∙ sym (when-accepted _ _ list-passes) ∙ rw (same-length) (ap
-              (λ (n : ℕ). record {
-                refusal = 0;
-                degree = plannedDegree strategy parity basis folded c;
-                base = 2 ^ splitFor strategy (plannedParity folded parity) basis (plannedDegree strategy parity basis folded c);
-                coefficients = n;
-                lists = leavesOf (tree strategy parity basis folded c);
-              }) places);
-          numbers = call .coefficients ∙ sym (when-accepted _ _ list-passes) ∙ rw (same-length) (ap (sets out 0) same-listing);
-          ends = call .boundaries ∙ sym (when-accepted _ _ list-passes) ∙ rw (same-length);
-        }
+      listed : (r : Listed) (out′ : List Float) (bounds′ : List ℕ)
+          → ListCall floatNumbers strategy (plannedParity folded parity) basis floats out bounds r out′ bounds′
+          → ListsPlan head (coefficientsFor strategy parity basis folded c) (boundariesFor strategy parity basis folded c) out bounds r out′ bounds′
+      unfolding listAnswer listCoefficients listBoundaries headOf
+      listed r out′ bounds′ call =
+          let places : length (planned strategy parity basis folded c) ≡ suc (plannedDegree strategy parity basis folded c) = omega (arith, facts .several) in
+          record {
+            answer = call .answer ∙ sym (when-accepted _ _ list-passes) ∙ rw (same-length) (ap
+                (λ (n : ℕ). record {
+                  refusal = 0;
+                  degree = plannedDegree strategy parity basis folded c;
+                  base = 2 ^ splitFor strategy (plannedParity folded parity) basis (plannedDegree strategy parity basis folded c);
+                  coefficients = n;
+                  lists = leavesOf (tree strategy parity basis folded c);
+                }) places);
+            numbers = call .coefficients ∙ sym (when-accepted _ _ list-passes) ∙ rw (same-length) (ap (sets out 0) same-listing);
+            ends = call .boundaries ∙ sym (when-accepted _ _ list-passes) ∙ rw (same-length);
+          }
 
 -- ---- the fold call
 
@@ -216,13 +217,14 @@ module _ (parity : Parity) (basis : Basis) (c : List ℤ) (accepted : Accepted t
       ap length (planned-floats true parity basis c (covered-fold .magnitudes)) ∙ length-map whole-fold num in
       rw (tests .0, tests .1 .0, tests .1 .1 .0, tests .1 .1 .1 .0, size, le-ltb (length out) (length whole-fold) room)
 
-fold-called : (strategy : SplitStrategy) (parity : Parity) (basis : Basis) (folded : Bool) (c : List ℤ) → Accepted folded parity c → folded ≡ true
+fold-called : (strategy : SplitStrategy) (parity : Parity) (basis : Basis) (folded : Bool) (c : List ℤ) (a b : Float) → Accepted folded parity c
+    → folded ≡ true
     → (out : List Float) (r : Folded) (left : List Float) → FoldCall floatNumbers parity basis (map num c) out r left
-    → headFor strategy parity basis folded c .coefficients ≤ length out
-    → FoldsPlan (headFor strategy parity basis folded c) (planned strategy parity basis folded c) out r left
+    → headFor strategy parity basis folded c a b .coefficients ≤ length out
+    → FoldsPlan (headFor strategy parity basis folded c a b) (planned strategy parity basis folded c) out r left
 unfolding headOf foldAnswer foldBuffer
-fold-called strategy parity basis false c accepted folds out r left call room = absurd (false≢true folds)
-fold-called strategy parity basis true c accepted folds out r left call room =
+fold-called strategy parity basis false c a b accepted folds out r left call room = absurd (false≢true folds)
+fold-called strategy parity basis true c a b accepted folds out r left call room =
     let facts = plannable true parity basis c accepted in
     let small = covered-accepted true parity c .0 accepted .magnitudes in
     let several = facts .several in
@@ -240,15 +242,15 @@ fold-called strategy parity basis true c accepted folds out r left call room =
 
 pub plans-equal : PlansEqual
 unfolding headOf
-plans-equal strategy parity basis folded c accepted =
+plans-equal strategy parity basis folded c a b accepted =
     let facts = plannable folded parity basis c accepted in
     let degree = plannedDegree strategy parity basis folded c in
     let several = facts .several in
     record {
       base = ap (λ (s : ℕ). 2 ^ s) (split-called strategy (plannedParity folded parity) basis degree (omega arith) (facts .few));
       depth = ap (λ (d : ℕ). d + transformCost (plannedTransform folded parity basis)) (depth-called strategy degree (facts .few));
-      fold-call = fold-called strategy parity basis folded c accepted;
-      list-call = λ out bounds r out′ bounds′ call room ends. listed strategy parity basis folded c accepted out bounds room ends r out′ bounds′
+      fold-call = fold-called strategy parity basis folded c a b accepted;
+      list-call = λ out bounds r out′ bounds′ call room ends. listed strategy parity basis folded c a b accepted out bounds room ends r out′ bounds′
           (subst (λ (l : List Float). ListCall floatNumbers strategy (plannedParity folded parity) basis l out bounds r out′ bounds′)
           (planned-floats folded parity basis c (covered-accepted folded parity c .0 accepted .magnitudes)) call);
     }

@@ -11,9 +11,11 @@ use Rattle.algebra.specs.declared.Basis.{Basis}
 use Rattle.algebra.specs.declared.Parity.{Parity}
 use Rattle.algebra.specs.declared.PolynomialInputTransform.{PolynomialInputTransform}
 use Rattle.number.specs.Bits.{digits, bitLen, topPower, powerBelow, isPowerOfTwo}
+use Rattle.number.specs.Interval.{changeOfBasis}
 use Rattle.number.specs.Limits.{planLimit}
 use Rattle.number.specs.Refusal.{unlessRefused}
 use Rattle.number.specs.Split.{partsOf}
+use Rattle.number.specs.declared.interval.Interval.{Interval}
 use Rattle.number.specs.inside.Between.{Between}
 use Rattle.number.proofs.Bits.{some-digit}
 use Rattle.needed.specs.NeededList.{neededList, neededCount}
@@ -64,10 +66,11 @@ module _ (parity : Parity) (basis : Basis) (degree : ℕ) (positive : 1 ≤ degr
 
 -- ---- the head
 
-estimated : (parity : Parity) (basis : Basis) (transform : PolynomialInputTransform) (degree : ℕ) → Between 1 degree planLimit
-    → Estimated (headOf MinMult parity basis transform degree) (lengthsOf (planTree MinMult parity basis degree) (suc degree))
+estimated : (parity : Parity) (basis : Basis) (transform : PolynomialInputTransform) (interval : Interval) (degree : ℕ)
+    → Between 1 degree planLimit
+    → Estimated (headOf MinMult parity basis transform interval degree) (lengthsOf (planTree MinMult parity basis degree) (suc degree))
 unfolding headOf countsCall splitFor unlessRefused reported
-estimated parity basis transform degree range =
+estimated parity basis transform interval degree range =
     let split = minMult parity basis degree in
     let told = pair-moved parity basis degree split in
     record {
@@ -86,11 +89,12 @@ estimated parity basis transform degree range =
     }
 
 pub plans-estimated : PlansEstimated
-plans-estimated parity basis folded c out bounds steps r out′ bounds′ steps′ accepted long call =
-    let right = plans-right MinMult parity basis folded c out bounds steps r out′ bounds′ steps′ accepted long call in
+plans-estimated parity basis folded c a b out bounds steps r out′ bounds′ steps′ brings call =
+    let right = plans-right MinMult parity basis folded c a b out bounds steps r out′ bounds′ steps′ brings call in
+    let accepted = brings .accepted in
     let facts = plannable folded parity basis c accepted in
-    rw (right .answer, lent-lengths MinMult parity basis folded c out′ bounds′ steps′ accepted (right .stored))
-    (estimated (plannedParity folded parity) basis (plannedTransform folded parity basis) (plannedDegree MinMult parity basis folded c)
+    rw (right .answer, lent-lengths MinMult parity basis folded c a b out′ bounds′ steps′ accepted (right .stored))
+    (estimated (plannedParity folded parity) basis (plannedTransform folded parity basis) (changeOfBasis basis a b) (plannedDegree MinMult parity basis folded c)
     (record { from = omega (arith, facts .several); to = facts .few }))
 
 -- ---- the example

@@ -5,6 +5,7 @@ use mathlib.Core.Bool.{Bool}
 use mathlib.Core.List.{List}
 use Prim.Native.Nat.{suc}
 use native.Mathlib.Omega.{arith}
+use lib.Ieee.{Float}
 use lib.IntN.{ℤ}
 use lib.ListN.{length}
 use Rattle.algebra.specs.declared.Basis.{Basis}
@@ -19,10 +20,10 @@ use Rattle.demands.specs.HeadTold.{HeadTold, HeadsTold}
 use Rattle.demands.proofs.Accepts.{plannable}
 use Rattle.demands.proofs.Right.{ordered, plans-right}
 
-head-told : (strategy : SplitStrategy) (parity : Parity) (basis : Basis) (folded : Bool) (c : List ℤ) → Accepted folded parity c
-    → HeadTold strategy parity basis folded c (headFor strategy parity basis folded c)
+head-told : (strategy : SplitStrategy) (parity : Parity) (basis : Basis) (folded : Bool) (c : List ℤ) (a b : Float) → Accepted folded parity c
+    → HeadTold strategy parity basis folded c a b (headFor strategy parity basis folded c a b)
 unfolding headOf
-head-told strategy parity basis folded c accepted =
+head-told strategy parity basis folded c a b accepted =
     let degree = plannedDegree strategy parity basis folded c in
     let several = plannable folded parity basis c accepted .several in
     let places : suc degree ≡ length (planned strategy parity basis folded c) = omega arith in
@@ -39,9 +40,10 @@ head-told strategy parity basis folded c accepted =
       lists-are = ordered strategy parity basis folded c accepted .count;
       steps-are = refl;
       steps-count = omega (arith, told .steps);
+      interval-is = refl;
     }
 
 pub heads-told : HeadsTold
-heads-told strategy parity basis folded c out bounds steps r out′ bounds′ steps′ accepted long call =
-    rw (plans-right strategy parity basis folded c out bounds steps r out′ bounds′ steps′ accepted long call .answer)
-    (head-told strategy parity basis folded c accepted)
+heads-told strategy parity basis folded c a b out bounds steps r out′ bounds′ steps′ brings call =
+    rw (plans-right strategy parity basis folded c a b out bounds steps r out′ bounds′ steps′ brings call .answer)
+    (head-told strategy parity basis folded c a b (brings .accepted))

@@ -20,4 +20,5 @@ pub mod Starred
 pub mod Demands
 pub mod Sized
 pub mod Weighed
+pub mod HeadInterval
 pub mod Requests

@@ -114,6 +114,6 @@ runs-made-before A 𝓡 head coefficients bounds steps point v e =
     (walks-use-made A 𝓡 (head .parity) (head .basis) lists (lentSteps head steps) y (walked .value) (walked .is))
 
 pub plans-made-before : PlansMadeBefore
-plans-made-before strategy parity basis folded c out bounds steps r out′ bounds′ steps′ accepted long call =
-    let right = plans-right strategy parity basis folded c out bounds steps r out′ bounds′ steps′ accepted long call in
+plans-made-before strategy parity basis folded c a b out bounds steps r out′ bounds′ steps′ brings call =
+    let right = plans-right strategy parity basis folded c a b out bounds steps r out′ bounds′ steps′ brings call in
     runs-made-before ℤ exactRules (r .head) out′ bounds′ steps′ (pos 0) _ (right .walks (pos 0) .exact)

@@ -187,14 +187,15 @@ plain-step strategy parity basis degree sound =
 
 pub plans-plain : PlansPlain
 unfolding headOf
-plans-plain strategy parity basis folded c out bounds steps r out′ bounds′ steps′ accepted long call =
-    let right = plans-right strategy parity basis folded c out bounds steps r out′ bounds′ steps′ accepted long call in
+plans-plain strategy parity basis folded c a b out bounds steps r out′ bounds′ steps′ brings call =
+    let right = plans-right strategy parity basis folded c a b out bounds steps r out′ bounds′ steps′ brings call in
+    let accepted = brings .accepted in
     let degree = plannedDegree strategy parity basis folded c in
     let split = splitFor strategy (plannedParity folded parity) basis degree in
     let sound = trees-sound (relists strategy) degree degree split (plannable folded parity basis c accepted .few)
     (from-one strategy parity basis folded c accepted) in
     rw (
       right .answer,
-      lent-steps strategy parity basis folded c out′ bounds′ steps′ (right .stored),
-      lent-lengths strategy parity basis folded c out′ bounds′ steps′ accepted (right .stored),
+      lent-steps strategy parity basis folded c a b out′ bounds′ steps′ (right .stored),
+      lent-lengths strategy parity basis folded c a b out′ bounds′ steps′ accepted (right .stored),
     ) (plain-step strategy (plannedParity folded parity) basis degree sound)

@@ -1,17 +1,19 @@
 -- The requests that have landed are met: each statement by the theorem of its name.
 use mathlib.Core.Path.{refl}
-use Rattle.demands.specs.Requests.{BufferSizes, LastConstant, PlanChains, DegreeForBudget, SplitWithDistance, Requests}
+use Rattle.demands.specs.Requests.{BufferSizes, LastConstant, PlanChains, DegreeForBudget, SplitWithDistance, IntervalInHead, Requests}
 use Rattle.number.proofs.SplitDistance.{third-is-distance, parts-differ, refused-zero, split-product}
 use Rattle.counts.proofs.BudgetPromises.{largest-degrees, bits-fall, none-below-scale}
 use Rattle.walk.proofs.Paths.{heaviest-greatest}
 use Rattle.walk.proofs.StepsWeigh.{steps-weigh}
 use Rattle.walk.proofs.UnusedPower.{unused-left-out}
 use Rattle.walk.proofs.HeaviestChain.{heaviest-chain}
+use Rattle.walk.proofs.IntervalUnread.{interval-unread}
 use Rattle.demands.proofs.Sized.{plans-sized, sizes-order}
 use Rattle.demands.proofs.PlainStep.{plans-plain}
 use Rattle.demands.proofs.Estimated.{plans-estimated, cheaper-reported}
 use Rattle.demands.proofs.StoredEarlier.{earlier-right}
 use Rattle.demands.proofs.Weighed.{stored-weighed, plans-weighed, chain-order}
+use Rattle.demands.proofs.HeadInterval.{intervals-told, unordered-refused, plans-alike}
 
 pub buffer-sizes : BufferSizes
 buffer-sizes = record { plans-sized = plans-sized; sizes-order = sizes-order }
@@ -51,6 +53,14 @@ split-with-distance = record {
   split-product = λ 𝓡. split-product 𝓡;
 }
 
+pub interval-in-head : IntervalInHead
+interval-in-head = record {
+  intervals-told = intervals-told;
+  interval-unread = interval-unread;
+  unordered-refused = unordered-refused;
+  plans-alike = plans-alike;
+}
+
 pub requests : Requests
 requests = record {
   buffer-sizes = buffer-sizes;
@@ -58,4 +68,5 @@ requests = record {
   plan-chains = plan-chains;
   degree-for-budget = degree-for-budget;
   split-with-distance = split-with-distance;
+  interval-in-head = interval-in-head;
 }

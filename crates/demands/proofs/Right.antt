@@ -7,6 +7,7 @@ use mathlib.Core.List.{List, [], _∷_, _++_}
 use mathlib.Core.Option.{Option, some}
 use Prim.Native.Nat.{ℕ, _+_, _*_, _^_, _≤_, _<_}
 use native.Mathlib.Omega.{arith}
+use lib.Ieee.{Float}
 use lib.IntN.{ℤ}
 use lib.ListN.{length, take, drop}
 use lib.Seq.{sets}
@@ -44,7 +45,7 @@ use Rattle.plan.specs.PlanCall.{plannedCoefficients, plannedParity, plannedTran
 use Rattle.plan.specs.PlanCall.{coefficientsFor, boundariesFor, numbersFor, planRefusal, planAnswer, planCoefficients, planBoundaries, planNumbers}
 use Rattle.demands.specs.Right.{listsFor, stepsFor, StepsRight, WalksRight, Stored, StoredRight, PlansRight}
 use Rattle.demands.proofs.Accepts.{Plannable, covered-accepted, plannable}
-use Rattle.demands.proofs.Refusals.{plan-made}
+use Rattle.demands.proofs.Refusals.{head-fits, plan-made}
 use Rattle.demands.proofs.PlanRun.{steps-walk}
 
 -- ---- the steps
@@ -91,9 +92,6 @@ module _ (strategy : SplitStrategy) (parity : Parity) (basis : Basis) (folded : 
   abbrev split : ℕ
   split = splitFor strategy (plannedParity folded parity) basis (plannedDegree strategy parity basis folded c)
 
-  abbrev head : Head
-  head = headFor strategy parity basis folded c
-
   facts : Plannable (plannedParity folded parity) (planned strategy parity basis folded c)
   facts = plannable folded parity basis c accepted
 
@@ -112,76 +110,83 @@ module _ (strategy : SplitStrategy) (parity : Parity) (basis : Basis) (folded : 
       lists-in-order wholeOps (relists strategy) basis (plannedDegree strategy parity basis folded c) split (planned strategy parity basis folded c)
       (omega (arith, facts .several)) (facts .few) from-one
 
-  -- as many as there are coefficients, lists and steps
-  pub coefficients-length : length (coefficientsFor strategy parity basis folded c) ≡ head .coefficients
-  unfolding headOf
-  coefficients-length =
-      length-arranged wholeOps basis (2 ^ split) (tree strategy parity basis folded c) (planned strategy parity basis folded c) sound
-      ∙ omega (arith, facts .several)
+  -- as many as there are coefficients, lists and steps, by the head on any interval
+  module _ (a b : Float) where
+    abbrev head : Head
+    head = headFor strategy parity basis folded c a b
 
-  pub boundaries-length : length (boundariesFor strategy parity basis folded c) ≡ head .lists
-  unfolding headOf
-  boundaries-length = length-ends (tree strategy parity basis folded c) 0 (length (planned strategy parity basis folded c))
-
-  pub numbers-length : length (numbersFor strategy parity basis folded c) ≡ 4 * head .steps
-  unfolding headOf
-  numbers-length = flat-length (stepsFor strategy parity basis folded c)
-
-  module _ (coefficients : List ℤ) (bounds steps : List ℕ) (stored : Stored strategy parity basis folded c coefficients bounds steps) where
-    pub holds : Holds head coefficients bounds steps (listsFor strategy parity basis folded c) (stepsFor strategy parity basis folded c)
+    pub coefficients-length : length (coefficientsFor strategy parity basis folded c) ≡ head .coefficients
     unfolding headOf
-    holds = record {
-      coefficient-count = sym coefficients-length ∙ ap length (ordered .places);
-      list-count = ordered .count;
-      step-count = refl;
-      filled = filled-lists basis (2 ^ split) (tree strategy parity basis folded c) (planned strategy parity basis folded c) sound;
-      more-coefficients = stored .more-coefficients;
-      more-bounds = stored .more-bounds;
-      more-steps = stored .more-steps;
-      coefficients-are = stored .coefficients-are ∙ ap (λ (l : List ℤ). l ++ stored .more-coefficients) (ordered .places);
-      bounds-are = stored .bounds-are ∙ ap (λ (l : List ℕ). l ++ stored .more-bounds) (ordered .ends 0);
-      steps-are = stored .steps-are;
-    }
+    coefficients-length =
+        length-arranged wholeOps basis (2 ^ split) (tree strategy parity basis folded c) (planned strategy parity basis folded c) sound
+        ∙ omega (arith, facts .several)
 
-    exact : (x : ℤ) → exactWalk head coefficients bounds steps x ≡ some (value wholeOps basis x c)
+    pub boundaries-length : length (boundariesFor strategy parity basis folded c) ≡ head .lists
     unfolding headOf
-    exact x =
-        walks-held ℤ exactRules head coefficients bounds steps (listsFor strategy parity basis folded c) (stepsFor strategy parity basis folded c) x
-        holds
-        ∙ steps-right strategy parity basis folded c x accepted
+    boundaries-length = length-ends (tree strategy parity basis folded c) 0 (length (planned strategy parity basis folded c))
 
-    pub walks-right : (x : ℤ) → WalksRight head coefficients bounds steps basis c x
-    walks-right x = record {
-      exact = exact x;
-      trial = λ modulus low high. trial-follows head coefficients bounds steps x modulus low high .answers (value wholeOps basis x c) (exact x);
-      runs = sym (refused-for-reasons ℤ exactRules head coefficients bounds steps x) ∙ ap missing (exact x);
-    }
+    pub numbers-length : length (numbersFor strategy parity basis folded c) ≡ 4 * head .steps
+    unfolding headOf
+    numbers-length = flat-length (stepsFor strategy parity basis folded c)
+
+    module _ (coefficients : List ℤ) (bounds steps : List ℕ) (stored : Stored strategy parity basis folded c coefficients bounds steps) where
+      pub holds : Holds head coefficients bounds steps (listsFor strategy parity basis folded c) (stepsFor strategy parity basis folded c)
+      unfolding headOf
+      holds = record {
+        coefficient-count = sym coefficients-length ∙ ap length (ordered .places);
+        list-count = ordered .count;
+        step-count = refl;
+        filled = filled-lists basis (2 ^ split) (tree strategy parity basis folded c) (planned strategy parity basis folded c) sound;
+        more-coefficients = stored .more-coefficients;
+        more-bounds = stored .more-bounds;
+        more-steps = stored .more-steps;
+        coefficients-are = stored .coefficients-are ∙ ap (λ (l : List ℤ). l ++ stored .more-coefficients) (ordered .places);
+        bounds-are = stored .bounds-are ∙ ap (λ (l : List ℕ). l ++ stored .more-bounds) (ordered .ends 0);
+        steps-are = stored .steps-are;
+      }
+
+      exact : (x : ℤ) → exactWalk head coefficients bounds steps x ≡ some (value wholeOps basis x c)
+      unfolding headOf
+      exact x =
+          walks-held ℤ exactRules head coefficients bounds steps (listsFor strategy parity basis folded c) (stepsFor strategy parity basis folded c) x
+          holds
+          ∙ steps-right strategy parity basis folded c x accepted
+
+      pub walks-right : (x : ℤ) → WalksRight head coefficients bounds steps basis c x
+      walks-right x = record {
+        exact = exact x;
+        trial = λ modulus low high. trial-follows head coefficients bounds steps x modulus low high .answers (value wholeOps basis x c) (exact x);
+        runs = sym (refused-for-reasons ℤ exactRules head coefficients bounds steps x) ∙ ap missing (exact x);
+      }
 
 -- the steps that are read from the buffer
-pub lent-steps : (strategy : SplitStrategy) (parity : Parity) (basis : Basis) (folded : Bool) (c coefficients : List ℤ) (bounds steps : List ℕ)
+pub lent-steps : (strategy : SplitStrategy) (parity : Parity) (basis : Basis) (folded : Bool) (c : List ℤ) (a b : Float) (coefficients : List ℤ)
+    (bounds steps : List ℕ)
     → Stored strategy parity basis folded c coefficients bounds steps
-    → lentSteps (headFor strategy parity basis folded c) steps ≡ stepsFor strategy parity basis folded c
+    → lentSteps (headFor strategy parity basis folded c a b) steps ≡ stepsFor strategy parity basis folded c
 unfolding headOf
-lent-steps strategy parity basis folded c coefficients bounds steps stored =
+lent-steps strategy parity basis folded c a b coefficients bounds steps stored =
     let all = stepsFor strategy parity basis folded c in
     ap (λ (l : List ℕ). stepsFrom l 0 (length all)) (stored .steps-are) ∙ flat-steps all (stored .more-steps)
 
 pub stored-right : StoredRight
-stored-right strategy parity basis folded c coefficients bounds steps x accepted stored =
-    walks-right strategy parity basis folded c accepted coefficients bounds steps stored x
+stored-right strategy parity basis folded c a b coefficients bounds steps x accepted stored =
+    walks-right strategy parity basis folded c accepted a b coefficients bounds steps stored x
 
 -- ---- the call
 
 pub plans-right : PlansRight
 unfolding planAnswer planCoefficients planBoundaries planNumbers
-plans-right strategy parity basis folded c out bounds steps r out′ bounds′ steps′ accepted long call =
-    let done : planRefusal strategy parity basis folded c out bounds steps ≡ 0 = plan-made strategy parity basis folded c out bounds steps accepted long in
+plans-right strategy parity basis folded c a b out bounds steps r out′ bounds′ steps′ brings call =
+    let accepted = brings .accepted in
+    let long = head-fits strategy parity basis folded c a b out bounds steps brings in
+    let done : planRefusal strategy parity basis folded c a b out bounds steps ≡ 0 = plan-made strategy parity basis folded c a b out bounds steps brings in
     let xs = coefficientsFor strategy parity basis folded c in
     let es = boundariesFor strategy parity basis folded c in
     let ns = numbersFor strategy parity basis folded c in
-    let xs-length = coefficients-length strategy parity basis folded c accepted in
-    let es-length = boundaries-length strategy parity basis folded c accepted in
-    let ns-length = numbers-length strategy parity basis folded c accepted in
+    let xs-length = coefficients-length strategy parity basis folded c accepted a b in
+    let es-length = boundaries-length strategy parity basis folded c accepted a b in
+    let ns-length = numbers-length strategy parity basis folded c accepted a b in
     let answer-is = call .answer ∙ sym (when-accepted _ _ done) in
     let stored-is : Stored strategy parity basis folded c out′ bounds′ steps′ = record {
       more-coefficients = drop (length xs) out;
@@ -197,5 +202,5 @@ plans-right strategy parity basis folded c out bounds steps r out′ bounds′ s
       coefficients-beyond = rw answer-is (ap (λ (n : ℕ). drop n out) xs-length);
       bounds-beyond = rw answer-is (ap (λ (n : ℕ). drop n bounds) es-length);
       steps-beyond = rw answer-is (ap (λ (n : ℕ). drop n steps) ns-length);
-      walks = λ x. rw answer-is (stored-right strategy parity basis folded c out′ bounds′ steps′ x accepted stored-is);
+      walks = λ x. rw answer-is (stored-right strategy parity basis folded c a b out′ bounds′ steps′ x accepted stored-is);
     }

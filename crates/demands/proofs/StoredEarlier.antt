@@ -29,6 +29,7 @@ use Rattle.walk.proofs.TrialFollows.{trial-follows}
 use Rattle.walk.proofs.Unrunnable.{refused-for-reasons}
 use Rattle.plan.specs.PlanHead.{headOf}
 use Rattle.plan.specs.PlanCall.{headFor, numbersFor}
+use Rattle.plan.specs.PlanSizes.{sizesOf}
 use Rattle.demands.specs.Right.{Stored}
 use Rattle.demands.specs.StoredEarlier.{anyCombine, EarlierRight}
 use Rattle.demands.proofs.Right.{lent-steps, stored-right}
@@ -112,9 +113,11 @@ module _ (head other : Head) (coefficients : List ℤ) (bounds steps others : Li
       ) (when-some ((many && (listed && room)) && rising) _ v is)
 
 pub earlier-right : EarlierRight
-unfolding headOf
+unfolding headOf sizesOf
 earlier-right strategy parity basis folded c head coefficients bounds steps x accepted stored =
-    let today = headFor strategy parity basis folded c in
+    let a = head .interval .a in
+    let b = head .interval .b in
+    let today = headFor strategy parity basis folded c a b in
     let numbers = numbersFor strategy parity basis folded c in
     let held : Stored strategy parity basis folded c coefficients bounds numbers = record {
       more-coefficients = stored .more-coefficients;
@@ -125,11 +128,11 @@ earlier-right strategy parity basis folded c head coefficients bounds steps x ac
       steps-are = sym (append-nil numbers);
     } in
     let steps-alike : map anyCombine (lentSteps head steps) ≡ map anyCombine (lentSteps today numbers) =
-    stored .steps-are ∙ ap (map anyCombine) (sym (lent-steps strategy parity basis folded c coefficients bounds numbers held)) in
+    stored .steps-are ∙ ap (map anyCombine) (sym (lent-steps strategy parity basis folded c a b coefficients bounds numbers held)) in
     let exact : exactWalk head coefficients bounds steps x ≡ some (value wholeOps basis x c) =
     walked-alike head today coefficients bounds steps numbers (stored .basis-is) (stored .parity-is) (stored .transform-is)
     (stored .coefficient-count) (stored .list-count) (stored .step-places) steps-alike
-    x (value wholeOps basis x c) (stored-right strategy parity basis folded c coefficients bounds numbers x accepted held .exact) in
+    x (value wholeOps basis x c) (stored-right strategy parity basis folded c a b coefficients bounds numbers x accepted held .exact) in
     record {
       exact = exact;
       trial = λ modulus low high. trial-follows head coefficients bounds steps x modulus low high .answers (value wholeOps basis x c) exact;

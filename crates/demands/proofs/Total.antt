@@ -7,6 +7,7 @@ use Prim.Native.Nat.{ℕ, zero, suc, _<_}
 use native.Mathlib.Omega.{arith}
 use borrow.Author.Tests.{ltb-false}
 use lib.Dec.{ltb}
+use lib.Ieee.{Float}
 use lib.IntN.{ℤ}
 use lib.ListN.{length}
 use Rattle.algebra.specs.Remainder.{rem}
@@ -22,7 +23,7 @@ use Rattle.number.specs.Split.{partsBy, partsOf, noParts, splitRefusal, splitOf
 use Rattle.number.specs.Tests.{noDegree, tooHigh, unordered, miscounted, outOfRange, tooWide, noRoom}
 use Rattle.number.specs.declared.fold.Folded.{Folded}
 use Rattle.number.specs.declared.split.Parts.{Parts}
-use Rattle.number.proofs.Refusal.{none-holds, refusals-say, when-refused, when-accepted}
+use Rattle.number.proofs.Refusal.{none-holds, numbered-append, refusals-say, when-refused, when-accepted}
 use Rattle.interpolation.specs.InterpolateCall.{interpolateRefusal, interpolateAnswer, interpolateBuffer}
 use Rattle.interpolation.specs.declared.Interpolated.{Interpolated}
 use Rattle.counts.specs.Calls.{noSplit, minDepthRefusal, minDepthCall, minMultRefusal, minMultCall, noCounts, countsRefusal, countsCall}
@@ -56,22 +57,18 @@ use Rattle.walk.proofs.TrialFollows.{trial-follows}
 use Rattle.walk.proofs.Paths.{heaviest-greatest}
 use Rattle.walk.proofs.ChainLaws.{one-made}
 use Rattle.plan.specs.PlanHead.{noHead}
-use Rattle.plan.specs.PlanCall.{plannedParity, settingsTests, inputTests, planTests, planRefusal}
+use Rattle.plan.specs.PlanCall.{plannedParity, settingsTests, earlyTests, planTests, planRefusal}
 use Rattle.plan.specs.PlanCall.{planAnswer, planCoefficients, planBoundaries, planNumbers, PlanCall}
 use Rattle.plan.specs.PlanSizes.{degreeToPlan, sizesOf, noSizes, sizesRefusal, sizesCall}
 use Rattle.plan.specs.declared.call.Planned.{Planned}
 use Rattle.plan.specs.declared.sizes.PlanSizes.{PlanSizes}
 use Rattle.demands.specs.Total.{Ends, answers, refuses, ZeroHead, PlansTotal, PlansMade, PlanOrder, FoldsTotal, ListsTotal}
 use Rattle.demands.specs.Total.{TrialAnswered, TrialsTotal, ChainsTotal, InterpolationsTotal, NumbersTotal}
-use Rattle.plan.proofs.PlanTests.{settings-numbered, inputs-numbered}
-use Rattle.demands.proofs.Refusals.{refusal-of, lateTests, plan-made, made-accepted, made-long}
+use Rattle.plan.proofs.PlanTests.{settings-numbered, early-numbered}
+use Rattle.demands.proofs.Refusals.{refusal-of, lateTests, plan-made, made-brings}
 use Rattle.demands.proofs.Right.{plans-right}
 
 -- ---- a call by its tests
-
-numbered-append : (tests later : List Test) → Numbered tests → Numbered later → Numbered (tests ++ later)
-numbered-append [] later first second = second
-numbered-append (test ∷ tests) later first second = (first .0, numbered-append tests later (first .1) second)
 
 ends : (tests : List Test) (refusal : ℕ) {Answered Refused : Type 0} → Numbered tests → refusal ≡ firstRefusal tests → (refusal ≡ 0 → Answered)
     → (0 < refusal → Refused) → Ends tests refusal Answered Refused
@@ -81,14 +78,14 @@ ends tests (suc k) {Answered} {Refused} numbers is made refused =
 
 -- ---- the plan call
 
-module _ (strategy : SplitStrategy) (parity : Parity) (basis : Basis) (folds : Bool) (c out : List ℤ) (bounds steps : List ℕ) (r : Planned)
-    (out′ : List ℤ) (bounds′ steps′ : List ℕ) (call : PlanCall strategy parity basis folds c out bounds steps r out′ bounds′ steps′) where
+module _ (strategy : SplitStrategy) (parity : Parity) (basis : Basis) (folds : Bool) (c : List ℤ) (a b : Float) (out : List ℤ) (bounds steps : List ℕ)
+    (r : Planned) (out′ : List ℤ) (bounds′ steps′ : List ℕ) (call : PlanCall strategy parity basis folds c a b out bounds steps r out′ bounds′ steps′) where
   abbrev k : ℕ
-  k = planRefusal strategy parity basis folds c out bounds steps
+  k = planRefusal strategy parity basis folds c a b out bounds steps
 
-  tests-numbered : Numbered (planTests strategy parity basis folds c out bounds steps)
+  tests-numbered : Numbered (planTests strategy parity basis folds c a b out bounds steps)
   tests-numbered =
-      numbered-append (inputTests folds parity c) (lateTests strategy parity basis folds c out bounds steps) (inputs-numbered folds parity c)
+      numbered-append (earlyTests folds parity c a b) (lateTests strategy parity basis folds c a b out bounds steps) (early-numbered folds parity c a b)
       (omega arith, (omega arith, (omega arith, tt)))
 
   pub refusal-is : r .refusal ≡ k
@@ -113,36 +110,36 @@ zero-head = record {
   coefficients = refl;
   lists = refl;
   steps = refl;
+  interval = refl;
 }
 
 pub plans-total : PlansTotal
 unfolding planRefusal planCoefficients planBoundaries planNumbers
-plans-total strategy parity basis folds c out bounds steps r out′ bounds′ steps′ call =
-    let refusal = refusal-is strategy parity basis folds c out bounds steps r out′ bounds′ steps′ call in
-    ends (planTests strategy parity basis folds c out bounds steps) (r .refusal)
-    (tests-numbered strategy parity basis folds c out bounds steps r out′ bounds′ steps′ call) refusal
+plans-total strategy parity basis folds c a b out bounds steps r out′ bounds′ steps′ call =
+    let refusal = refusal-is strategy parity basis folds c a b out bounds steps r out′ bounds′ steps′ call in
+    ends (planTests strategy parity basis folds c a b out bounds steps) (r .refusal)
+    (tests-numbered strategy parity basis folds c a b out bounds steps r out′ bounds′ steps′ call) refusal
     (λ accepted. let made = sym refusal ∙ accepted in
-    plans-right strategy parity basis folds c out bounds steps r out′ bounds′ steps′
-    (made-accepted strategy parity basis folds c out bounds steps made) (made-long strategy parity basis folds c out bounds steps made) call)
-    (λ refused. let some-test : 0 < planRefusal strategy parity basis folds c out bounds steps = rw refusal at refused in
+    plans-right strategy parity basis folds c a b out bounds steps r out′ bounds′ steps′
+    (made-brings strategy parity basis folds c a b out bounds steps made) call)
+    (λ refused. let some-test : 0 < planRefusal strategy parity basis folds c a b out bounds steps = rw refusal at refused in
     record {
-      zero-head = subst ZeroHead (sym (no-head strategy parity basis folds c out bounds steps r out′ bounds′ steps′ call some-test)) zero-head;
+      zero-head = subst ZeroHead (sym (no-head strategy parity basis folds c a b out bounds steps r out′ bounds′ steps′ call some-test)) zero-head;
       coefficients = call .coefficients ∙ sym (when-refused _ _ out some-test);
       boundaries = call .boundaries ∙ sym (when-refused _ _ bounds some-test);
       numbers = call .numbers ∙ sym (when-refused _ _ steps some-test);
     })
 
 pub plans-made : PlansMade
-plans-made strategy parity basis folds c out bounds steps r out′ bounds′ steps′ call =
-    let refusal = refusal-is strategy parity basis folds c out bounds steps r out′ bounds′ steps′ call in (
-      λ accepted. let made = sym refusal ∙ accepted in
-          (made-accepted strategy parity basis folds c out bounds steps made, made-long strategy parity basis folds c out bounds steps made),
-      λ both. refusal ∙ plan-made strategy parity basis folds c out bounds steps (both .0) (both .1),
+plans-made strategy parity basis folds c a b out bounds steps r out′ bounds′ steps′ call =
+    let refusal = refusal-is strategy parity basis folds c a b out bounds steps r out′ bounds′ steps′ call in (
+      λ accepted. made-brings strategy parity basis folds c a b out bounds steps (sym refusal ∙ accepted),
+      λ brings. refusal ∙ plan-made strategy parity basis folds c a b out bounds steps brings,
     )
 
-pub plan-order : (strategy : SplitStrategy) (parity : Parity) (basis : Basis) (c out : List ℤ) (bounds steps : List ℕ)
-    → PlanOrder strategy parity basis c out bounds steps
-plan-order strategy parity basis c out bounds steps = record { unfolded = refl; with-folding = refl }
+pub plan-order : (strategy : SplitStrategy) (parity : Parity) (basis : Basis) (c : List ℤ) (a b : Float) (out : List ℤ) (bounds steps : List ℕ)
+    → PlanOrder strategy parity basis c a b out bounds steps
+plan-order strategy parity basis c a b out bounds steps = record { unfolded = refl; with-folding = refl }
 
 -- ---- the fold call
 

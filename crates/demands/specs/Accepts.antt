@@ -1,9 +1,11 @@
--- Demand 3, "every accepted whole-number polynomial": which these are. A plan is made of it if the lent buffers are long enough.
+-- Demand 3, "every accepted whole-number polynomial": which these are. On an interval whose lower bound is below its upper one a plan is made of it, if
+-- the lent buffers are long enough.
 use mathlib.Core.Path.{_≡_}
 use mathlib.Core.Bool.{Bool, true}
 use mathlib.Core.Logic.{_↔_}
 use mathlib.Core.List.{List}
 use Prim.Native.Nat.{ℕ, _^_, _≤_}
+use lib.Ieee.{Float}
 use lib.IntN.{ℤ}
 use lib.ListN.{length}
 use Rattle.algebra.specs.Operations.{wholeOps}
@@ -12,10 +14,11 @@ use Rattle.algebra.specs.Magnitude.{sumAbs}
 use Rattle.algebra.specs.declared.Basis.{Basis}
 use Rattle.algebra.specs.declared.Parity.{Parity}
 use Rattle.algebra.specs.declared.Parity.the-variants.{Full, Even, Odd}
+use Rattle.number.specs.Interval.{Ordered}
 use Rattle.number.specs.Tests.{degreeOf}
 use Rattle.counts.specs.declared.choice.SplitStrategy.{SplitStrategy}
-use Rattle.plan.specs.PlanCall.{Accepted, headFor}
-use Rattle.plan.specs.PlanSizes.{sizesIn, HasSizes}
+use Rattle.plan.specs.PlanCall.{Accepted}
+use Rattle.plan.specs.PlanSizes.{sizesFor, HasSizes}
 
 -- folding is for Even from degree 2 on and for Odd from degree 3 on
 abbrev pub Foldable : Parity → (degree : ℕ) → Type 0
@@ -36,7 +39,9 @@ pub record Covered (folded : Bool) (parity : Parity) (c : List ℤ) : Type 0 whe
 abbrev pub CoveredAccepted : Type 0
 CoveredAccepted = (folded : Bool) (parity : Parity) (c : List ℤ) → Accepted folded parity c ↔ Covered folded parity c
 
--- long enough buffers: they have the sizes that the plan's head tells
-abbrev pub LongEnough : SplitStrategy → Parity → Basis → (folded : Bool) → (c out : List ℤ) → (bounds steps : List ℕ) → Type 0
-LongEnough strategy parity basis folded c out bounds steps =
-    HasSizes (sizesIn (headFor strategy parity basis folded c)) (length out) (length bounds) (length steps)
+-- what brings a plan: an accepted polynomial, bounds in order, and long enough buffers, which have the sizes of the plan
+pub record BringsPlan (strategy : SplitStrategy) (parity : Parity) (basis : Basis) (folded : Bool) (c : List ℤ) (a b : Float) (out : List ℤ)
+    (bounds steps : List ℕ) : Type 0 where
+  pub accepted : Accepted folded parity c
+  pub ordered : Ordered a b
+  pub long-enough : HasSizes (sizesFor strategy parity basis folded c) (length out) (length bounds) (length steps)

@@ -4,6 +4,7 @@ use mathlib.Core.Path.{_≡_}
 use mathlib.Core.Bool.{Bool, true, false}
 use mathlib.Core.List.{List, [], _∷_}
 use Prim.Native.Nat.{ℕ, _+_, _-_}
+use lib.Ieee.{Float}
 use lib.IntN.{ℤ}
 use lib.ListN.{take}
 use Rattle.algebra.specs.declared.Basis.{Basis}
@@ -14,9 +15,9 @@ use Rattle.walk.specs.Lent.{lentSteps}
 use Rattle.walk.specs.declared.plan.Head.{Head}
 use Rattle.walk.specs.declared.plan.Step.{Step}
 use Rattle.plan.specs.Reported.{ofKind, allowedIn, transformCost}
-use Rattle.plan.specs.PlanCall.{plannedTransform, Accepted, PlanCall}
+use Rattle.plan.specs.PlanCall.{plannedTransform, PlanCall}
 use Rattle.plan.specs.declared.call.Planned.{Planned}
-use Rattle.demands.specs.Accepts.{LongEnough}
+use Rattle.demands.specs.Accepts.{BringsPlan}
 
 -- ---- "Encrypted multiplications reported = steps of kind 1 + steps of kind 3 + 0, 1 or 2 for the transform."
 
@@ -33,9 +34,9 @@ pub record Reports (head : Head) (lengths : List ℕ) (steps : List Step) : Type
 
 -- the steps and boundaries are those that the call left in the lent buffers
 abbrev pub PlansReport : Type 0
-PlansReport = (strategy : SplitStrategy) (parity : Parity) (basis : Basis) (folded : Bool) (c out : List ℤ) (bounds steps : List ℕ) (r : Planned)
-    (out′ : List ℤ) (bounds′ steps′ : List ℕ) → Accepted folded parity c → LongEnough strategy parity basis folded c out bounds steps
-    → PlanCall strategy parity basis folded c out bounds steps r out′ bounds′ steps′
+PlansReport = (strategy : SplitStrategy) (parity : Parity) (basis : Basis) (folded : Bool) (c : List ℤ) (a b : Float) (out : List ℤ)
+    (bounds steps : List ℕ) (r : Planned) (out′ : List ℤ) (bounds′ steps′ : List ℕ) → BringsPlan strategy parity basis folded c a b out bounds steps
+    → PlanCall strategy parity basis folded c a b out bounds steps r out′ bounds′ steps′
     → Reports (r .head) (lengthsFrom 0 (take (r .head .lists) bounds′)) (lentSteps (r .head) steps′)
 
 -- the transform's are 0 without folding, 1 for Even, 2 for Odd

@@ -3,6 +3,7 @@
 -- proves them all.
 use mathlib.Core.List.{List}
 use Prim.Native.Nat.{ℕ}
+use lib.Ieee.{Float}
 use lib.IntN.{ℤ}
 use Rattle.algebra.specs.declared.Basis.{Basis}
 use Rattle.algebra.specs.declared.Parity.{Parity}
@@ -25,8 +26,8 @@ pub record Total : Type 1 where
   -- document 01. A refusal carries zero in every other field and changes no lent buffer."
   pub plans-total : PlansTotal
   pub plans-made : PlansMade
-  pub plan-order : (strategy : SplitStrategy) (parity : Parity) (basis : Basis) (c out : List ℤ) (bounds steps : List ℕ)
-      → PlanOrder strategy parity basis c out bounds steps
+  pub plan-order : (strategy : SplitStrategy) (parity : Parity) (basis : Basis) (c : List ℤ) (a b : Float) (out : List ℤ) (bounds steps : List ℕ)
+      → PlanOrder strategy parity basis c a b out bounds steps
   -- "No call relies on a test by its caller." The other calls, too, end so on any arguments.
   pub folds-total : (A : Type 0) → FoldsTotal A
   pub lists-total : (A : Type 0) → ListsTotal A

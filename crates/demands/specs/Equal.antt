@@ -132,5 +132,5 @@ pub record PlanEqual (strategy : SplitStrategy) (parity : Parity) (basis : Basis
       → ListsPlan head (coefficientsFor strategy parity basis folded c) (boundariesFor strategy parity basis folded c) out bounds r out′ bounds′
 
 abbrev pub PlansEqual : Type 0
-PlansEqual = (strategy : SplitStrategy) (parity : Parity) (basis : Basis) (folded : Bool) (c : List ℤ) → Accepted folded parity c
-    → PlanEqual strategy parity basis folded c (headFor strategy parity basis folded c)
+PlansEqual = (strategy : SplitStrategy) (parity : Parity) (basis : Basis) (folded : Bool) (c : List ℤ) (a b : Float) → Accepted folded parity c
+    → PlanEqual strategy parity basis folded c (headFor strategy parity basis folded c a b)

@@ -5,6 +5,7 @@ use mathlib.Core.Path.{_≡_}
 use mathlib.Core.Bool.{Bool, false, not, cond, _&&_}
 use mathlib.Core.List.{List}
 use Prim.Native.Nat.{ℕ, suc, _+_, _^_, _≤_}
+use lib.Ieee.{Float}
 use lib.IntN.{ℤ}
 use lib.ListN.{take}
 use Rattle.algebra.specs.declared.Basis.{Basis}
@@ -24,9 +25,9 @@ use Rattle.walk.specs.declared.plan.Head.{Head}
 use Rattle.plan.specs.PlanSteps.{stepsAt}
 use Rattle.plan.specs.PlanHead.{planCounts}
 use Rattle.plan.specs.Reported.{transformCost, reported}
-use Rattle.plan.specs.PlanCall.{Accepted, PlanCall}
+use Rattle.plan.specs.PlanCall.{PlanCall}
 use Rattle.plan.specs.declared.call.Planned.{Planned}
-use Rattle.demands.specs.Accepts.{LongEnough}
+use Rattle.demands.specs.Accepts.{BringsPlan}
 use Rattle.demands.specs.Counted.{lengthsFrom}
 use Rattle.demands.specs.PlainStep.{loneLast}
 
@@ -54,9 +55,9 @@ pub record Estimated (head : Head) (lengths : List ℕ) : Type 0 where
 
 -- folded or not; the boundaries are those that the call left in the lent buffer
 abbrev pub PlansEstimated : Type 0
-PlansEstimated = (parity : Parity) (basis : Basis) (folded : Bool) (c out : List ℤ) (bounds steps : List ℕ) (r : Planned)
-    (out′ : List ℤ) (bounds′ steps′ : List ℕ) → Accepted folded parity c → LongEnough MinMult parity basis folded c out bounds steps
-    → PlanCall MinMult parity basis folded c out bounds steps r out′ bounds′ steps′
+PlansEstimated = (parity : Parity) (basis : Basis) (folded : Bool) (c : List ℤ) (a b : Float) (out : List ℤ)
+    (bounds steps : List ℕ) (r : Planned) (out′ : List ℤ) (bounds′ steps′ : List ℕ) → BringsPlan MinMult parity basis folded c a b out bounds steps
+    → PlanCall MinMult parity basis folded c a b out bounds steps r out′ bounds′ steps′
     → Estimated (r .head) (lengthsFrom 0 (take (r .head .lists) bounds′))
 
 -- ---- why it is said of the estimate

@@ -3,10 +3,12 @@ use mathlib.Core.Path.{_≡_}
 use mathlib.Core.Bool.{Bool}
 use mathlib.Core.List.{List}
 use Prim.Native.Nat.{ℕ, _+_, _*_, _^_}
+use lib.Ieee.{Float}
 use lib.IntN.{ℤ}
 use lib.ListN.{length}
 use Rattle.algebra.specs.declared.Basis.{Basis}
 use Rattle.algebra.specs.declared.Parity.{Parity}
+use Rattle.number.specs.Interval.{changeOfBasis}
 use Rattle.number.specs.Tests.{degreeOf}
 use Rattle.needed.specs.NeededList.{neededCount}
 use Rattle.counts.specs.Choice.{splitFor}
@@ -14,12 +16,12 @@ use Rattle.counts.specs.Depth.{depthOf}
 use Rattle.counts.specs.declared.choice.SplitStrategy.{SplitStrategy}
 use Rattle.walk.specs.declared.plan.Head.{Head}
 use Rattle.plan.specs.Reported.{transformCost}
-use Rattle.plan.specs.PlanCall.{plannedParity, plannedTransform, Accepted, planned, PlanCall}
+use Rattle.plan.specs.PlanCall.{plannedParity, plannedTransform, planned, PlanCall}
 use Rattle.plan.specs.declared.call.Planned.{Planned}
-use Rattle.demands.specs.Accepts.{LongEnough}
+use Rattle.demands.specs.Accepts.{BringsPlan}
 use Rattle.demands.specs.Right.{listsFor, stepsFor}
 
-pub record HeadTold (strategy : SplitStrategy) (parity : Parity) (basis : Basis) (folded : Bool) (c : List ℤ) (head : Head) : Type 0 where
+pub record HeadTold (strategy : SplitStrategy) (parity : Parity) (basis : Basis) (folded : Bool) (c : List ℤ) (a b : Float) (head : Head) : Type 0 where
   -- the settings; when folded the parity is Full, and the transform that of the fold
   pub basis-is : head .basis ≡ basis
   pub strategy-is : head .strategy ≡ strategy
@@ -35,8 +37,10 @@ pub record HeadTold (strategy : SplitStrategy) (parity : Parity) (basis : Basis)
   pub steps-are : head .steps ≡ length (stepsFor strategy parity basis folded c)
   pub steps-count : head .steps + 1
       ≡ neededCount (head .parity) basis (head .degree) (splitFor strategy (head .parity) basis (head .degree)) + 2 * head .lists
+  -- the interval of the polynomial handed in, folded or not, with its change pair
+  pub interval-is : head .interval ≡ changeOfBasis basis a b
 
 abbrev pub HeadsTold : Type 0
-HeadsTold = (strategy : SplitStrategy) (parity : Parity) (basis : Basis) (folded : Bool) (c out : List ℤ) (bounds steps : List ℕ) (r : Planned)
-    (out′ : List ℤ) (bounds′ steps′ : List ℕ) → Accepted folded parity c → LongEnough strategy parity basis folded c out bounds steps
-    → PlanCall strategy parity basis folded c out bounds steps r out′ bounds′ steps′ → HeadTold strategy parity basis folded c (r .head)
+HeadsTold = (strategy : SplitStrategy) (parity : Parity) (basis : Basis) (folded : Bool) (c : List ℤ) (a b : Float) (out : List ℤ)
+    (bounds steps : List ℕ) (r : Planned) (out′ : List ℤ) (bounds′ steps′ : List ℕ) → BringsPlan strategy parity basis folded c a b out bounds steps
+    → PlanCall strategy parity basis folded c a b out bounds steps r out′ bounds′ steps′ → HeadTold strategy parity basis folded c a b (r .head)

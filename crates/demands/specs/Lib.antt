@@ -13,4 +13,5 @@ pub mod Fits
 pub mod Starred
 pub mod Sized
 pub mod Weighed
+pub mod HeadInterval
 pub mod Requests

@@ -5,6 +5,7 @@ use mathlib.Core.Bool.{Bool}
 use mathlib.Core.List.{List, _∷_, _++_, List·Memᴰ}
 use mathlib.Core.Option.{some}
 use Prim.Native.Nat.{ℕ}
+use lib.Ieee.{Float}
 use lib.IntN.{ℤ}
 use Rattle.algebra.specs.declared.Basis.{Basis}
 use Rattle.algebra.specs.declared.Parity.{Parity}
@@ -15,9 +16,9 @@ use Rattle.walk.specs.Uses.{usesOf}
 use Rattle.walk.specs.Lent.{lentLists, lentSteps, lentWalk}
 use Rattle.walk.specs.declared.plan.Head.{Head}
 use Rattle.walk.specs.declared.plan.Step.{Step}
-use Rattle.plan.specs.PlanCall.{Accepted, PlanCall}
+use Rattle.plan.specs.PlanCall.{PlanCall}
 use Rattle.plan.specs.declared.call.Planned.{Planned}
-use Rattle.demands.specs.Accepts.{LongEnough}
+use Rattle.demands.specs.Accepts.{BringsPlan}
 
 -- power m can be used after the earlier steps: it is the constant 1; or x, when folded y; or one of them, of kind 1, made it
 pub data Usable (earlier : List Step) (m : ℕ) : Type 0 where
@@ -32,9 +33,9 @@ MadeBefore parity basis lists steps = (earlier : List Step) (step : Step) (later
 
 -- so it is with every plan that the call leaves in lent buffers
 abbrev pub PlansMadeBefore : Type 0
-PlansMadeBefore = (strategy : SplitStrategy) (parity : Parity) (basis : Basis) (folded : Bool) (c out : List ℤ) (bounds steps : List ℕ) (r : Planned)
-    (out′ : List ℤ) (bounds′ steps′ : List ℕ) → Accepted folded parity c → LongEnough strategy parity basis folded c out bounds steps
-    → PlanCall strategy parity basis folded c out bounds steps r out′ bounds′ steps′
+PlansMadeBefore = (strategy : SplitStrategy) (parity : Parity) (basis : Basis) (folded : Bool) (c : List ℤ) (a b : Float) (out : List ℤ)
+    (bounds steps : List ℕ) (r : Planned) (out′ : List ℤ) (bounds′ steps′ : List ℕ) → BringsPlan strategy parity basis folded c a b out bounds steps
+    → PlanCall strategy parity basis folded c a b out bounds steps r out′ bounds′ steps′
     → MadeBefore (r .head .parity) (r .head .basis) (lentLists (r .head) out′ bounds′) (lentSteps (r .head) steps′)
 
 -- and with every lent plan that a walk can run, planned by us or not

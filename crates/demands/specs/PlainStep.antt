@@ -4,6 +4,7 @@ use mathlib.Core.Bool.{Bool, true, false, _&&_}
 use mathlib.Core.List.{List, [], _∷_, _++_}
 use Prim.Native.Nat.{ℕ, _+_, _-_, _*_, _^_, _≤_, _<_}
 use lib.Dec.{leb, eqb}
+use lib.Ieee.{Float}
 use lib.IntN.{ℤ}
 use lib.ListN.{length, take}
 use Rattle.algebra.specs.declared.Basis.{Basis}
@@ -15,9 +16,9 @@ use Rattle.walk.specs.Lent.{lentSteps}
 use Rattle.walk.specs.declared.plan.Step.{Step}
 use Rattle.plan.specs.PlanSteps.{loadStep, combineStep}
 use Rattle.plan.specs.Reported.{ofKind}
-use Rattle.plan.specs.PlanCall.{Accepted, PlanCall}
+use Rattle.plan.specs.PlanCall.{PlanCall}
 use Rattle.plan.specs.declared.call.Planned.{Planned}
-use Rattle.demands.specs.Accepts.{LongEnough}
+use Rattle.demands.specs.Accepts.{BringsPlan}
 use Rattle.demands.specs.Counted.{lengthsFrom}
 
 -- "a last list of one, after another list": there are two or more lists, and the last of their lengths is 1
@@ -51,7 +52,7 @@ pub record PlainStep (degree base : ℕ) (lengths : List ℕ) (steps : List Step
 
 -- the steps and boundaries are those that the call left in the lent buffers
 abbrev pub PlansPlain : Type 0
-PlansPlain = (strategy : SplitStrategy) (parity : Parity) (basis : Basis) (folded : Bool) (c out : List ℤ) (bounds steps : List ℕ) (r : Planned)
-    (out′ : List ℤ) (bounds′ steps′ : List ℕ) → Accepted folded parity c → LongEnough strategy parity basis folded c out bounds steps
-    → PlanCall strategy parity basis folded c out bounds steps r out′ bounds′ steps′
+PlansPlain = (strategy : SplitStrategy) (parity : Parity) (basis : Basis) (folded : Bool) (c : List ℤ) (a b : Float) (out : List ℤ)
+    (bounds steps : List ℕ) (r : Planned) (out′ : List ℤ) (bounds′ steps′ : List ℕ) → BringsPlan strategy parity basis folded c a b out bounds steps
+    → PlanCall strategy parity basis folded c a b out bounds steps r out′ bounds′ steps′
     → PlainStep (r .head .degree) (r .head .base) (lengthsFrom 0 (take (r .head .lists) bounds′)) (lentSteps (r .head) steps′)

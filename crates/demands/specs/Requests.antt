@@ -13,12 +13,14 @@ use Rattle.walk.specs.Paths.{HeaviestGreatest}
 use Rattle.walk.specs.StepsWeigh.{StepsWeigh}
 use Rattle.walk.specs.UnusedPower.{UnusedLeftOut}
 use Rattle.walk.specs.HeaviestChain.{HeaviestChain}
+use Rattle.walk.specs.IntervalUnread.{IntervalUnread}
 use Rattle.demands.specs.Total.{numbersOf}
 use Rattle.demands.specs.Sized.{PlansSized, SizesOrder}
 use Rattle.demands.specs.PlainStep.{PlansPlain}
 use Rattle.demands.specs.Estimated.{PlansEstimated, CheaperReported}
 use Rattle.demands.specs.StoredEarlier.{EarlierRight}
 use Rattle.demands.specs.Weighed.{StoredWeighed, PlansWeighed, ChainOrder}
+use Rattle.demands.specs.HeadInterval.{IntervalsTold, UnorderedRefused, PlansAlike}
 
 -- Q-1. Buffer sizes before the curve is there.
 pub record BufferSizes : Type 0 where
@@ -81,9 +83,21 @@ pub record SplitWithDistance : Type 1 where
   -- that makes power n wants:
   pub split-product : {A : Type 0} (𝓡 : Ring A) → SplitProduct 𝓡
 
+-- Q-7. The interval rides in the head.
+pub record IntervalInHead : Type 1 where
+  -- "The plan head gains the interval and its change pair, with bits as `change_of_basis` gives them. Folding keeps the source interval."
+  pub intervals-told : IntervalsTold
+  -- "The walk doesn't read these four numbers, so its value is the same for any interval." Nor do the trial walk and the heaviest chain.
+  pub interval-unread : IntervalUnread
+  -- "A plan whose lower bound isn't below its upper one is refused with 7, after 3 and before 21." That the tests are in this order is in specs/Total.
+  pub unordered-refused : UnorderedRefused
+  -- Lists, boundaries, steps and all else in the head are the same on any interval that is not refused. The sizes of Q-1 take none.
+  pub plans-alike : PlansAlike
+
 pub record Requests : Type 1 where
   pub buffer-sizes : BufferSizes
   pub last-constant : LastConstant
   pub plan-chains : PlanChains
   pub degree-for-budget : DegreeForBudget
   pub split-with-distance : SplitWithDistance
+  pub interval-in-head : IntervalInHead

@@ -4,6 +4,7 @@ use mathlib.Core.Bool.{Bool, false}
 use mathlib.Core.List.{List, _++_}
 use mathlib.Core.Option.{some}
 use Prim.Native.Nat.{ℕ, _*_, _≤_}
+use lib.Ieee.{Float}
 use lib.IntN.{ℤ}
 use lib.ListN.{drop}
 use Rattle.algebra.specs.Operations.{wholeOps}
@@ -28,7 +29,7 @@ use Rattle.plan.specs.PlanSteps.{planSteps}
 use Rattle.plan.specs.PlanCall.{plannedParity, plannedTransform, Accepted, planned, plannedDegree, tree, headFor, coefficientsFor, boundariesFor}
 use Rattle.plan.specs.PlanCall.{numbersFor, PlanCall}
 use Rattle.plan.specs.declared.call.Planned.{Planned}
-use Rattle.demands.specs.Accepts.{LongEnough}
+use Rattle.demands.specs.Accepts.{BringsPlan}
 
 -- a plan's lists and steps
 module _ (strategy : SplitStrategy) (parity : Parity) (basis : Basis) (folded : Bool) (c : List ℤ) where
@@ -69,17 +70,18 @@ pub record Stored (strategy : SplitStrategy) (parity : Parity) (basis : Basis) (
   pub bounds-are : bounds ≡ boundariesFor strategy parity basis folded c ++ more-bounds
   pub steps-are : steps ≡ numbersFor strategy parity basis folded c ++ more-steps
 
--- so it is with a plan, wherever it is stored
+-- so it is with a plan, wherever it is stored and whatever its interval
 abbrev pub StoredRight : Type 0
-StoredRight = (strategy : SplitStrategy) (parity : Parity) (basis : Basis) (folded : Bool) (c coefficients : List ℤ) (bounds steps : List ℕ) (x : ℤ)
-    → Accepted folded parity c → Stored strategy parity basis folded c coefficients bounds steps
-    → WalksRight (headFor strategy parity basis folded c) coefficients bounds steps basis c x
+StoredRight = (strategy : SplitStrategy) (parity : Parity) (basis : Basis) (folded : Bool) (c : List ℤ) (a b : Float) (coefficients : List ℤ)
+    (bounds steps : List ℕ) (x : ℤ) → Accepted folded parity c → Stored strategy parity basis folded c coefficients bounds steps
+    → WalksRight (headFor strategy parity basis folded c a b) coefficients bounds steps basis c x
 
--- of an accepted polynomial and long enough buffers the call makes a plan. What it leaves in the buffers, however long they are and whatever stood in
--- them, gives the value when it is walked with the head that it answers; the places beyond the plan are as they were.
-pub record PlanRight (strategy : SplitStrategy) (parity : Parity) (basis : Basis) (folded : Bool) (c out : List ℤ) (bounds steps : List ℕ)
-    (r : Planned) (out′ : List ℤ) (bounds′ steps′ : List ℕ) : Type 0 where
-  pub answer : r ≡ record { refusal = 0; head = headFor strategy parity basis folded c }
+-- of an accepted polynomial, on every interval with its bounds in order and with long enough buffers, the call makes a plan. What it leaves in the
+-- buffers, however long they are and whatever stood in them, gives the value when it is walked with the head that it answers; the places beyond the
+-- plan are as they were.
+pub record PlanRight (strategy : SplitStrategy) (parity : Parity) (basis : Basis) (folded : Bool) (c : List ℤ) (a b : Float) (out : List ℤ)
+    (bounds steps : List ℕ) (r : Planned) (out′ : List ℤ) (bounds′ steps′ : List ℕ) : Type 0 where
+  pub answer : r ≡ record { refusal = 0; head = headFor strategy parity basis folded c a b }
   pub stored : Stored strategy parity basis folded c out′ bounds′ steps′
   pub coefficients-beyond : stored .more-coefficients ≡ drop (r .head .coefficients) out
   pub bounds-beyond : stored .more-bounds ≡ drop (r .head .lists) bounds
@@ -87,7 +89,7 @@ pub record PlanRight (strategy : SplitStrategy) (parity : Parity) (basis : Basis
   pub walks : (x : ℤ) → WalksRight (r .head) out′ bounds′ steps′ basis c x
 
 abbrev pub PlansRight : Type 0
-PlansRight = (strategy : SplitStrategy) (parity : Parity) (basis : Basis) (folded : Bool) (c out : List ℤ) (bounds steps : List ℕ) (r : Planned)
-    (out′ : List ℤ) (bounds′ steps′ : List ℕ) → Accepted folded parity c → LongEnough strategy parity basis folded c out bounds steps
-    → PlanCall strategy parity basis folded c out bounds steps r out′ bounds′ steps′
-    → PlanRight strategy parity basis folded c out bounds steps r out′ bounds′ steps′
+PlansRight = (strategy : SplitStrategy) (parity : Parity) (basis : Basis) (folded : Bool) (c : List ℤ) (a b : Float) (out : List ℤ)
+    (bounds steps : List ℕ) (r : Planned) (out′ : List ℤ) (bounds′ steps′ : List ℕ) → BringsPlan strategy parity basis folded c a b out bounds steps
+    → PlanCall strategy parity basis folded c a b out bounds steps r out′ bounds′ steps′
+    → PlanRight strategy parity basis folded c a b out bounds steps r out′ bounds′ steps′

@@ -13,7 +13,8 @@ use Rattle.counts.specs.declared.choice.SplitStrategy.{SplitStrategy}
 use Rattle.walk.specs.Lent.{lentSteps}
 use Rattle.walk.specs.declared.plan.Head.{Head}
 use Rattle.walk.specs.declared.plan.Step.{Step}
-use Rattle.plan.specs.PlanCall.{plannedParity, plannedTransform, Accepted, headFor, coefficientsFor, boundariesFor}
+use Rattle.plan.specs.PlanCall.{plannedParity, plannedTransform, Accepted, coefficientsFor, boundariesFor}
+use Rattle.plan.specs.PlanSizes.{sizesFor}
 use Rattle.demands.specs.Right.{stepsFor, WalksRight}
 
 -- a step, a plain combine being taken as any other
@@ -26,8 +27,8 @@ pub record StoredEarlier (strategy : SplitStrategy) (parity : Parity) (basis : B
   pub basis-is : head .basis ≡ basis
   pub parity-is : head .parity ≡ plannedParity folded parity
   pub transform-is : head .transform ≡ plannedTransform folded parity basis
-  pub coefficient-count : head .coefficients ≡ headFor strategy parity basis folded c .coefficients
-  pub list-count : head .lists ≡ headFor strategy parity basis folded c .lists
+  pub coefficient-count : head .coefficients ≡ sizesFor strategy parity basis folded c .coefficients
+  pub list-count : head .lists ≡ sizesFor strategy parity basis folded c .lists
   pub more-coefficients : List ℤ
   pub more-bounds : List ℕ
   pub coefficients-are : coefficients ≡ coefficientsFor strategy parity basis folded c ++ more-coefficients

@@ -45,10 +45,10 @@ use Rattle.walk.specs.Trial.{trialTests, trialOf}
 use Rattle.walk.specs.Chain.{chainTests, chainOf}
 use Rattle.walk.specs.HeaviestChain.{GreatestOfAnswer}
 use Rattle.walk.specs.declared.plan.Head.{Head}
-use Rattle.plan.specs.PlanCall.{plannedParity, settingsTests, Accepted, planTests, PlanCall}
+use Rattle.plan.specs.PlanCall.{plannedParity, settingsTests, planTests, PlanCall}
 use Rattle.plan.specs.PlanSizes.{degreeToPlan, sizesOf, noSizes, sizesCall}
 use Rattle.plan.specs.declared.call.Planned.{Planned}
-use Rattle.demands.specs.Accepts.{LongEnough}
+use Rattle.demands.specs.Accepts.{BringsPlan}
 use Rattle.demands.specs.Right.{PlanRight}
 
 -- how a call ends: none of its tests holds, and it answers; or it refuses with the number of the first test that holds
@@ -76,6 +76,8 @@ pub record ZeroHead (head : Head) : Type 0 where
   pub coefficients : head .coefficients ≡ 0
   pub lists : head .lists ≡ 0
   pub steps : head .steps ≡ 0
+  -- +0 in all four numbers
+  pub interval : head .interval ≡ noInterval
 
 pub record PlanRefused (head : Head) (out out′ : List ℤ) (bounds bounds′ steps steps′ : List ℕ) : Type 0 where
   pub zero-head : ZeroHead head
@@ -85,21 +87,24 @@ pub record PlanRefused (head : Head) (out out′ : List ℤ) (bounds bounds′ s
 
 -- a plan, which is right (specs/Right), or a refusal
 abbrev pub PlansTotal : Type 0
-PlansTotal = (strategy : SplitStrategy) (parity : Parity) (basis : Basis) (folds : Bool) (c out : List ℤ) (bounds steps : List ℕ) (r : Planned)
-    (out′ : List ℤ) (bounds′ steps′ : List ℕ) → PlanCall strategy parity basis folds c out bounds steps r out′ bounds′ steps′
-    → Ends (planTests strategy parity basis folds c out bounds steps) (r .refusal)
-    (PlanRight strategy parity basis folds c out bounds steps r out′ bounds′ steps′) (PlanRefused (r .head) out out′ bounds bounds′ steps steps′)
+PlansTotal = (strategy : SplitStrategy) (parity : Parity) (basis : Basis) (folds : Bool) (c : List ℤ) (a b : Float) (out : List ℤ)
+    (bounds steps : List ℕ) (r : Planned) (out′ : List ℤ) (bounds′ steps′ : List ℕ)
+    → PlanCall strategy parity basis folds c a b out bounds steps r out′ bounds′ steps′
+    → Ends (planTests strategy parity basis folds c a b out bounds steps) (r .refusal)
+    (PlanRight strategy parity basis folds c a b out bounds steps r out′ bounds′ steps′) (PlanRefused (r .head) out out′ bounds bounds′ steps steps′)
 
--- what is accepted, with long enough buffers, gets a plan, and only that
+-- what is accepted, with the interval's bounds in order and long enough buffers, gets a plan, and only that
 abbrev pub PlansMade : Type 0
-PlansMade = (strategy : SplitStrategy) (parity : Parity) (basis : Basis) (folds : Bool) (c out : List ℤ) (bounds steps : List ℕ) (r : Planned)
-    (out′ : List ℤ) (bounds′ steps′ : List ℕ) → PlanCall strategy parity basis folds c out bounds steps r out′ bounds′ steps′
-    → (r .refusal ≡ 0) ↔ (Accepted folds parity c × LongEnough strategy parity basis folds c out bounds steps)
+PlansMade = (strategy : SplitStrategy) (parity : Parity) (basis : Basis) (folds : Bool) (c : List ℤ) (a b : Float) (out : List ℤ)
+    (bounds steps : List ℕ) (r : Planned) (out′ : List ℤ) (bounds′ steps′ : List ℕ)
+    → PlanCall strategy parity basis folds c a b out bounds steps r out′ bounds′ steps′
+    → (r .refusal ≡ 0) ↔ BringsPlan strategy parity basis folds c a b out bounds steps
 
--- its refusal numbers, in document 01's order
-pub record PlanOrder (strategy : SplitStrategy) (parity : Parity) (basis : Basis) (c out : List ℤ) (bounds steps : List ℕ) : Type 0 where
-  pub unfolded : numbersOf (planTests strategy parity basis false c out bounds steps) ≡ 2 ∷ 1 ∷ 4 ∷ 3 ∷ 21 ∷ 22 ∷ 23 ∷ []
-  pub with-folding : numbersOf (planTests strategy parity basis true c out bounds steps) ≡ 2 ∷ 1 ∷ 5 ∷ 6 ∷ 4 ∷ 3 ∷ 21 ∷ 22 ∷ 23 ∷ []
+-- its refusal numbers, in document 01's order, with request Q-7's 7
+pub record PlanOrder (strategy : SplitStrategy) (parity : Parity) (basis : Basis) (c : List ℤ) (a b : Float) (out : List ℤ) (bounds steps : List ℕ)
+    : Type 0 where
+  pub unfolded : numbersOf (planTests strategy parity basis false c a b out bounds steps) ≡ 2 ∷ 1 ∷ 4 ∷ 3 ∷ 7 ∷ 21 ∷ 22 ∷ 23 ∷ []
+  pub with-folding : numbersOf (planTests strategy parity basis true c a b out bounds steps) ≡ 2 ∷ 1 ∷ 5 ∷ 6 ∷ 4 ∷ 3 ∷ 7 ∷ 21 ∷ 22 ∷ 23 ∷ []
 
 -- ---- the other calls on polynomials and plans, on whole numbers or f64
 

@@ -4,6 +4,7 @@ use mathlib.Core.Bool.{Bool}
 use mathlib.Core.List.{List, [], _∷_}
 use mathlib.Core.Option.{Option, some}
 use Prim.Native.Nat.{ℕ, _≤_}
+use lib.Ieee.{Float}
 use lib.IntN.{ℤ}
 use Rattle.algebra.specs.declared.Basis.{Basis}
 use Rattle.algebra.specs.declared.Parity.{Parity}
@@ -21,7 +22,7 @@ use Rattle.walk.specs.declared.plan.Head.{Head}
 use Rattle.walk.specs.declared.chain.Chain.{Chain}
 use Rattle.plan.specs.PlanCall.{plannedParity, plannedTransform, Accepted, headFor, PlanCall}
 use Rattle.plan.specs.declared.call.Planned.{Planned}
-use Rattle.demands.specs.Accepts.{LongEnough}
+use Rattle.demands.specs.Accepts.{BringsPlan}
 use Rattle.demands.specs.Right.{listsFor, stepsFor, Stored}
 use Rattle.demands.specs.Total.{numbersOf}
 
@@ -37,18 +38,18 @@ module _ (strategy : SplitStrategy) (parity : Parity) (basis : Basis) (folded : 
   abbrev pub planChain : Chain
   planChain = record { refusal = 0; weight = orZero (image heaviest planMade) }
 
--- it is answered of a plan, wherever it is stored
+-- it is answered of a plan, wherever it is stored and whatever its interval
 abbrev pub StoredWeighed : Type 0
-StoredWeighed = (strategy : SplitStrategy) (parity : Parity) (basis : Basis) (folded : Bool) (c coefficients : List ℤ) (bounds steps : List ℕ)
-    (input coeff : ℕ) → Accepted folded parity c → Stored strategy parity basis folded c coefficients bounds steps → input ≤ scaleLimit
-    → coeff ≤ scaleLimit
-    → chainOf (headFor strategy parity basis folded c) coefficients bounds steps input coeff ≡ planChain strategy parity basis folded c input coeff
+StoredWeighed = (strategy : SplitStrategy) (parity : Parity) (basis : Basis) (folded : Bool) (c : List ℤ) (a b : Float) (coefficients : List ℤ)
+    (bounds steps : List ℕ) (input coeff : ℕ) → Accepted folded parity c → Stored strategy parity basis folded c coefficients bounds steps
+    → input ≤ scaleLimit → coeff ≤ scaleLimit
+    → chainOf (headFor strategy parity basis folded c a b) coefficients bounds steps input coeff ≡ planChain strategy parity basis folded c input coeff
 
 -- and of what the plan call leaves in the buffers, however long they are and whatever stood in them
 abbrev pub PlansWeighed : Type 0
-PlansWeighed = (strategy : SplitStrategy) (parity : Parity) (basis : Basis) (folded : Bool) (c out : List ℤ) (bounds steps : List ℕ) (r : Planned)
-    (out′ : List ℤ) (bounds′ steps′ : List ℕ) (input coeff : ℕ) → Accepted folded parity c
-    → LongEnough strategy parity basis folded c out bounds steps → PlanCall strategy parity basis folded c out bounds steps r out′ bounds′ steps′
+PlansWeighed = (strategy : SplitStrategy) (parity : Parity) (basis : Basis) (folded : Bool) (c : List ℤ) (a b : Float) (out : List ℤ)
+    (bounds steps : List ℕ) (r : Planned) (out′ : List ℤ) (bounds′ steps′ : List ℕ) (input coeff : ℕ)
+    → BringsPlan strategy parity basis folded c a b out bounds steps → PlanCall strategy parity basis folded c a b out bounds steps r out′ bounds′ steps′
     → input ≤ scaleLimit → coeff ≤ scaleLimit → chainOf (r .head) out′ bounds′ steps′ input coeff ≡ planChain strategy parity basis folded c input coeff
 
 -- the refusal numbers of the chain, in order

@@ -53,6 +53,10 @@ first-most most [] numbers = omega arith
 first-most most ((true, k) ∷ tests) numbers = numbers .0
 first-most most ((false, k) ∷ tests) numbers = first-most most tests (numbers .1)
 
+pub numbers-append : (most : ℕ) (tests more : List Test) → NumbersTo most tests → NumbersTo most more → NumbersTo most (tests ++ more)
+numbers-append most [] more first second = second
+numbers-append most (test ∷ tests) more first second = (first .0, numbers-append most tests more (first .1) second)
+
 -- what a refused call answers or leaves, and what an accepted one does
 pub when-refused : {X : Type 0} (k : ℕ) (accepted refused : X) → 0 < k → refused ≡ unlessRefused k accepted refused
 unfolding unlessRefused

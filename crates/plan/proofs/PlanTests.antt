@@ -24,7 +24,7 @@ use Rattle.number.specs.Refusal.{Test, Numbered, firstRefusal}
 use Rattle.number.specs.Tests.{degreeOf, isFull, leastFolded, unordered}
 use Rattle.number.specs.inside.Between.{Between}
 use Rattle.number.specs.inside.Room.{SumByLengthTo53}
-use Rattle.number.proofs.Refusal.{NumbersTo, none-holds, numbered-append, first-kept, first-of-more, first-passed}
+use Rattle.number.proofs.Refusal.{NumbersTo, numbers-append, first-most, none-holds, numbered-append, first-kept, first-of-more, first-passed}
 use Rattle.lists.proofs.SumByLength.{sum-by-length-start}
 use Rattle.lists.proofs.Bounds.{fold-sum-by-length}
 use Rattle.plan.specs.PlanCall.{plannedCoefficients, settingsTests, coefficientTests, inputTests, Accepted, earlyTests, bufferTests}
@@ -168,6 +168,20 @@ module _ (folded : Bool) (parity : Parity) (c : List ℤ) (a b : Float) where
 
   pub early-passed : Accepted folded parity c → Ordered a b → firstRefusal (earlyTests folded parity c a b) ≡ 0
   early-passed accepted ordered = interval-decides accepted ∙ ap (λ (test : Bool). cond (not test) 7 0) ordered
+
+  pub early-most : firstRefusal (earlyTests folded parity c a b) ≤ 7
+  early-most =
+      first-most 7 (earlyTests folded parity c a b)
+      (numbers-append 7 (inputTests folded parity c) (unordered a b ∷ []) (inputs-to 7 (omega arith) folded parity c) (omega arith, tt))
+
+  -- and where all of these tests are passed, both hold
+  pub early-accepted : firstRefusal (earlyTests folded parity c a b) ≡ 0 → Accepted folded parity c
+  early-accepted passed = first-passed (inputTests folded parity c) (unordered a b ∷ []) (inputs-numbered folded parity c) passed
+
+  pub early-ordered : firstRefusal (earlyTests folded parity c a b) ≡ 0 → Ordered a b
+  early-ordered passed =
+      let none = none-holds (unordered a b ∷ []) (omega arith, tt) (sym (interval-decides (early-accepted passed)) ∙ passed) in
+      not-false (lt a b) (none .0)
 
 -- ---- the buffers
 
