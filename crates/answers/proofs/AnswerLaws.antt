@@ -1,5 +1,5 @@
--- What the plan call answers with the rooms of answers, and what a line says: the text that is put of each is that of the answer. With such rooms the
--- plan call refuses only its input. A line with more coefficients than are kept has too many for a plan, and so have those that are kept.
+-- What the plan call answers with the rooms and the interval of answers, and what a line says: the text that is put of each is that of the answer. With
+-- these the plan call refuses only its polynomial. A line with more coefficients than are kept has too many for a plan, and so have those that are kept.
 use mathlib.Core.Path.{_≡_, refl, ap, sym, _∙_}
 use mathlib.Core.Bool.{Bool, true, false}
 use mathlib.Core.List.{List, append-nil}
@@ -17,8 +17,9 @@ use Rattle.number.specs.Refusal.{firstRefusal, unlessRefused}
 use Rattle.number.proofs.Refusal.{first-kept, when-refused, when-accepted}
 use Rattle.counts.specs.declared.choice.SplitStrategy.{SplitStrategy}
 use Rattle.lists.specs.Lists.{joined}
-use Rattle.plan.specs.PlanCall.{inputTests, Accepted, headFor, planRefusal, planAnswer, PlanCall}
+use Rattle.plan.specs.PlanCall.{inputTests, Accepted, earlyTests, headFor, planRefusal, planAnswer, PlanCall}
 use Rattle.plan.specs.declared.call.Planned.{Planned}
+use Rattle.plan.proofs.PlanTests.{early-kept}
 use Rattle.lines.specs.Line.{isLine, basisIn, parityIn, strategyIn, foldIn, coefficientsIn}
 use Rattle.lines.specs.ReadLine.{lineRefusal, lineAnswer, lineBuffer, ReadLine}
 use Rattle.lines.specs.declared.read.Line.{Line}
@@ -27,14 +28,17 @@ use Rattle.texts.specs.Text.{refusalLine}
 use Rattle.texts.specs.PlanText.{linesOf, planText}
 use Rattle.texts.proofs.HeldText.{held-text}
 use Rattle.texts.proofs.PartLaws.{from-first}
+use Rattle.demands.specs.Accepts.{BringsPlan}
 use Rattle.demands.specs.Right.{listsFor, stepsFor}
 use Rattle.demands.proofs.Refusals.{refusal-of, plan-made}
 use Rattle.demands.proofs.Right.{plans-right, holds}
 use Rattle.answers.specs.Limits.{coefficientRoom}
+use Rattle.answers.specs.LineInterval.{minusOne, plusOne}
 use Rattle.answers.specs.Answer.{answerRefusal, plannedLines, answerLines, answerText}
 use Rattle.answers.specs.inside.Rooms.{PlanRoom}
 use Rattle.answers.specs.inside.TextFor.{textFor}
 use Rattle.answers.proofs.AnswerCases.{text-refused}
+use Rattle.answers.proofs.LineInterval.{ones-ordered}
 use Rattle.answers.proofs.Rooms.{rooms-enough}
 use Rattle.answers.proofs.TextFits.{plan-fits}
 
@@ -43,7 +47,7 @@ use Rattle.answers.proofs.TextFits.{plan-fits}
 module _ (strategy : SplitStrategy) (parity : Parity) (basis : Basis) (folded : Bool) (c : List ℤ) where
   for-planned : Accepted folded parity c
       → textFor strategy parity basis folded c
-      ≡ joined (linesOf (headFor strategy parity basis folded c) (listsFor strategy parity basis folded c) (stepsFor strategy parity basis folded c))
+      ≡ joined (linesOf (headFor strategy parity basis folded c minusOne plusOne) (listsFor strategy parity basis folded c) (stepsFor strategy parity basis folded c))
   unfolding textFor
   for-planned accepted = ap joined (sym (when-accepted _ _ accepted))
 
@@ -55,16 +59,21 @@ module _ (strategy : SplitStrategy) (parity : Parity) (basis : Basis) (folded : 
       ∙ ap joined (when-refused (firstRefusal (inputTests folded parity c)) _ _ (omega arith))
 
   module _ {planned : List ℤ} {bounds steps : List ℕ} {at : ℕ} (room : PlanRoom planned bounds steps at) {r : Planned} {planned′ : List ℤ}
-      {bounds′ steps′ : List ℕ} (call : PlanCall strategy parity basis folded c planned bounds steps r planned′ bounds′ steps′) where
-    -- the rooms are long enough, so that only the input is refused
+      {bounds′ steps′ : List ℕ} (call : PlanCall strategy parity basis folded c minusOne plusOne planned bounds steps r planned′ bounds′ steps′) where
+    -- the rooms are long enough, and the bounds are in order, so that only the polynomial is refused
+    brings : Accepted folded parity c → BringsPlan strategy parity basis folded c minusOne plusOne planned bounds steps
+    brings accepted =
+        rooms-enough strategy parity basis folded c minusOne plusOne planned bounds steps accepted ones-ordered (room .planned-room)
+        (room .boundary-room) (room .step-room)
+
     by-input : (k : ℕ) → firstRefusal (inputTests folded parity c) ≡ k
-        → planRefusal strategy parity basis folded c planned bounds steps ≡ firstRefusal (inputTests folded parity c)
+        → planRefusal strategy parity basis folded c minusOne plusOne planned bounds steps ≡ firstRefusal (inputTests folded parity c)
     unfolding planRefusal
     by-input zero none =
-        plan-made strategy parity basis folded c planned bounds steps none
-        (rooms-enough strategy parity basis folded c planned bounds steps none (room .planned-room) (room .boundary-room) (room .step-room))
-        ∙ sym none
-    by-input (suc k) some = first-kept (inputTests folded parity c) _ (omega arith)
+        plan-made strategy parity basis folded c minusOne plusOne planned bounds steps (brings none) ∙ sym none
+    by-input (suc k) some =
+        let kept = early-kept folded parity c minusOne plusOne (omega arith) in
+        first-kept (earlyTests folded parity c minusOne plusOne) _ (omega arith) ∙ kept
 
     refusal-is : r .refusal ≡ firstRefusal (inputTests folded parity c)
     unfolding planAnswer
@@ -82,20 +91,18 @@ module _ (strategy : SplitStrategy) (parity : Parity) (basis : Basis) (folded : 
 
       pub planned-text : planText (r .head) planned′ bounds′ steps′ ≡ textFor strategy parity basis folded c
       planned-text =
-          let right = plans-right strategy parity basis folded c planned bounds steps r planned′ bounds′ steps′ accepted
-          (rooms-enough strategy parity basis folded c planned bounds steps accepted (room .planned-room) (room .boundary-room) (room .step-room))
-          call in
+          let right = plans-right strategy parity basis folded c minusOne plusOne planned bounds steps r planned′ bounds′ steps′ (brings accepted) call in
           ap (λ (p : Planned). planText (p .head) planned′ bounds′ steps′) (right .answer)
           ∙ ap joined
-          (held-text (headFor strategy parity basis folded c) planned′ bounds′ steps′ (listsFor strategy parity basis folded c)
+          (held-text (headFor strategy parity basis folded c minusOne plusOne) planned′ bounds′ steps′ (listsFor strategy parity basis folded c)
           (stepsFor strategy parity basis folded c)
-          (holds strategy parity basis folded c accepted planned′ bounds′ steps′ (right .stored)))
+          (holds strategy parity basis folded c accepted minusOne plusOne planned′ bounds′ steps′ (right .stored)))
           ∙ sym (for-planned accepted)
 
       -- its end is within 64 bits
       pub planned-ends : at + length (planText (r .head) planned′ bounds′ steps′) < 2 ^ 63
       planned-ends =
-          let fits = plan-fits strategy parity basis folded c accepted in
+          let fits = plan-fits strategy parity basis folded c accepted minusOne plusOne in
           omega (arith, room .place, ap (λ (t : List ℕ). length t) (planned-text ∙ for-planned accepted))
 
 -- ---- the text for a line

@@ -1,6 +1,7 @@
 mod InputLaws
 mod HeldLaws
 pub mod PieceLaws
+pub mod LineInterval
 mod AnswerCases
 pub mod Rooms
 mod AnswerLaws

@@ -7,6 +7,7 @@ use Prim.Native.Nat.{ℕ, suc, _+_, _*_, _^_, _<_, _≤_}
 use native.Mathlib.Decide.{ℕ-discrete}
 use native.Mathlib.Omega.{arith}
 use borrow.Author.Tests.{le-leb}
+use lib.Ieee.{Float}
 use lib.IntN.{ℤ}
 use lib.ListN.{length, getD, length-append}
 use Rattle.algebra.specs.Magnitude.{sumAbs}
@@ -39,6 +40,7 @@ use Rattle.demands.proofs.Accepts.{covered-accepted, plannable}
 use Rattle.demands.proofs.Right.{from-one, ordered, coefficients-length}
 use Rattle.demands.proofs.Fits.{plans-fit, small-at}
 use Rattle.answers.specs.Limits.{textLimit}
+use Rattle.answers.specs.LineInterval.{minusOne, plusOne}
 use Rattle.answers.specs.Answer.{answerRefusal, plannedLines, answerText}
 use Rattle.answers.specs.Input.{lastLine, answersText}
 use Rattle.answers.specs.Turns.{endText}
@@ -102,57 +104,58 @@ module _ (strategy : SplitStrategy) (parity : Parity) (basis : Basis) (folded : 
   abbrev steps : List Step
   steps = stepsFor strategy parity basis folded c
 
-  head-fits : HeadFits (headFor strategy parity basis folded c)
-  unfolding headOf reported
-  head-fits =
-      let range = degree-range strategy parity basis folded c accepted in
-      let counts = counts-range strategy parity basis folded c accepted in
-      let counted = steps-counted (relists strategy) (plannedParity folded parity) basis degree split in
-      let base = power-range {k = split} (omega (arith, counts .split .to)) refl in
-      let depth = depth-bounds strategy degree (record { from = range .from; to = omega (arith, range .to) }) in
-      let cost = cost-most (plannedTransform folded parity basis) in
-      record {
-        degree = omega (arith, range .to);
-        base = omega (arith, base .most);
-        ct = omega (arith, counted .encrypted, counts .powers, counts .at-most);
-        pt = omega (arith, counted .encrypted, counts .powers, counts .at-most);
-        depth = omega (arith, depth .to);
-      }
-
   pub lists-small : AllTo53 (joined lists)
   lists-small = rw (ordered strategy parity basis folded c accepted .places) at (coefficients-small strategy parity basis folded c accepted)
 
-  lists-fit : length (joined (map listLine lists)) ≤ 24 * 4096
-  unfolding headOf
-  lists-fit =
-      let order = ordered strategy parity basis folded c accepted in
-      let places : length (joined lists) ≡ headFor strategy parity basis folded c .coefficients =
-      ap length (sym (order .places)) ∙ coefficients-length strategy parity basis folded c accepted in
-      let count : headFor strategy parity basis folded c .lists ≡ length lists = order .count in
-      omega (
-        arith,
-        list-lines lists lists-small,
-        coefficients-most strategy parity basis folded c accepted,
-        lists-most strategy parity basis folded c accepted,
-      )
+  module _ (a b : Float) where
+    head-fits : HeadFits (headFor strategy parity basis folded c a b)
+    unfolding headOf reported
+    head-fits =
+        let range = degree-range strategy parity basis folded c accepted in
+        let counts = counts-range strategy parity basis folded c accepted in
+        let counted = steps-counted (relists strategy) (plannedParity folded parity) basis degree split in
+        let base = power-range {k = split} (omega (arith, counts .split .to)) refl in
+        let depth = depth-bounds strategy degree (record { from = range .from; to = omega (arith, range .to) }) in
+        let cost = cost-most (plannedTransform folded parity basis) in
+        record {
+          degree = omega (arith, range .to);
+          base = omega (arith, base .most);
+          ct = omega (arith, counted .encrypted, counts .powers, counts .at-most);
+          pt = omega (arith, counted .encrypted, counts .powers, counts .at-most);
+          depth = omega (arith, depth .to);
+        }
 
-  steps-fit : length (joined (map stepLine steps)) ≤ 17 * 12287
-  unfolding headOf
-  steps-fit =
-      let numbers = plans-fit strategy parity basis folded c accepted .numbers in
-      omega (arith, step-lines steps (λ i. small-at (flat steps) i numbers), steps-most strategy parity basis folded c accepted)
+    lists-fit : length (joined (map listLine lists)) ≤ 24 * 4096
+    unfolding headOf
+    lists-fit =
+        let order = ordered strategy parity basis folded c accepted in
+        let places : length (joined lists) ≡ headFor strategy parity basis folded c a b .coefficients =
+        ap length (sym (order .places)) ∙ coefficients-length strategy parity basis folded c accepted a b in
+        let count : headFor strategy parity basis folded c a b .lists ≡ length lists = order .count in
+        omega (
+          arith,
+          list-lines lists lists-small,
+          coefficients-most strategy parity basis folded c accepted a b,
+          lists-most strategy parity basis folded c accepted a b,
+        )
 
-  pub plan-fits : length (joined (linesOf (headFor strategy parity basis folded c) lists steps)) ≤ textLimit
-  unfolding linesOf joined
-  plan-fits =
-      let head = line-lengths .heads (headFor strategy parity basis folded c) head-fits in
-      omega (
-        arith,
-        lists-fit,
-        steps-fit,
-        length-append (headLine (headFor strategy parity basis folded c)) (joined (map listLine lists ++ map stepLine steps)),
-        joined-length (map listLine lists) (map stepLine steps),
-      )
+    steps-fit : length (joined (map stepLine steps)) ≤ 17 * 12287
+    unfolding headOf
+    steps-fit =
+        let numbers = plans-fit strategy parity basis folded c accepted .numbers in
+        omega (arith, step-lines steps (λ i. small-at (flat steps) i numbers), steps-most strategy parity basis folded c accepted a b)
+
+    pub plan-fits : length (joined (linesOf (headFor strategy parity basis folded c a b) lists steps)) ≤ textLimit
+    unfolding linesOf joined
+    plan-fits =
+        let head = line-lengths .heads (headFor strategy parity basis folded c a b) head-fits in
+        omega (
+          arith,
+          lists-fit,
+          steps-fit,
+          length-append (headLine (headFor strategy parity basis folded c a b)) (joined (map listLine lists ++ map stepLine steps)),
+          joined-length (map listLine lists) (map stepLine steps),
+        )
 
 -- ---- an answer
 
@@ -160,7 +163,7 @@ planned-fits : (line : List ℕ) → answerRefusal line ≡ 0 → length (answer
 unfolding plannedLines
 planned-fits line none =
     rw (text-planned line none)
-    (plan-fits (strategyIn line) (parityIn line) (basisIn line) (foldIn line) (coefficientsIn line) (line-accepted line none))
+    (plan-fits (strategyIn line) (parityIn line) (basisIn line) (foldIn line) (coefficientsIn line) (line-accepted line none) minusOne plusOne)
 
 refused-fits : (line : List ℕ) → 0 < answerRefusal line → length (answerText line) ≤ textLimit
 refused-fits line some =

@@ -9,6 +9,7 @@ use Rattle.lines.specs.ReadLine.{badLine}
 use Rattle.texts.specs.Text.{refusalLine}
 use Rattle.texts.specs.PlanText.{linesOf}
 use Rattle.demands.specs.Right.{listsFor, stepsFor}
+use Rattle.answers.specs.LineInterval.{minusOne, plusOne}
 
 -- the tests of a line in order: 12 for its form, then those of the plan that it asks for
 abbrev pub answerTests : (line : List ℕ) → List Test
@@ -17,10 +18,10 @@ answerTests line = badLine line ∷ inputTests (foldIn line) (parityIn line) (co
 unfoldable pub answerRefusal : (line : List ℕ) → ℕ
 answerRefusal line = firstRefusal (answerTests line)
 
--- the lines of the plan of a line's coefficients, by its settings
+-- the lines of the plan of a line's coefficients, by its settings, on the interval of lines
 unfoldable pub plannedLines : (line : List ℕ) → List (List ℕ)
 plannedLines line =
-    linesOf (headFor (strategyIn line) (parityIn line) (basisIn line) (foldIn line) (coefficientsIn line))
+    linesOf (headFor (strategyIn line) (parityIn line) (basisIn line) (foldIn line) (coefficientsIn line) minusOne plusOne)
     (listsFor (strategyIn line) (parityIn line) (basisIn line) (foldIn line) (coefficientsIn line))
     (stepsFor (strategyIn line) (parityIn line) (basisIn line) (foldIn line) (coefficientsIn line))
 

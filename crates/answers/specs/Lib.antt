@@ -1,4 +1,5 @@
 pub mod Limits
+pub mod LineInterval
 pub mod Answer
 pub mod OneAnswer
 pub mod AnswersSame

@@ -12,7 +12,8 @@ ghost use Rattle.answers.specs.Answer.{answerText};
 ghost use Rattle.answers.specs.inside.Rooms.{PlanRoom, AnswerRoom};
 ghost use Rattle.answers.specs.inside.TextFor.{textFor};
 
-// The text of the plan of some coefficients by a line's settings, or of its refusal, from a place of the buffer on, and the place behind it.
+// The text of the plan of some coefficients by a line's settings, on the interval of lines, or of its refusal, from a place of the buffer on, and the
+// place behind it.
 fn put_planned(
     line: Line,
     c: &[i64],
@@ -30,7 +31,18 @@ fn put_planned(
     let parity = line.parity;
     let basis = line.basis;
     let fold = line.fold;
-    let made = plan(strategy, parity, basis, fold, c, planned, bounds, steps);
+    let made = plan(
+        strategy,
+        parity,
+        basis,
+        fold,
+        c,
+        -1.0,
+        1.0,
+        planned,
+        bounds,
+        steps,
+    );
     let refusal = made.refusal;
     if 0 < refusal {
         return put_refusal(refusal, at, out);

@@ -1,5 +1,5 @@
 -- The zero curves are weighed. A zero curve has every parity, and its magnitudes sum to 0, so it is accepted; the buffers have the rooms that are enough
--- for every plan. What the plan call leaves in them is weighed as the plan is (demands: PlansWeighed).
+-- for every plan, and the interval's bounds are in order. What the plan call leaves in them is weighed as the plan is (demands: PlansWeighed).
 use mathlib.Core.Path.{_≡_, refl}
 use mathlib.Core.Bool.{false, false≢true}
 use Prim.Native.Nat.{ℕ, zero, suc, _≤_, _<_}
@@ -14,6 +14,8 @@ use Rattle.plan.specs.PlanCall.{Accepted, planAnswer, planCoefficients, planBou
 use Rattle.demands.proofs.Accepts.{covered-accepted}
 use Rattle.demands.proofs.Weighed.{plans-weighed}
 use Rattle.answers.specs.Limits.{listRoom, stepRoom}
+use Rattle.answers.specs.LineInterval.{minusOne, plusOne}
+use Rattle.answers.proofs.LineInterval.{ones-ordered}
 use Rattle.answers.proofs.Rooms.{rooms-enough}
 use Rattle.chains.specs.ZeroChain.{noCoefficients, noBounds, noSteps, basisOf, parityOf, strategyOf, zeroCurve}
 use Rattle.chains.specs.ZerosWeighed.{ZerosWeighed}
@@ -56,11 +58,11 @@ zeros-weighed letters degree from to =
     let basis = basisOf letters in
     let curve = zeroCurve degree in
     let accepted = zeros-accepted parity degree from to in
-    let long = rooms-enough strategy parity basis false curve noCoefficients noBounds noSteps accepted (omega (arith, list-places))
-    (omega (arith, bound-places)) (omega (arith, step-places)) in
-    plans-weighed strategy parity basis false curve noCoefficients noBounds noSteps
-    (planAnswer strategy parity basis false curve noCoefficients noBounds noSteps)
-    (planCoefficients strategy parity basis false curve noCoefficients noBounds noSteps)
-    (planBoundaries strategy parity basis false curve noCoefficients noBounds noSteps)
-    (planNumbers strategy parity basis false curve noCoefficients noBounds noSteps) 30 20 accepted long
+    let brings = rooms-enough strategy parity basis false curve minusOne plusOne noCoefficients noBounds noSteps accepted ones-ordered
+    (omega (arith, list-places)) (omega (arith, bound-places)) (omega (arith, step-places)) in
+    plans-weighed strategy parity basis false curve minusOne plusOne noCoefficients noBounds noSteps
+    (planAnswer strategy parity basis false curve minusOne plusOne noCoefficients noBounds noSteps)
+    (planCoefficients strategy parity basis false curve minusOne plusOne noCoefficients noBounds noSteps)
+    (planBoundaries strategy parity basis false curve minusOne plusOne noCoefficients noBounds noSteps)
+    (planNumbers strategy parity basis false curve minusOne plusOne noCoefficients noBounds noSteps) 30 20 brings
     (record { answer = refl; coefficients = refl; boundaries = refl; numbers = refl }) (omega arith) (omega arith)

@@ -1,8 +1,9 @@
--- The two numbers of a line (docs/RULES.md, "Lines of chains"): of the zero curve of a degree, planned without folding, at input scale 30 and
--- coefficient scale 20.
+-- The two numbers of a line (docs/RULES.md, "Lines of chains"): of the zero curve of a degree, planned without folding on the interval of lines, at input
+-- scale 30 and coefficient scale 20.
 use mathlib.Core.Bool.{Bool, false}
 use mathlib.Core.List.{List}
 use Prim.Native.Nat.{ℕ, suc}
+use lib.Ieee.{Float}
 use lib.IntN.{ℤ, pos}
 use lib.ListN.{replicate}
 use Rattle.algebra.specs.declared.Basis.{Basis}
@@ -18,6 +19,7 @@ use Rattle.walk.specs.Chain.{chainOf}
 use Rattle.walk.specs.declared.chain.Chain.{Chain}
 use Rattle.plan.specs.PlanCall.{planAnswer, planCoefficients, planBoundaries, planNumbers}
 use Rattle.answers.specs.Limits.{listRoom, stepRoom}
+use Rattle.answers.specs.LineInterval.{minusOne, plusOne}
 use Rattle.chains.specs.declared.letters.Letters.{Letters}
 
 -- buffers of zeros, as long as every plan needs them
@@ -46,9 +48,9 @@ zeroCurve degree = replicate (suc degree) (pos 0)
 
 module _ (letters : Letters) (degree : ℕ) where
   -- what a definition says of its plan, made in buffers of zeros
-  abbrev ofPlan : {X : Type 0} → (SplitStrategy → Parity → Basis → Bool → List ℤ → List ℤ → List ℕ → List ℕ → X) → X
+  abbrev ofPlan : {X : Type 0} → (SplitStrategy → Parity → Basis → Bool → List ℤ → Float → Float → List ℤ → List ℕ → List ℕ → X) → X
   ofPlan of =
-      of (strategyOf letters) (parityOf letters) (basisOf letters) false (zeroCurve degree) noCoefficients noBounds noSteps
+      of (strategyOf letters) (parityOf letters) (basisOf letters) false (zeroCurve degree) minusOne plusOne noCoefficients noBounds noSteps
 
   -- the heaviest chain of the plan
   abbrev pub zeroChain : Chain

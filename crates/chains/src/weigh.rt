@@ -52,6 +52,8 @@ pub fn weigh_zeros(letters: Letters, degree: usize) -> u64
         basis_of(letters.basis),
         false,
         &curve[..degree + 1],
+        -1.0,
+        1.0,
         &mut coefficients,
         &mut bounds,
         &mut steps,

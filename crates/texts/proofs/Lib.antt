@@ -9,3 +9,4 @@ pub mod ReadBack
 pub mod TextIsLines
 pub mod LineLengths
 pub mod HeldText
+pub mod IntervalUnprinted

@@ -7,4 +7,5 @@ pub mod Put
 pub mod TextIsLines
 pub mod LineLengths
 pub mod HeldText
+pub mod IntervalUnprinted
 pub mod inside

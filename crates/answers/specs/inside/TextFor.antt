@@ -12,10 +12,11 @@ use Rattle.plan.specs.PlanCall.{inputTests, headFor}
 use Rattle.texts.specs.Text.{refusalLine}
 use Rattle.texts.specs.PlanText.{linesOf}
 use Rattle.demands.specs.Right.{listsFor, stepsFor}
+use Rattle.answers.specs.LineInterval.{minusOne, plusOne}
 
 unfoldable pub textFor : SplitStrategy → Parity → Basis → (folded : Bool) → List ℤ → List ℕ
 textFor strategy parity basis folded c =
     joined
     (unlessRefused (firstRefusal (inputTests folded parity c))
-    (linesOf (headFor strategy parity basis folded c) (listsFor strategy parity basis folded c) (stepsFor strategy parity basis folded c))
+    (linesOf (headFor strategy parity basis folded c minusOne plusOne) (listsFor strategy parity basis folded c) (stepsFor strategy parity basis folded c))
     (refusalLine (firstRefusal (inputTests folded parity c)) ∷ []))

@@ -1,6 +1,8 @@
--- `answers::answer::put_planned` meets its contract. The rooms are long enough for every plan, so the plan call refuses only its input, and the line of
--- that refusal is put. Otherwise the buffers hold the plan, and the text of what they hold is the plan's.
+-- `answers::answer::put_planned` meets its contract. The rooms are long enough for every plan, and the literals are the bounds of the interval of lines,
+-- which are in order; so the plan call refuses only its polynomial, and the line of that refusal is put. Otherwise the buffers hold the plan, and the
+-- text of what they hold is the plan's.
 use borrow.Author.Needs.{needs}
+use lib.Ieee.{ofBits}
 use Rattle.texts.proofs.PutLaws.{put-same}
 use Rattle.answers.proofs.AnswerLaws.{refused-text, planned-text, planned-ends}
 use Rattle.answers.proofs.answer.put_planned.Statement.{statement}
@@ -25,6 +27,7 @@ same-length-4 : tie.Need-same-length-4
 same-length-4 c = search needs
 
 returns : tie.Need-returns
+unfolding ofBits
 returns c =
     let put = c .before .before in
     let test = put .before .before in
@@ -33,6 +36,7 @@ returns c =
     put-same (put .put-refusal .ensures) (refused-text _ _ _ _ _ (start .pre) (made .plan .ensures) (test .if1 .taken))
 
 put-plan-requires : tie.Need-put-plan-requires
+unfolding ofBits
 put-plan-requires c κs =
     let test = c .before .before .before .before in
     let made = test .before .before .before .before .before .before in
@@ -52,6 +56,7 @@ same-length-8 : tie.Need-same-length-8
 same-length-8 c = search needs
 
 returns-2 : tie.Need-returns-2
+unfolding ofBits
 returns-2 c =
     let put = c .before .before in
     let test = put .before .before .before .before .before in

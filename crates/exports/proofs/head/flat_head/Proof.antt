@@ -23,8 +23,13 @@ returns c =
     let numbered = c .before in
     let chosen = numbered .before in
     let told = chosen .before in
-    rw (c .flat-head-interval .ensures, numbered .transform-number .ensures, chosen .strategy-number .ensures, told .parity-number .ensures,
-    told .before .basis-number .ensures)
+    rw (
+      c .flat-head-interval .ensures,
+      numbered .transform-number .ensures,
+      chosen .strategy-number .ensures,
+      told .parity-number .ensures,
+      told .before .basis-number .ensures,
+    )
 
 pub flat-head-spec : {M : Type 1} → statement M
 flat-head-spec =
