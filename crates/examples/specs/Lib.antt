@@ -7,6 +7,7 @@ pub mod Walk
 pub mod Chain
 pub mod LargestDegree
 pub mod Plan
+pub mod HeadInterval
 pub mod Lines
 pub mod Texts
 pub mod Answers

@@ -2,6 +2,7 @@
 use mathlib.Core.Path.{_≡_, refl}
 use mathlib.Core.Bool.{true, false}
 use mathlib.Core.List.{List, [], _∷_}
+use lib.Ieee.{Float, ofInt}
 use lib.IntN.{ℤ, pos}
 use lib.ListN.{drop}
 use Rattle.algebra.specs.Allowed.{allows}
@@ -11,6 +12,7 @@ use Rattle.algebra.specs.Transform.{transformOf}
 use Rattle.algebra.specs.declared.Basis.the-variants.{Monomial, Chebyshev}
 use Rattle.algebra.specs.declared.Parity.the-variants.{Full, Even, Odd}
 use Rattle.algebra.specs.declared.PolynomialInputTransform.the-variants.{Identity, SquareTimesInput}
+use Rattle.number.specs.Exact.{num}
 use Rattle.number.specs.Bits.{digits, bitLen, topPower, powerBelow, isPowerOfTwo}
 use Rattle.number.specs.Refusal.{unlessRefused}
 use Rattle.number.specs.Split.{partsOf}
@@ -37,8 +39,8 @@ use Rattle.plan.specs.PlanSizes.{sizesOf, noSizes, sizesCall}
 abbrev five : List ℤ
 five = pos 1 ∷ pos 2 ∷ pos 3 ∷ pos 4 ∷ pos 5 ∷ []
 
--- the nine-line plan of 1 to 5: `H 4 4 0 3 4 3`
-pub nine-lines-head : headFor MinDepth Full Monomial false five ≡ record {
+-- the nine-line plan of 1 to 5, on any interval: `H 4 4 0 3 4 3`
+pub nine-lines-head : (a b : Float) → headFor MinDepth Full Monomial false five a b ≡ record {
   basis = Monomial;
   parity = Full;
   strategy = MinDepth;
@@ -51,11 +53,12 @@ pub nine-lines-head : headFor MinDepth Full Monomial false five ≡ record {
   coefficients = 5;
   lists = 2;
   steps = 6;
+  interval = record { a = a; b = b; u = num (pos 1); w = num (pos 0) };
 }
-unfolding headOf reported allowedIn ofKind stepsAt listSteps treeSteps combineKind lastPlain lastLength powerSteps leavesOf lengthsOf treeOf treeIn
+unfolding ofInt headOf reported allowedIn ofKind stepsAt listSteps treeSteps combineKind lastPlain lastLength powerSteps leavesOf lengthsOf treeOf treeIn
     listedAgain splitFor minDepth aExceedsB depthOf allowedTo neededList markedFrom neededMarks sweepFrom targetMarks markParts markApart sweepAt
     markAt places isTarget allows topPower partsOf powerBelow isPowerOfTwo bitLen digits
-nine-lines-head = refl
+nine-lines-head a b = refl
 
 -- `L 1 2 3 4`, `L 5`
 pub nine-lines-lists : coefficientsFor MinDepth Full Monomial false five ≡ five
@@ -175,7 +178,7 @@ reported-4 = refl
 -- ---- a fold
 
 -- Odd 0 1 0 2 folded: one list of 1 2, no step but its load, and two multiplications and two levels for the transform
-pub folded-head : headFor MinDepth Odd Monomial true (pos 0 ∷ pos 1 ∷ pos 0 ∷ pos 2 ∷ []) ≡ record {
+pub folded-head : (a b : Float) → headFor MinDepth Odd Monomial true (pos 0 ∷ pos 1 ∷ pos 0 ∷ pos 2 ∷ []) a b ≡ record {
   basis = Monomial;
   parity = Full;
   strategy = MinDepth;
@@ -188,11 +191,12 @@ pub folded-head : headFor MinDepth Odd Monomial true (pos 0 ∷ pos 1 ∷ pos 0 
   coefficients = 2;
   lists = 1;
   steps = 1;
+  interval = record { a = a; b = b; u = num (pos 1); w = num (pos 0) };
 }
-unfolding fold everySecond transformOf headOf reported allowedIn ofKind stepsAt listSteps treeSteps combineKind lastPlain lastLength powerSteps leavesOf
+unfolding ofInt fold everySecond transformOf headOf reported allowedIn ofKind stepsAt listSteps treeSteps combineKind lastPlain lastLength powerSteps leavesOf
     lengthsOf treeOf treeIn listedAgain splitFor minDepth aExceedsB depthOf allowedTo neededList markedFrom neededMarks sweepFrom targetMarks
     markParts markApart sweepAt markAt places isTarget allows topPower partsOf powerBelow isPowerOfTwo bitLen digits
-folded-head = refl
+folded-head a b = refl
 
 -- ---- sizes
 

@@ -11,6 +11,7 @@ use Rattle.algebra.specs.declared.PolynomialInputTransform.the-variants.{Identi
 use Rattle.counts.specs.declared.choice.SplitStrategy.the-variants.{MinDepth}
 use Rattle.lists.specs.Lists.{joined}
 use Rattle.walk.specs.Lent.{stepsFrom}
+use Rattle.number.specs.Interval.{noInterval}
 use Rattle.walk.specs.declared.plan.Head.{Head}
 use Rattle.texts.specs.Decimal.{digitsWithin, decimal, signedDecimal}
 use Rattle.texts.specs.Text.{fieldsText, lineText, listLine, refusalLine}
@@ -64,6 +65,7 @@ headWith transform lists steps = record {
   coefficients = 5;
   lists = lists;
   steps = steps;
+  interval = noInterval;
 }
 
 -- steps 1 2 1 1, 1 3 1 2, 1 4 2 2, 2 0 0 0, 2 1 0 0, 4 4 0 0; behind them, as behind the coefficients and boundaries, anything

@@ -27,6 +27,7 @@ use Rattle.walk.specs.Lent.{stepsFrom, lentWalk, exactWalk}
 use Rattle.walk.specs.Trial.{noTrial, trialRefusal, trialOf}
 use Rattle.walk.specs.WalksHeld.{flat}
 use Rattle.walk.specs.declared.plan.Step.{Step}
+use Rattle.number.specs.Interval.{noInterval}
 use Rattle.walk.specs.declared.plan.Head.{Head}
 use Rattle.walk.specs.declared.call.Trial.{Trial}
 
@@ -45,6 +46,7 @@ head parity basis transform coefficients lists steps = record {
   coefficients = coefficients;
   lists = lists;
   steps = steps;
+  interval = noInterval;
 }
 
 abbrev value : ℕ → Trial

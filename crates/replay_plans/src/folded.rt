@@ -83,7 +83,18 @@ pub fn decompose_folded_agrees(line: &[u8], at: usize) -> bool {
     let p = settings.parity;
     let s = settings.strategy;
     let c = first_wholes(&coeffs, list.count);
-    let ours = firrozun::plan(s, p, b, true, c, &mut out, &mut bounds, &mut steps);
+    let ours = firrozun::plan(
+        s,
+        p,
+        b,
+        true,
+        c,
+        -1.0,
+        1.0,
+        &mut out,
+        &mut bounds,
+        &mut steps,
+    );
     if !sizes_agree(settings, true, list.count, ours) {
         return false;
     }

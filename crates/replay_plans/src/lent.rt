@@ -4,6 +4,7 @@ use firrozun::Head;
 use firrozun::PolynomialInputTransform;
 use firrozun::SplitStrategy;
 use firrozun::Trial;
+use firrozun::change_of_basis;
 use recording::List;
 use recording::ends;
 use recording::first_wholes;
@@ -45,7 +46,7 @@ fn transform_of(number: u64) -> PolynomialInputTransform {
     PolynomialInputTransform::Identity
 }
 
-// basis  parity  transform  coefficients  lists  steps; the walk reads no other field.
+// basis  parity  transform  coefficients  lists  steps; the walk reads no other field, so the interval is one that no plan has.
 fn read_head(line: &[u8], at: usize) -> Lent {
     let basis = read_basis(line, at);
     let parity = read_parity(line, basis.next);
@@ -57,6 +58,7 @@ fn read_head(line: &[u8], at: usize) -> Lent {
     let p = parity.value;
     let t = transform_of(transform.value);
     let counts = coefficients.ok && lists.ok && steps.ok;
+    let interval = change_of_basis(b, 1.0, 1.0);
     Lent {
         ok: basis.ok && parity.ok && transform.ok && transform.value < 5 && counts,
         head: Head {
@@ -72,6 +74,7 @@ fn read_head(line: &[u8], at: usize) -> Lent {
             coefficients: coefficients.value as usize,
             lists: lists.value as usize,
             steps: steps.value as usize,
+            interval: interval,
         },
         next: steps.next,
     }

@@ -1,7 +1,8 @@
-// Replays plans and trial walks: folded decompositions of the Rust, values worked out by exact arithmetic, and refusals and lent plans written by hand
-// (oracle/README.md). Of each plan the sizes that degree and settings alone decide are asked too. Writes the number of each line that does not agree,
+// Replays plans and trial walks: folded decompositions and intervals of the Rust, values worked out by exact arithmetic, and refusals and lent plans
+// written by hand (oracle/README.md). Of each plan the sizes that degree and settings alone decide are asked too. Writes the number of each line that does not agree,
 // and how many do.
 mod folded;
+mod interval;
 mod lent;
 mod refusal;
 mod settings;
@@ -9,6 +10,7 @@ mod sizes;
 mod value;
 
 use folded::decompose_folded_agrees;
+use interval::plan_interval_agrees;
 use lent::trial_walk_agrees;
 use recording::read_word;
 use refusal::plan_refused_agrees;
@@ -27,6 +29,10 @@ fn agrees(line: &[u8]) -> bool {
     let plan_refused = read_word(line, 0, b"plan_refused");
     if plan_refused.ok {
         return plan_refused_agrees(line, plan_refused.next);
+    }
+    let plan_interval = read_word(line, 0, b"plan_interval");
+    if plan_interval.ok {
+        return plan_interval_agrees(line, plan_interval.next);
     }
     let trial_walk = read_word(line, 0, b"trial_walk");
     if trial_walk.ok {

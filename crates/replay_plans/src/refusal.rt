@@ -5,6 +5,7 @@ use crate::settings::read_fold;
 use crate::settings::read_settings;
 use crate::sizes::sizes_agree;
 use firrozun::Head;
+use firrozun::Interval;
 use firrozun::Planned;
 use firrozun::basis_number;
 use firrozun::parity_number;
@@ -15,6 +16,7 @@ use recording::first_wholes;
 use recording::read_number;
 use recording::read_wholes;
 use recording::read_word;
+use recording::same;
 
 // The plan in the first `room`, `boundaries` and `numbers` places of the buffers; all of each where one has fewer.
 fn plan_within(
@@ -32,7 +34,7 @@ fn plan_within(
     let p = settings.parity;
     let s = settings.strategy;
     if out.len() < room || bounds.len() < boundaries || steps.len() < numbers {
-        return firrozun::plan(s, p, b, fold, c, out, bounds, steps);
+        return firrozun::plan(s, p, b, fold, c, -1.0, 1.0, out, bounds, steps);
     }
     firrozun::plan(
         s,
@@ -40,14 +42,22 @@ fn plan_within(
         b,
         fold,
         c,
+        -1.0,
+        1.0,
         &mut out[..room],
         &mut bounds[..boundaries],
         &mut steps[..numbers],
     )
 }
 
+// +0 in all four numbers, by their bits.
+fn is_no_interval(interval: Interval) -> bool {
+    let zero = same(interval.a, 0.0) && same(interval.b, 0.0);
+    zero && same(interval.u, 0.0) && same(interval.w, 0.0)
+}
+
 // Zero in every field, and the first value of each enum.
-fn is_zero(head: Head) -> bool {
+pub fn is_zero(head: Head) -> bool {
     let b = head.basis;
     let p = head.parity;
     let s = head.strategy;
@@ -58,7 +68,8 @@ fn is_zero(head: Head) -> bool {
         && transform_number(t) == 0;
     let costs = head.ct == 0 && head.pt == 0 && head.depth == 0;
     let counts = head.coefficients == 0 && head.lists == 0 && head.steps == 0;
-    kinds && costs && counts && head.degree == 0 && head.base == 0
+    let interval = head.interval;
+    kinds && costs && counts && head.degree == 0 && head.base == 0 && is_no_interval(interval)
 }
 
 // plan_refused  basis  parity  strategy  fold  room  boundaries  numbers  n  c..  =  refusal

@@ -29,7 +29,18 @@ pub fn plan_value_agrees(line: &[u8], at: usize) -> bool {
     let p = settings.parity;
     let s = settings.strategy;
     let c = first_wholes(&coeffs, list.count);
-    let ours = firrozun::plan(s, p, b, fold.value, c, &mut out, &mut bounds, &mut steps);
+    let ours = firrozun::plan(
+        s,
+        p,
+        b,
+        fold.value,
+        c,
+        -1.0,
+        1.0,
+        &mut out,
+        &mut bounds,
+        &mut steps,
+    );
     let head = ours.head;
     let walked = firrozun::trial_walk(head, &out, &bounds, &steps, point.value, modulus.value);
     let remainder = match_number(line, answer.next, walked.remainder as usize);

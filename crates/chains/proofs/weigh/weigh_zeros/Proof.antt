@@ -1,6 +1,7 @@
--- `chains::weigh::weigh_zeros` meets its contract. The curve is the first places of a buffer of zeros, the other buffers hold zeros before the plan,
--- and what the plan leaves in them is weighed.
+-- `chains::weigh::weigh_zeros` meets its contract. The curve is the first places of a buffer of zeros, the other buffers hold zeros before the plan, the
+-- literals are the bounds of the interval of lines, and what the plan leaves in the buffers is weighed.
 use borrow.Author.Needs.{needs}
+use lib.Ieee.{ofBits}
 use Rattle.chains.proofs.Zeros.{curve-taken, curve-length}
 use Rattle.chains.proofs.weigh.weigh_zeros.Statement.{statement}
 use Rattle.chains.proofs.weigh.weigh_zeros.Tie as tie
@@ -63,6 +64,7 @@ heaviest-chain-requires : tie.Need-heaviest-chain-requires
 heaviest-chain-requires c κs = search needs
 
 returns : tie.Need-returns
+unfolding ofBits
 returns c =
     let at-plan = c .before .before .before .before .before .before .before .before in
     let at-basis = at-plan .before .before .before .before .before in
