@@ -59,14 +59,14 @@ fn flat_head_interval(interval: Interval) -> CHeadInterval
     }
 }
 
-fn interval_of(interval: CHeadInterval) -> Interval
-    ensures { λ r. ⌜ r ≡ intervalMeant interval ⌝ }
+fn interval_of(flat: CHeadInterval) -> Interval
+    ensures { λ r. ⌜ r ≡ intervalMeant flat ⌝ }
 {
     Interval {
-        a: interval.a,
-        b: interval.b,
-        u: interval.u,
-        w: interval.w,
+        a: flat.a,
+        b: flat.b,
+        u: flat.u,
+        w: flat.w,
     }
 }
 
