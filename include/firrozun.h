@@ -63,7 +63,7 @@ extern "C" {
 #define FIRROZUN_REFUSAL_PARITY 4              /* a coefficient that is not zero stands where the parity allows none */
 #define FIRROZUN_REFUSAL_FOLD_FULL 5           /* folding is asked for with parity full */
 #define FIRROZUN_REFUSAL_FOLD_LOW 6            /* folding is asked for with even and degree below 2, or with odd and degree below 3 */
-#define FIRROZUN_REFUSAL_INTERVAL 7            /* a < b does not hold */
+#define FIRROZUN_REFUSAL_INTERVAL 7            /* a < b does not hold, as with a NaN */
 #define FIRROZUN_REFUSAL_NODES 8               /* nodes and values differ in number, or there are none, or more than 4,096 */
 #define FIRROZUN_REFUSAL_INDEX 9               /* the index to split is below 2 or above 4,294,967,295 */
 #define FIRROZUN_REFUSAL_SCALE 10              /* a bit scale is above 65,535 */
@@ -164,8 +164,20 @@ typedef struct {
     size_t steps;
 } firrozun_sizes;
 
-/* What a plan is of, its costs, and how many coefficients, lists and steps it has. Parity and degree are those of what is planned: with folding
- * the fold, of parity full. */
+/* From a to b, with y = u * x + w, as firrozun_change_of_basis gives them. */
+typedef struct {
+    double a;
+    double b;
+    double u;
+    double w;
+} firrozun_head_interval;
+
+/* What a plan is of, its costs, how many coefficients, lists and steps it has, and the interval that it was planned on. Parity and degree are those of
+ * what is planned: with folding the fold, of parity full. The interval stays that of the polynomial. Neither the trial walk nor the heaviest chain
+ * reads its four numbers.
+ *
+ * The interval came with request Q-7: 32 bytes at the end of the head, and so of firrozun_planned; the fields before it are where they were. Programs
+ * that plan, walk or weigh must be compiled anew. To a head that was stored before, add any four numbers. */
 typedef struct {
     uint8_t basis;
     uint8_t parity;
@@ -179,6 +191,7 @@ typedef struct {
     size_t coefficients;
     size_t lists;
     size_t steps;
+    firrozun_head_interval interval;
 } firrozun_head;
 
 typedef struct {
@@ -260,17 +273,18 @@ firrozun_listed firrozun_decompose_bsgs_f64(uint8_t strategy, uint8_t parity, ui
 
 /* ---- the sizes of a plan, the plan call, the trial walk and the heaviest chain */
 
-/* The sizes of every plan of this degree with these settings, before there are coefficients. A polynomial that passes the tests ahead of 21 is planned
- * exactly if the three buffers have at least so many places. Refusals 43, 2 (above 4,095), 1, with folding 5, 6: then firrozun_plan, too, refuses
- * with this number every polynomial of this degree. */
+/* The sizes of every plan of this degree with these settings, before there are coefficients and an interval. What passes the tests ahead of 21, the
+ * interval's among them, is planned exactly if the three buffers have at least so many places. Refusals 43, 2 (above 4,095), 1, with folding 5, 6: then
+ * firrozun_plan, too, refuses with this number every polynomial of this degree, on every interval. */
 firrozun_sizes firrozun_plan_sizes(uint8_t strategy, uint8_t parity, uint8_t basis, uint8_t fold, size_t degree);
 
-/* Plans a whole polynomial, or with `fold` its fold: the head in the answer, the lists in `out` and `bounds` as firrozun_decompose_bsgs leaves them,
- * and in `steps` four numbers for each step. firrozun_plan_sizes tells how many places the buffers need; FIRROZUN_COEFFICIENT_ROOM,
- * FIRROZUN_BOUNDARY_ROOM and FIRROZUN_STEP_ROOM are always enough.
- * Refusals 43, 2 (above 4,095), 1, with folding 5, 6, then 4, 3, 21, 22, 23. */
-firrozun_planned firrozun_plan(uint8_t strategy, uint8_t parity, uint8_t basis, uint8_t fold, const int64_t *c, size_t c_len, int64_t *out,
-                               size_t out_len, uint16_t *bounds, size_t bounds_len, uint16_t *steps, size_t steps_len);
+/* Plans a whole polynomial on the interval from a to b, or with `fold` its fold: the head in the answer, the lists in `out` and `bounds` as
+ * firrozun_decompose_bsgs leaves them, and in `steps` four numbers for each step. The interval goes into the head alone; lists and steps are the same
+ * on every interval. firrozun_plan_sizes tells how many places the buffers need; FIRROZUN_COEFFICIENT_ROOM, FIRROZUN_BOUNDARY_ROOM and
+ * FIRROZUN_STEP_ROOM are always enough.
+ * Refusals 43, 2 (above 4,095), 1, with folding 5, 6, then 4, 3, 7, 21, 22, 23. */
+firrozun_planned firrozun_plan(uint8_t strategy, uint8_t parity, uint8_t basis, uint8_t fold, const int64_t *c, size_t c_len, double a, double b,
+                               int64_t *out, size_t out_len, uint16_t *bounds, size_t bounds_len, uint16_t *steps, size_t steps_len);
 
 /* Walks a plan at a point: the value's remainder modulo `modulus`, from 0 up. Head and buffers may be any, damaged ones too. Refusals 43, 11, 24. */
 firrozun_trial firrozun_trial_walk(firrozun_head head, const int64_t *coefficients, size_t coefficients_len, const uint16_t *bounds,

@@ -1,7 +1,9 @@
 /* Plans 1 + 2x + 3x^2 + 4x^3 + 5x^4, prints the plan, walks it at 2 modulo 100 and prints the remainder, weighs its heaviest chain and prints the
- * weight. Then every other call once, and refusals. It exits with 1 if an answer is not the one expected. Valid C99 and C++. */
+ * weight. Then a fold on two intervals, every other call once, and refusals. It exits with 1 if an answer is not the one expected. Valid C99 and
+ * C++. */
 #include "firrozun.h"
 
+#include <math.h>
 #include <stdio.h>
 #include <string.h>
 
@@ -14,9 +16,14 @@ static void expect(int holds, const char *what) {
     }
 }
 
+static void print_interval(firrozun_head_interval interval) {
+    printf("from %g to %g, u %g, w %g\n", interval.a, interval.b, interval.u, interval.w);
+}
+
 static void print_plan(firrozun_head head, const int64_t *out, const uint16_t *bounds, const uint16_t *steps) {
     size_t place = 0;
     printf("degree %zu, base %zu, ct-ct %zu, pt-ct %zu, depth %zu\n", head.degree, head.base, head.ct, head.pt, head.depth);
+    print_interval(head.interval);
     for (size_t i = 0; i < head.lists; i++) {
         printf("list %zu:", i);
         for (; place < bounds[i]; place++) {
@@ -48,7 +55,7 @@ static void plan_and_walk(void) {
     uint16_t bounds[2];
     uint16_t steps[24];
     firrozun_planned planned =
-        firrozun_plan(FIRROZUN_MIN_DEPTH, FIRROZUN_FULL, FIRROZUN_MONOMIAL, FIRROZUN_NOT_FOLDED, c, 5, out, 5, bounds, 2, steps, 24);
+        firrozun_plan(FIRROZUN_MIN_DEPTH, FIRROZUN_FULL, FIRROZUN_MONOMIAL, FIRROZUN_NOT_FOLDED, c, 5, -1, 1, out, 5, bounds, 2, steps, 24);
     firrozun_head head = planned.head;
     expect(planned.refusal == FIRROZUN_ACCEPTED, "the plan is refused");
     if (wrong) {
@@ -56,6 +63,7 @@ static void plan_and_walk(void) {
     }
     expect(head.degree == 4 && head.base == 4 && head.ct == 3 && head.pt == 4 && head.depth == 3, "the head");
     expect(head.coefficients == 5 && head.lists == 2 && head.steps == 6, "the numbers of coefficients, lists and steps");
+    expect(head.interval.a == -1 && head.interval.b == 1 && head.interval.u == 1 && head.interval.w == 0, "the interval");
     expect(memcmp(out, c, sizeof out) == 0, "the lists");
     expect(memcmp(bounds, expected_bounds, sizeof bounds) == 0, "the boundaries");
     expect(memcmp(steps, expected_steps, sizeof steps) == 0, "the steps");
@@ -83,20 +91,62 @@ static void plan_and_walk(void) {
     expect(chain.refusal == FIRROZUN_REFUSAL_UNKNOWN_KIND && chain.weight == 0, "a chain with an unknown transform");
 }
 
+/* Plans T_0 + 2 T_2 on an interval, folded: the interval in the head. The walk is the same on every interval, whatever the head has there. */
+static firrozun_head_interval plan_on(double a, double b) {
+    static const int64_t c[3] = {1, 0, 2};
+    static const firrozun_head_interval none = {NAN, NAN, NAN, NAN};
+    int64_t out[2];
+    uint16_t bounds[1];
+    uint16_t steps[4];
+    firrozun_planned planned =
+        firrozun_plan(FIRROZUN_MIN_DEPTH, FIRROZUN_EVEN, FIRROZUN_CHEBYSHEV, FIRROZUN_FOLDED, c, 3, a, b, out, 2, bounds, 1, steps, 4);
+    expect(planned.refusal == FIRROZUN_ACCEPTED, "a plan on an interval is refused");
+    firrozun_head head = planned.head;
+    firrozun_trial trial = firrozun_trial_walk(head, out, 2, bounds, 1, steps, 4, 3, 1000);
+    expect(trial.refusal == FIRROZUN_ACCEPTED && trial.remainder == 35, "T_0 + 2 T_2 at 3");
+    head.interval = none;
+    trial = firrozun_trial_walk(head, out, 2, bounds, 1, steps, 4, 3, 1000);
+    expect(trial.refusal == FIRROZUN_ACCEPTED && trial.remainder == 35, "a walk with another interval in the head");
+    return planned.head.interval;
+}
+
+/* The head has the interval as firrozun_change_of_basis gives it; that of a fold is the polynomial's own. */
+static void plan_intervals(void) {
+    static const double ends[2][2] = {{-1, 1}, {0, 4}};
+    for (size_t i = 0; i < 2; i++) {
+        firrozun_head_interval interval = plan_on(ends[i][0], ends[i][1]);
+        firrozun_interval change = firrozun_change_of_basis(FIRROZUN_CHEBYSHEV, ends[i][0], ends[i][1]);
+        expect(interval.a == change.a && interval.b == change.b && interval.u == change.u && interval.w == change.w, "the interval of a fold");
+        print_interval(interval);
+    }
+}
+
 /* Refusals of the plan call leave every buffer as it was, beyond the length that is lent too. */
 static void plan_refusals(void) {
     static const int64_t c[5] = {1, 2, 3, 4, 5};
     static const struct {
         uint8_t strategy, parity, basis, fold;
-        size_t c_len, out_len, bounds_len, steps_len;
+        size_t c_len;
+        double a, b;
+        size_t out_len, bounds_len, steps_len;
         uint8_t refusal;
     } tried[] = {
-        {2, 0, 0, 0, 5, 5, 2, 24, FIRROZUN_REFUSAL_UNKNOWN_KIND},  {0, 3, 0, 0, 5, 5, 2, 24, FIRROZUN_REFUSAL_UNKNOWN_KIND},
-        {0, 0, 2, 0, 5, 5, 2, 24, FIRROZUN_REFUSAL_UNKNOWN_KIND},  {0, 0, 0, 2, 5, 5, 2, 24, FIRROZUN_REFUSAL_UNKNOWN_KIND},
-        {0, 0, 255, 0, 0, 0, 0, 0, FIRROZUN_REFUSAL_UNKNOWN_KIND}, {0, 0, 0, 0, 1, 5, 2, 24, FIRROZUN_REFUSAL_NO_DEGREE},
-        {0, 0, 0, 1, 5, 5, 2, 24, FIRROZUN_REFUSAL_FOLD_FULL},     {0, 1, 0, 0, 5, 5, 2, 24, FIRROZUN_REFUSAL_PARITY},
-        {0, 2, 0, 1, 3, 5, 2, 24, FIRROZUN_REFUSAL_FOLD_LOW},      {0, 0, 0, 0, 5, 4, 2, 24, FIRROZUN_REFUSAL_COEFFICIENT_BUFFER},
-        {0, 0, 0, 0, 5, 5, 1, 24, FIRROZUN_REFUSAL_BOUNDARY_BUFFER}, {0, 0, 0, 0, 5, 5, 2, 23, FIRROZUN_REFUSAL_STEP_BUFFER},
+        {2, 0, 0, 0, 5, -1, 1, 5, 2, 24, FIRROZUN_REFUSAL_UNKNOWN_KIND},
+        {0, 3, 0, 0, 5, -1, 1, 5, 2, 24, FIRROZUN_REFUSAL_UNKNOWN_KIND},
+        {0, 0, 2, 0, 5, -1, 1, 5, 2, 24, FIRROZUN_REFUSAL_UNKNOWN_KIND},
+        {0, 0, 0, 2, 5, -1, 1, 5, 2, 24, FIRROZUN_REFUSAL_UNKNOWN_KIND},
+        {0, 0, 255, 0, 0, 1, -1, 0, 0, 0, FIRROZUN_REFUSAL_UNKNOWN_KIND},
+        {0, 0, 0, 0, 1, -1, 1, 5, 2, 24, FIRROZUN_REFUSAL_NO_DEGREE},
+        {0, 0, 0, 1, 5, -1, 1, 5, 2, 24, FIRROZUN_REFUSAL_FOLD_FULL},
+        {0, 2, 0, 1, 3, -1, 1, 5, 2, 24, FIRROZUN_REFUSAL_FOLD_LOW},
+        {0, 1, 0, 0, 5, 1, -1, 5, 2, 24, FIRROZUN_REFUSAL_PARITY},
+        {0, 0, 0, 0, 5, NAN, 1, 5, 2, 24, FIRROZUN_REFUSAL_INTERVAL},
+        {0, 0, 0, 0, 5, -1, NAN, 5, 2, 24, FIRROZUN_REFUSAL_INTERVAL},
+        {0, 0, 0, 0, 5, 2, 2, 5, 2, 24, FIRROZUN_REFUSAL_INTERVAL},
+        {0, 0, 1, 0, 5, 1, -1, 4, 1, 23, FIRROZUN_REFUSAL_INTERVAL},
+        {0, 0, 0, 0, 5, -1, 1, 4, 2, 24, FIRROZUN_REFUSAL_COEFFICIENT_BUFFER},
+        {0, 0, 0, 0, 5, -1, 1, 5, 1, 24, FIRROZUN_REFUSAL_BOUNDARY_BUFFER},
+        {0, 0, 0, 0, 5, -1, 1, 5, 2, 23, FIRROZUN_REFUSAL_STEP_BUFFER},
     };
     int64_t out[5];
     uint16_t bounds[2];
@@ -104,7 +154,7 @@ static void plan_refusals(void) {
     int64_t out_before[5];
     uint16_t bounds_before[2];
     uint16_t steps_before[24];
-    static const firrozun_head none = {0, 0, 0, 0, 0, 0, 0, 0, 0, 0, 0, 0};
+    static const firrozun_head none = {0, 0, 0, 0, 0, 0, 0, 0, 0, 0, 0, 0, {0, 0, 0, 0}};
     memset(out, 7, sizeof out);
     memset(bounds, 7, sizeof bounds);
     memset(steps, 7, sizeof steps);
@@ -112,17 +162,18 @@ static void plan_refusals(void) {
     memcpy(bounds_before, bounds, sizeof bounds);
     memcpy(steps_before, steps, sizeof steps);
     for (size_t i = 0; i < sizeof tried / sizeof tried[0]; i++) {
-        firrozun_planned planned = firrozun_plan(tried[i].strategy, tried[i].parity, tried[i].basis, tried[i].fold, c, tried[i].c_len, out,
-                                                 tried[i].out_len, bounds, tried[i].bounds_len, steps, tried[i].steps_len);
+        firrozun_planned planned = firrozun_plan(tried[i].strategy, tried[i].parity, tried[i].basis, tried[i].fold, c, tried[i].c_len, tried[i].a,
+                                                 tried[i].b, out, tried[i].out_len, bounds, tried[i].bounds_len, steps, tried[i].steps_len);
         expect(planned.refusal == tried[i].refusal, "a refusal of the plan call");
         expect(planned.head.basis == none.basis && planned.head.parity == none.parity && planned.head.strategy == none.strategy
-                   && planned.head.transform == none.transform && memcmp(&planned.head.degree, &none.degree, 8 * sizeof(size_t)) == 0,
+                   && planned.head.transform == none.transform && memcmp(&planned.head.degree, &none.degree, 8 * sizeof(size_t)) == 0
+                   && memcmp(&planned.head.interval, &none.interval, sizeof none.interval) == 0,
                "the head of a refusal");
     }
     expect(memcmp(out, out_before, sizeof out) == 0 && memcmp(bounds, bounds_before, sizeof bounds) == 0
                && memcmp(steps, steps_before, sizeof steps) == 0,
            "a refusal changed a buffer");
-    expect(firrozun_plan(0, 0, 0, 0, NULL, 0, NULL, 0, NULL, 0, NULL, 0).refusal == FIRROZUN_REFUSAL_NO_DEGREE, "empty buffers");
+    expect(firrozun_plan(0, 0, 0, 0, NULL, 0, -1, 1, NULL, 0, NULL, 0, NULL, 0).refusal == FIRROZUN_REFUSAL_NO_DEGREE, "empty buffers");
 }
 
 /* The calls on bare numbers. */
@@ -198,6 +249,7 @@ static void coefficients(void) {
 
 int main(void) {
     plan_and_walk();
+    plan_intervals();
     plan_refusals();
     bare_numbers();
     coefficients();

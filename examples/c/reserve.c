@@ -21,8 +21,8 @@ static int is_refused(firrozun_sizes sizes, uint8_t refusal) {
 
 static firrozun_planned plan(int64_t *out, size_t out_len, uint16_t *bounds, size_t bounds_len, uint16_t *steps, size_t steps_len) {
     static const int64_t curve[10] = {0, 1, 0, 2, 0, 3, 0, 4, 0, 5};
-    return firrozun_plan(FIRROZUN_MIN_MULT, FIRROZUN_ODD, FIRROZUN_CHEBYSHEV, FIRROZUN_FOLDED, curve, 10, out, out_len, bounds, bounds_len, steps,
-                         steps_len);
+    return firrozun_plan(FIRROZUN_MIN_MULT, FIRROZUN_ODD, FIRROZUN_CHEBYSHEV, FIRROZUN_FOLDED, curve, 10, -1, 1, out, out_len, bounds, bounds_len,
+                         steps, steps_len);
 }
 
 /* Reserves, plans and walks. */
