@@ -21,7 +21,7 @@ fn main() -> Result<(), Refusal> {
         boundaries: &mut boundaries,
         steps: &mut steps,
     };
-    let head = plan_into(strategy, parity, basis, fold, &curve, buffers)?;
+    let head = plan_into(strategy, parity, basis, fold, &curve, (-1.0, 1.0), buffers)?;
     println!("{head:?}");
     let value = trial_walk(&head, &coefficients, &boundaries, &steps, 2, 1_000_000_007)?;
     println!("at 2: {value}");

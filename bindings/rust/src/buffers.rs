@@ -7,6 +7,7 @@
 use crate::coefficient::Coefficient;
 use crate::ffi;
 use crate::ffi::{CHead, Settings};
+use crate::interval::Interval;
 use crate::kinds::{Basis, Parity, PolynomialInputTransform, SplitStrategy};
 use crate::refusal::Refusal;
 
@@ -92,7 +93,7 @@ pub struct Interpolated {
     pub change_of_basis: (f64, f64),
 }
 
-/// The head of a plan: its settings, its cost, and how much of each buffer it has.
+/// The head of a plan: its settings, its cost, how much of each buffer it has, and the interval that it was made on.
 ///
 /// ```
 /// use firrozun::{Basis, Polynomial, PolynomialInputTransform, SplitStrategy};
@@ -100,6 +101,7 @@ pub struct Interpolated {
 /// let head = plan.head();
 /// assert_eq!((head.transform, head.degree), (PolynomialInputTransform::Square, 2));
 /// assert_eq!((head.ct_ct, head.pt_ct, head.depth), (2, 2, 3));
+/// assert_eq!((head.interval.a, head.interval.b), (-1.0, 1.0));
 /// # Ok::<(), firrozun::Refusal>(())
 /// ```
 #[derive(Clone, Copy, Debug, PartialEq, Eq)]
@@ -128,6 +130,8 @@ pub struct Head {
     pub lists: usize,
     /// How many steps it has, each of four numbers.
     pub steps: usize,
+    /// The interval of the polynomial, also when it is folded. No call reads it: to a head that was stored without one, add any.
+    pub interval: Interval,
 }
 
 impl Head {
@@ -145,6 +149,7 @@ impl Head {
             coefficients: head.coefficients,
             lists: head.lists,
             steps: head.steps,
+            interval: Interval::from_c(head.interval),
         }
     }
 
@@ -162,6 +167,7 @@ impl Head {
             coefficients: self.coefficients,
             lists: self.lists,
             steps: self.steps,
+            interval: self.interval.to_c(),
         }
     }
 }
@@ -207,7 +213,8 @@ impl PlanSizes {
 /// use firrozun::{Basis, Parity, Refusal, SplitStrategy};
 /// let (mut coefficients, mut boundaries, mut steps) = ([0; 2], [0; 1], [0; 3]);
 /// let buffers = PlanBuffers { coefficients: &mut coefficients, boundaries: &mut boundaries, steps: &mut steps };
-/// let planned = plan_into(SplitStrategy::MinDepth, Parity::Full, Basis::Monomial, false, &[1, 2], buffers);
+/// let ends = (-1.0, 1.0);
+/// let planned = plan_into(SplitStrategy::MinDepth, Parity::Full, Basis::Monomial, false, &[1, 2], ends, buffers);
 /// assert_eq!(planned, Err(Refusal::StepBuffer)); // one step wants four places
 /// ```
 #[derive(Debug)]
@@ -279,11 +286,11 @@ pub fn decompose_bsgs_into<F: Coefficient>(
     })
 }
 
-/// The sizes of every plan of this degree with these settings, before there are coefficients.
+/// The sizes of every plan of this degree with these settings, before there are coefficients and an interval.
 ///
-/// A polynomial that is not refused otherwise is planned exactly if its buffers are at least so long.
+/// A polynomial that is not refused otherwise, its interval neither, is planned exactly if its buffers are at least so long.
 ///
-/// Refused: 2, 1, with folding 5, 6, in this order. Then [`plan_into`], too, refuses every polynomial of this degree.
+/// Refused: 2, 1, with folding 5, 6, in this order. Then [`plan_into`], too, refuses every polynomial of this degree, on every interval.
 ///
 /// ```
 /// use firrozun::buffers::{plan_into, plan_sizes, PlanBuffers};
@@ -293,7 +300,8 @@ pub fn decompose_bsgs_into<F: Coefficient>(
 /// let (mut coefficients, mut boundaries) = (vec![0; sizes.coefficients], vec![0; sizes.lists]);
 /// let mut steps = vec![0; sizes.step_places()];
 /// let buffers = PlanBuffers { coefficients: &mut coefficients, boundaries: &mut boundaries, steps: &mut steps };
-/// let head = plan_into(SplitStrategy::MinMult, Parity::Odd, Basis::Chebyshev, true, &[0, 1, 0, 2], buffers)?;
+/// let (curve, ends) = ([0, 1, 0, 2], (-1.0, 1.0));
+/// let head = plan_into(SplitStrategy::MinMult, Parity::Odd, Basis::Chebyshev, true, &curve, ends, buffers)?;
 /// assert_eq!((head.coefficients, head.lists, head.steps), (sizes.coefficients, sizes.lists, sizes.steps));
 /// assert_eq!(odd(2), Err(Refusal::FoldLow));
 /// # Ok::<(), firrozun::Refusal>(())
@@ -323,9 +331,12 @@ fn settings(strategy: SplitStrategy, parity: Parity, basis: Basis, fold: bool) -
     }
 }
 
-/// Plans a polynomial with whole coefficients into lent buffers. [`Plan`](crate::Plan) is the same with buffers of its own.
+/// Plans a polynomial with whole coefficients, on an interval, into lent buffers. [`Plan`](crate::Plan) is the same with buffers of its
+/// own.
 ///
-/// Refused: 2, 1, with folding 5, 6, then 4, 3, 21, 22, 23, in this order.
+/// The interval, from its first number to its second, goes into the head alone: the buffers get the same on every interval.
+///
+/// Refused: 2, 1, with folding 5, 6, then 4, 3, 7, 21, 22, 23, in this order.
 ///
 /// ```
 /// use firrozun::buffers::{plan_into, trial_walk, PlanBuffers};
@@ -337,9 +348,11 @@ fn settings(strategy: SplitStrategy, parity: Parity, basis: Basis, fold: bool) -
 ///     Basis::Monomial,
 ///     false,
 ///     &[1, 2, 3, 4, 5],
+///     (0.0, 4.0),
 ///     PlanBuffers { coefficients: &mut coefficients, boundaries: &mut boundaries, steps: &mut steps },
 /// )?;
 /// assert_eq!((head.ct_ct, head.pt_ct, head.depth), (3, 4, 3));
+/// assert_eq!((head.interval.a, head.interval.b), (0.0, 4.0));
 /// assert_eq!(trial_walk(&head, &coefficients, &boundaries, &steps, 2, 100), Ok(29));
 /// # Ok::<(), firrozun::Refusal>(())
 /// ```
@@ -349,11 +362,13 @@ pub fn plan_into(
     basis: Basis,
     fold: bool,
     coeffs: &[i64],
+    interval: (f64, f64),
     buffers: PlanBuffers<'_>,
 ) -> Result<Head, Refusal> {
     let answer = ffi::plan(
         settings(strategy, parity, basis, fold),
         coeffs,
+        interval,
         buffers.coefficients,
         buffers.boundaries,
         buffers.steps,
@@ -364,7 +379,7 @@ pub fn plan_into(
 
 /// Walks a plan at a point, modulo a number: the remainder, from 0 up, of the value of the polynomial that was planned.
 ///
-/// Any head and any buffers may be handed in, damaged ones too.
+/// Any head and any buffers may be handed in, damaged ones too. The head's interval is not read.
 ///
 /// Refused: 11 for a modulus below 2 or above 2,147,483,647, then 24 for a plan that cannot be walked.
 ///
@@ -397,7 +412,7 @@ pub fn trial_walk(
 /// Those of a list and of the transform count too. The weight is exact for every plan that can be walked, and at most 30 times the
 /// greater scale.
 ///
-/// Any head and any buffers may be handed in, damaged ones too.
+/// Any head and any buffers may be handed in, damaged ones too. The head's interval is not read.
 ///
 /// Refused: 10 for a scale above 65,535, then 24 for a plan that cannot be walked.
 ///

@@ -107,6 +107,15 @@ pub struct CSizes {
 
 #[repr(C)]
 #[derive(Clone, Copy, Debug, PartialEq)]
+pub struct CHeadInterval {
+    pub a: f64,
+    pub b: f64,
+    pub u: f64,
+    pub w: f64,
+}
+
+#[repr(C)]
+#[derive(Clone, Copy, Debug, PartialEq)]
 pub struct CHead {
     pub basis: u8,
     pub parity: u8,
@@ -120,6 +129,7 @@ pub struct CHead {
     pub coefficients: usize,
     pub lists: usize,
     pub steps: usize,
+    pub interval: CHeadInterval,
 }
 
 #[repr(C)]
@@ -217,6 +227,8 @@ extern "C" {
         fold: u8,
         c: *const i64,
         c_len: usize,
+        a: f64,
+        b: f64,
         out: *mut i64,
         out_len: usize,
         bounds: *mut u16,
@@ -384,6 +396,7 @@ pub fn plan_sizes(settings: Settings, degree: usize) -> CSizes {
 pub fn plan(
     settings: Settings,
     c: &[i64],
+    (a, b): (f64, f64),
     out: &mut [i64],
     bounds: &mut [u16],
     steps: &mut [u16],
@@ -397,6 +410,8 @@ pub fn plan(
             settings.fold,
             c.as_ptr(),
             c.len(),
+            a,
+            b,
             out.as_mut_ptr(),
             out.len(),
             bounds.as_mut_ptr(),

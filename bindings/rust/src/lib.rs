@@ -38,6 +38,7 @@ mod calls;
 mod coefficient;
 #[allow(unsafe_code)]
 mod ffi;
+mod interval;
 mod kinds;
 mod plan;
 mod polynomial;
@@ -51,6 +52,7 @@ pub use calls::{
     evaluate_coeffs, largest_degree, min_depth_split, min_mult_split, split_degree,
 };
 pub use coefficient::Coefficient;
+pub use interval::Interval;
 pub use kinds::{Basis, Parity, PolynomialInputTransform, SplitStrategy, DEFAULT_SPLIT_STRATEGY};
 pub use plan::{Plan, Step};
 pub use polynomial::Polynomial;

@@ -33,7 +33,7 @@ pub struct Plan {
 }
 
 impl Plan {
-    /// Plans the polynomial with these whole coefficients, folded or not.
+    /// Plans the polynomial with these whole coefficients on −1 to 1, folded or not.
     ///
     /// Refused: 2, 1, with folding 5, 6, then 4, 3, in this order.
     ///
@@ -51,6 +51,30 @@ impl Plan {
         strategy: SplitStrategy,
         fold: bool,
     ) -> Result<Self, Refusal> {
+        Self::on_interval(basis, coeffs, parity, strategy, fold, (-1.0, 1.0))
+    }
+
+    /// The same on an interval, from its first number to its second. It goes into the head: lists and steps are the same on every
+    /// interval.
+    ///
+    /// Refused: 2, 1, with folding 5, 6, then 4, 3, 7, in this order.
+    ///
+    /// ```
+    /// use firrozun::{Basis, Interval, Parity, Plan, Refusal, SplitStrategy};
+    /// let on = |ends| Plan::on_interval(Basis::Chebyshev, &[1, 2, 3], Parity::Full, SplitStrategy::MinMult, false, ends);
+    /// assert_eq!(on((0.0, 4.0))?.head().interval, Interval { a: 0.0, b: 4.0, u: 0.5, w: -1.0 });
+    /// assert_eq!(on((0.0, 4.0))?.walk(2, 100), on((-1.0, 1.0))?.walk(2, 100));
+    /// assert_eq!(on((4.0, 4.0)), Err(Refusal::Interval));
+    /// # Ok::<(), Refusal>(())
+    /// ```
+    pub fn on_interval(
+        basis: Basis,
+        coeffs: &[i64],
+        parity: Parity,
+        strategy: SplitStrategy,
+        fold: bool,
+        interval: (f64, f64),
+    ) -> Result<Self, Refusal> {
         // What refuses the sizes refuses the plan, with the same number and ahead of all else.
         let degree = coeffs.len().saturating_sub(1);
         let sizes = plan_sizes(strategy, parity, basis, fold, degree)?;
@@ -62,7 +86,7 @@ impl Plan {
             boundaries: &mut boundaries,
             steps: &mut steps,
         };
-        let head = plan_into(strategy, parity, basis, fold, coeffs, buffers)?;
+        let head = plan_into(strategy, parity, basis, fold, coeffs, interval, buffers)?;
         Ok(Self {
             head,
             coefficients,
@@ -71,7 +95,7 @@ impl Plan {
         })
     }
 
-    /// The plan's settings, cost and sizes.
+    /// The plan's settings, cost, sizes and interval.
     ///
     /// ```
     /// # use firrozun::{Basis, Parity, Plan, SplitStrategy};

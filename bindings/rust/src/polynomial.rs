@@ -307,23 +307,26 @@ impl Polynomial<f64> {
 }
 
 impl Polynomial<i64> {
-    /// The plan of this polynomial, as it is.
+    /// The plan of this polynomial, as it is, on its interval. The ends are taken as the nearest f64.
     ///
-    /// Refused: 2, 1, 4, 3, in this order.
+    /// Refused: 2, 1, 4, 3, 7, in this order. Two ends above 2^53 may have one nearest f64, which is 7 too.
     ///
     /// ```
-    /// use firrozun::{Basis, Polynomial, SplitStrategy};
-    /// let plan = Polynomial::new(Basis::Monomial, vec![1, 2, 3, 4, 5]).plan(SplitStrategy::MinDepth)?;
+    /// use firrozun::{Basis, Polynomial, Refusal, SplitStrategy};
+    /// let curve = Polynomial::new(Basis::Monomial, vec![1, 2, 3, 4, 5]).with_interval(0, 4);
+    /// let plan = curve.plan(SplitStrategy::MinDepth)?;
+    /// assert_eq!((plan.head().interval.a, plan.head().interval.b), (0.0, 4.0));
     /// assert_eq!(plan.walk(2, 100), Ok(29));
+    /// assert_eq!(curve.with_interval(4, 4).plan(SplitStrategy::MinDepth), Err(Refusal::Interval));
     /// # Ok::<(), firrozun::Refusal>(())
     /// ```
     pub fn plan(&self, split_strategy: SplitStrategy) -> Result<Plan, Refusal> {
-        Plan::new(self.basis, &self.coeffs, self.parity, split_strategy, false)
+        self.planned(split_strategy, false)
     }
 
-    /// The plan of this polynomial's fold. Walked, it gives the value of this polynomial all the same.
+    /// The plan of this polynomial's fold, on this polynomial's interval. Walked, it gives the value of this polynomial all the same.
     ///
-    /// Refused: 2, 1, 5, 6, 4, 3, in this order.
+    /// Refused: 2, 1, 5, 6, 4, 3, 7, in this order.
     ///
     /// ```
     /// use firrozun::{Basis, Polynomial, SplitStrategy};
@@ -332,6 +335,18 @@ impl Polynomial<i64> {
     /// # Ok::<(), firrozun::Refusal>(())
     /// ```
     pub fn plan_folded(&self, split_strategy: SplitStrategy) -> Result<Plan, Refusal> {
-        Plan::new(self.basis, &self.coeffs, self.parity, split_strategy, true)
+        self.planned(split_strategy, true)
+    }
+
+    fn planned(&self, strategy: SplitStrategy, fold: bool) -> Result<Plan, Refusal> {
+        let interval = (self.a.to_f64(), self.b.to_f64());
+        Plan::on_interval(
+            self.basis,
+            &self.coeffs,
+            self.parity,
+            strategy,
+            fold,
+            interval,
+        )
     }
 }

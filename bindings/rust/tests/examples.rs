@@ -6,8 +6,8 @@ use firrozun::Parity::{Even, Full, Odd};
 use firrozun::SplitStrategy::{MinDepth, MinMult};
 use firrozun::{
     bsgs_consumed_bits, bsgs_eval_depth, bsgs_op_counts, evaluate_coeffs, min_depth_split,
-    min_mult_split, split_degree, Basis, Plan, Polynomial, PolynomialInputTransform, Refusal,
-    SplitStrategy, Step,
+    min_mult_split, split_degree, Basis, Interval, Plan, Polynomial, PolynomialInputTransform,
+    Refusal, SplitStrategy, Step,
 };
 
 /// A plan, unfolded, of the parity `Full`.
@@ -135,6 +135,12 @@ fn the_plan_of_the_picture() {
         coefficients: 5,
         lists: 2,
         steps: 6,
+        interval: Interval {
+            a: -1.0,
+            b: 1.0,
+            u: 1.0,
+            w: 0.0,
+        },
     };
     assert_eq!(*plan.head(), head);
     assert_eq!(plan.lists().collect::<Vec<_>>(), [&[1, 2, 3, 4][..], &[5]]);

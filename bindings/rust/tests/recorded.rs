@@ -8,7 +8,8 @@ use firrozun::buffers::{chebyshev_interpolate_into, plan_into, trial_walk, PlanB
 use firrozun::{
     bsgs_consumed_bits, bsgs_eval_depth, bsgs_op_counts, change_of_basis, detect_parity,
     evaluate_coeffs, largest_degree, min_depth_split, min_mult_split, split_degree, Basis,
-    Coefficient, Head, Parity, Plan, Polynomial, PolynomialInputTransform, Refusal, SplitStrategy,
+    Coefficient, Head, Interval, Parity, Plan, Polynomial, PolynomialInputTransform, Refusal,
+    SplitStrategy,
 };
 use std::path::Path;
 use std::str::{FromStr, Split};
@@ -206,6 +207,22 @@ fn plan_value(arguments: &mut Arguments) -> Answer {
     Ok(vec![plan.walk(point, modulus)?.to_string()])
 }
 
+/// The head's interval with its pair.
+fn plan_interval(arguments: &mut Arguments) -> Answer {
+    let (basis, parity) = (arguments.basis(), arguments.parity());
+    let (strategy, fold) = (arguments.strategy(), arguments.fold());
+    let ends = (arguments.one(), arguments.one());
+    let plan = Plan::on_interval(basis, &arguments.list(), parity, strategy, fold, ends);
+    let Interval { a, b, u, w } = match plan {
+        Ok(plan) => plan.head().interval,
+        Err(refusal) => {
+            assert_eq!(refusal, Refusal::Interval);
+            return Err(refusal);
+        }
+    };
+    Ok([a, b, u, w].map(Recorded::write).to_vec())
+}
+
 fn plan_refused(arguments: &mut Arguments) -> Answer {
     let (basis, parity) = (arguments.basis(), arguments.parity());
     let (strategy, fold) = (arguments.strategy(), arguments.fold());
@@ -223,6 +240,7 @@ fn plan_refused(arguments: &mut Arguments) -> Answer {
         basis,
         fold,
         &arguments.list::<i64>(),
+        (-1.0, 1.0),
         buffers,
     );
     assert!(coefficients.iter().all(|&place| place == 9));
@@ -244,6 +262,13 @@ fn walk(arguments: &mut Arguments) -> Answer {
         ct_ct: 0,
         pt_ct: 0,
         depth: 0,
+        // Not read, like the others that no line has.
+        interval: Interval {
+            a: f64::NAN,
+            b: f64::NAN,
+            u: f64::NAN,
+            w: f64::NAN,
+        },
     };
     let (point, modulus) = (arguments.number(), arguments.number());
     let coefficients: Vec<i64> = arguments.list();
@@ -314,6 +339,7 @@ fn answer(call: &str, arguments: &mut Arguments) -> Answer {
         "decompose_folded" => decompose_folded(a),
         "decompose_folded_whole" => decompose_folded_whole(a),
         "plan_value" => plan_value(a),
+        "plan_interval" => plan_interval(a),
         "plan_refused" => plan_refused(a),
         "trial_walk" => walk(a),
         _ => panic!("no call {call}"),

@@ -1,6 +1,7 @@
 //! Every refusal number, by inputs that give it, the last accepted input beside it where there is one.
 //!
 //! 12 belongs to the lines of the program `planlines`. No call of this crate reads lines, so its number and sentence alone are tested.
+//! 7 of a plan is tested in `tests/interval.rs`, with the interval in its head.
 //! 31 is tested in `tests/budgets.rs`, with the call that answers it.
 //! 43 is the answer to an unknown kind, which the enums cannot say: it is tested in `src/ffi/tests.rs`, below them.
 
@@ -21,6 +22,7 @@ use firrozun::{
 use std::error::Error;
 
 const LAST_U32: usize = 4_294_967_295;
+const UNIT: (f64, f64) = (-1.0, 1.0);
 const ONE_TOO_MANY: usize = 4097;
 
 /// The number of a refusal, and 0 for an answer.
@@ -305,7 +307,7 @@ fn refusal_21_coefficient_buffer() {
             boundaries: &mut boundaries,
             steps: &mut steps,
         };
-        let planned = plan_into(strategy, Full, Chebyshev, false, &[1, 2, 3], buffers);
+        let planned = plan_into(strategy, Full, Chebyshev, false, &[1, 2, 3], UNIT, buffers);
         assert_eq!(number(planned), 21);
     }
     let answer = chebyshev_interpolate_into(&[0.0, 1.0], &[1.0, 2.0], 0.0, 1.0, &mut [9.0]);
@@ -343,6 +345,7 @@ fn refusal_22_boundary_buffer() {
             Monomial,
             false,
             &[1, 2, 3],
+            UNIT,
             buffers
         )),
         22
@@ -374,6 +377,7 @@ fn refusal_23_step_buffer() {
             Monomial,
             false,
             &[1, 2, 3, 4, 5],
+            UNIT,
             buffers,
         ));
         (answer, out, boundaries, steps)

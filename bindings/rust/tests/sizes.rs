@@ -21,7 +21,7 @@ fn planned(
         boundaries: &mut boundaries,
         steps: &mut steps,
     };
-    plan_into(strategy, parity, basis, fold, curve, buffers)
+    plan_into(strategy, parity, basis, fold, curve, (-1.0, 1.0), buffers)
 }
 
 /// The refusal that the rules give degree and settings.

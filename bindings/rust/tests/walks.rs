@@ -7,6 +7,8 @@ use firrozun::buffers::{heaviest_chain, plan_into, trial_walk, PlanBuffers};
 use firrozun::buffers::{BOUNDARY_ROOM, COEFFICIENT_ROOM, STEP_ROOM};
 use firrozun::{Basis, Parity, Plan, Polynomial, Refusal, SplitStrategy, Step};
 
+/// The interval of a plan that names none.
+const UNIT: (f64, f64) = (-1.0, 1.0);
 const POINTS: [i64; 7] = [0, 1, -1, 2, -3, i64::MAX, i64::MIN];
 const MODULI: [u64; 4] = [2, 1_000_003, 2_147_483_646, 2_147_483_647];
 
@@ -162,7 +164,7 @@ fn every_degree_gets_a_plan() {
                     boundaries: &mut boundaries,
                     steps: &mut steps,
                 };
-                let lent = plan_into(strategy, parity, basis, false, coeffs, buffers);
+                let lent = plan_into(strategy, parity, basis, false, coeffs, UNIT, buffers);
                 assert_eq!(plan.map(|plan| *plan.head()), lent);
                 assert!(lent.is_ok());
                 let fold = parity != Parity::Full && count > 3;
@@ -188,7 +190,7 @@ fn lent_buffers_hold_the_same_plans() {
             boundaries: &mut boundary_buffer,
             steps: &mut step_buffer,
         };
-        let head = plan_into(strategy, parity, basis, fold, &coeffs, buffers);
+        let head = plan_into(strategy, parity, basis, fold, &coeffs, UNIT, buffers);
         let plan = Plan::new(basis, &coeffs, parity, strategy, fold);
         assert_eq!(
             head,

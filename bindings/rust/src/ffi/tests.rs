@@ -1,6 +1,8 @@
-//! Refusal 43. The safe types have no kind that the library does not know, so its number is tested here, below them.
+//! Refusal 43. The safe types have no kind that the library does not know, so its number is tested here, below them. And where the
+//! fields of the head stand: callers of before the interval count on those ahead of it.
 
 use super::*;
+use std::mem::{offset_of, size_of};
 
 const NO_HEAD: CHead = CHead {
     basis: 0,
@@ -15,7 +17,71 @@ const NO_HEAD: CHead = CHead {
     coefficients: 0,
     lists: 0,
     steps: 0,
+    interval: CHeadInterval {
+        a: 0.0,
+        b: 0.0,
+        u: 0.0,
+        w: 0.0,
+    },
 };
+
+#[test]
+fn the_interval_stands_last_in_the_head() {
+    let bytes = offset_of!(CHead, transform);
+    let words = [
+        offset_of!(CHead, degree),
+        offset_of!(CHead, base),
+        offset_of!(CHead, ct),
+        offset_of!(CHead, pt),
+        offset_of!(CHead, depth),
+        offset_of!(CHead, coefficients),
+        offset_of!(CHead, lists),
+        offset_of!(CHead, steps),
+        offset_of!(CHead, interval),
+    ];
+    assert_eq!((bytes, words), (3, [8, 16, 24, 32, 40, 48, 56, 64, 72]));
+    let numbers = [
+        offset_of!(CHeadInterval, a),
+        offset_of!(CHeadInterval, b),
+        offset_of!(CHeadInterval, u),
+        offset_of!(CHeadInterval, w),
+    ];
+    assert_eq!(numbers, [0, 8, 16, 24]);
+    assert_eq!(size_of::<CHeadInterval>(), 32);
+    assert_eq!(size_of::<CHead>(), 72 + 32);
+    assert_eq!(offset_of!(CPlanned, head), 8);
+    assert_eq!(size_of::<CPlanned>(), 8 + 72 + 32);
+}
+
+/// +0 in the head of a refusal: -0 would be equal to it.
+fn has_no_interval(head: CHead) {
+    let CHeadInterval { a, b, u, w } = head.interval;
+    assert_eq!([a, b, u, w].map(f64::to_bits), [0; 4]);
+}
+
+#[test]
+fn the_head_of_a_refusal() {
+    let settings = Settings {
+        strategy: 1,
+        parity: 0,
+        basis: 1,
+        fold: 0,
+    };
+    let (mut out, mut bounds, mut steps) = ([9; 8], [9; 8], [9; 64]);
+    for (coeffs, ends, refusal) in [
+        (&[1][..], (0.0, 2.0), 1),
+        (&[1 << 30, 1], (0.0, 2.0), 3),
+        (&[1, 2, 3], (-0.0, -1.0), 7),
+        (&[1, 2, 3], (f64::NAN, 1.0), 7),
+        (&[1, 2, 3, 4, 5, 6, 7, 8, 9], (0.0, 2.0), 21),
+    ] {
+        let answer = plan(settings, coeffs, ends, &mut out, &mut bounds, &mut steps);
+        let head = NO_HEAD;
+        assert_eq!(answer, CPlanned { refusal, head });
+        has_no_interval(answer.head);
+    }
+    assert_eq!((out, bounds, steps), ([9; 8], [9; 8], [9; 64]));
+}
 
 /// Every byte that is no kind, of a kind with so many values.
 fn unknown(kinds: u8) -> impl Iterator<Item = u8> {
@@ -156,7 +222,12 @@ fn unknown_kinds_in_sizes_plan_walk_and_chain() {
     let mut refused = |s| {
         // A degree that is refused too: 43 comes first.
         assert_eq!(plan_sizes(s, 4096), no_sizes);
-        assert_eq!(plan(s, &[1, 2, 3], &mut out, &mut bounds, &mut steps), none);
+        // An interval that is accepted, and one that is refused too.
+        for ends in [(-1.0, 1.0), (1.0, -1.0)] {
+            let answer = plan(s, &[1, 2, 3], ends, &mut out, &mut bounds, &mut steps);
+            assert_eq!(answer, none);
+            has_no_interval(answer.head);
+        }
     };
     for n in unknown(2) {
         refused(settings(n, 0, 0, 0));
