@@ -382,5 +382,5 @@ fn lists() {
 
 #[test]
 fn plans() {
-    assert!(replay("replay_plans") > 2600);
+    assert!(replay("replay_plans") > 2800);
 }
