@@ -385,6 +385,36 @@ impl<W: Write> Recorder<W> {
         self.end(Some(value_mod(basis, c, point, modulus)), |r, v| r.field(v));
     }
 
+    /// The interval in a plan's head, with its pair: those of the published lists. The published code takes every interval; the
+    /// refusal of one without a < b is ours.
+    pub fn plan_interval(
+        &mut self,
+        basis: Basis,
+        parity: Parity,
+        strategy: SplitStrategy,
+        fold: bool,
+        (a, b): (f64, f64),
+        c: &[f64],
+    ) {
+        self.begin("plan_interval", Form::Bits);
+        self.setting(basis, parity, strategy);
+        self.field(if fold { 'Y' } else { 'N' });
+        self.numbers(&[a, b]);
+        self.form = Form::Whole;
+        self.list(c);
+        self.form = Form::Bits;
+        let p = rust::Polynomial::new_with_parity(basis, c.to_vec(), parity).with_interval(a, b);
+        let copy = |list: &[f64]| Ok(list.to_vec());
+        let lists = ask(|| match fold {
+            true => p.decompose_bsgs_folded_with(strategy, copy),
+            false => p.decompose_bsgs_with(strategy, copy),
+        });
+        // A refusal for another reason would pass for one of the interval.
+        let lists = lists.expect("lists on every interval");
+        let answer = (a < b).then(|| (lists.interval(), lists.change_of_basis()));
+        self.end(answer, |r, ((a, b), (u, w))| r.numbers(&[a, b, u, w]));
+    }
+
     /// A line that was written by hand.
     pub fn by_hand(&mut self, line: &str) {
         self.line.clear();

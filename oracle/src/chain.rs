@@ -10,6 +10,16 @@ use crate::split::parts;
 /// The most values that wait.
 const MAX_WAITING: usize = 16;
 
+/// The interval in a plan's head, with its pair. No chain depends on it.
+#[repr(C)]
+#[derive(Clone, Copy, Debug, Default, PartialEq)]
+pub struct Interval {
+    pub a: f64,
+    pub b: f64,
+    pub u: f64,
+    pub w: f64,
+}
+
 /// A plan's head as include/firrozun.h has it. Kinds go by number.
 #[repr(C)]
 #[derive(Clone, Copy, Debug, Default)]
@@ -26,6 +36,7 @@ pub struct Head {
     pub coefficients: usize,
     pub lists: usize,
     pub steps: usize,
+    pub interval: Interval,
 }
 
 /// Refusal and weight. The tests are 43, 10 and 24, in this order; a refused plan weighs 0.

@@ -39,6 +39,7 @@ pub fn record(dir: &Path) {
         folded_whole(r);
         plan_values(r);
         damaged::plans(r);
+        plan_intervals(r);
     });
     printed::record(dir);
     chains::record(dir);
@@ -513,6 +514,41 @@ fn plan_value(
     let random = 2 + g.below(2_147_483_646) as u64;
     let modulus = g.pick(&[2, 3, 97, 65_537, 2_147_483_647, random]);
     r.plan_value(basis, parity, strategy, fold, point, modulus, &c);
+}
+
+/// The special intervals in both bases, folded and not, and random ones.
+fn plan_intervals(r: &mut Rec) {
+    let g = &mut rng(13);
+    for ends in RISING.into_iter().chain(NOT_RISING) {
+        for basis in BASES {
+            for fold in [false, true] {
+                plan_interval(r, g, basis, fold, ends);
+            }
+        }
+    }
+    (0..100).for_each(|_| any_plan_interval(r, g));
+}
+
+pub fn any_plan_interval(r: &mut Rec, g: &mut Rng) {
+    let (basis, fold, ends) = (g.pick(&BASES), g.one_in(2), interval(g));
+    plan_interval(r, g, basis, fold, ends);
+}
+
+/// A short polynomial that nothing but its interval can refuse.
+fn plan_interval(r: &mut Rec, g: &mut Rng, basis: Basis, fold: bool, ends: (f64, f64)) {
+    let parity = if fold {
+        g.pick(&SYMMETRIC)
+    } else {
+        g.pick(&PARITIES)
+    };
+    let least = match parity {
+        _ if !fold => 1,
+        Parity::Even => 2,
+        _ => 3,
+    };
+    let degree = least + g.below(9 - least);
+    let c = whole(g, parity, degree + 1);
+    r.plan_interval(basis, parity, g.pick(&STRATEGIES), fold, ends, &c);
 }
 
 fn folded_whole(r: &mut Rec) {

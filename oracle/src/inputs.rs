@@ -73,6 +73,53 @@ pub const SPECIAL: [f64; 18] = [
     -2.0,
 ];
 
+const LEAST: f64 = f64::from_bits(1);
+/// The greatest subnormal number.
+const SUBNORMAL: f64 = f64::from_bits(0x000f_ffff_ffff_ffff);
+
+/// Intervals with the lower end below the upper one: infinite ones, such whose difference overflows, zeros of both signs,
+/// subnormal ends, neighbours.
+pub const RISING: [(f64, f64); 20] = [
+    (-1.0, 1.0),
+    (0.0, 4.0),
+    (-0.0, 1.0),
+    (-3.5, -0.0),
+    (f64::NEG_INFINITY, f64::INFINITY),
+    (f64::NEG_INFINITY, -0.0),
+    (0.0, f64::INFINITY),
+    (f64::NEG_INFINITY, f64::MIN),
+    (f64::MAX, f64::INFINITY),
+    (f64::MIN, f64::MAX),
+    (-1.7e308, 1.7e308),
+    (1.0, f64::MAX),
+    (-0.0, LEAST),
+    (-LEAST, 0.0),
+    (-LEAST, LEAST),
+    (LEAST, SUBNORMAL),
+    (-SUBNORMAL, f64::MIN_POSITIVE),
+    (SUBNORMAL, f64::MIN_POSITIVE),
+    (1.0, 1.0 + f64::EPSILON),
+    (0.1, 0.3),
+];
+
+/// Intervals without a lower end below the upper one.
+pub const NOT_RISING: [(f64, f64); 14] = [
+    (1.0, 1.0),
+    (1.0, -1.0),
+    (0.0, 0.0),
+    (-0.0, 0.0),
+    (0.0, -0.0),
+    (LEAST, -LEAST),
+    (f64::MAX, f64::MIN),
+    (f64::INFINITY, f64::INFINITY),
+    (f64::NEG_INFINITY, f64::NEG_INFINITY),
+    (f64::INFINITY, f64::NEG_INFINITY),
+    (f64::NAN, 1.0),
+    (-1.0, f64::NAN),
+    (f64::NAN, f64::INFINITY),
+    (f64::NAN, f64::NAN),
+];
+
 /// Every list of length `n` over `pool`.
 pub fn all_lists(pool: &[f64], n: usize) -> Vec<Vec<f64>> {
     let mut lists = vec![vec![]];
@@ -146,6 +193,22 @@ pub fn float(r: &mut Rng, kind: usize) -> f64 {
 pub fn floats(r: &mut Rng, n: usize) -> Vec<f64> {
     let kind = r.below(KINDS);
     (0..n).map(|_| float(r, kind)).collect()
+}
+
+/// An interval for a plan: the special ones, and others of all kinds of numbers, mostly from the lower end to the upper one.
+pub fn interval(r: &mut Rng) -> (f64, f64) {
+    match r.below(8) {
+        0 | 1 => return r.pick(&RISING),
+        2 => return r.pick(&NOT_RISING),
+        _ => {}
+    }
+    let ends = floats(r, 2);
+    match r.below(8) {
+        0 => (ends[0], ends[0]),
+        1 => (ends[0], ends[1]),
+        _ if ends[1] < ends[0] => (ends[1], ends[0]),
+        _ => (ends[0], ends[1]),
+    }
 }
 
 /// Puts a zero of either sign on the places that `parity` does not allow.

@@ -39,6 +39,8 @@ pub fn record(dir: &Path, count: u64, seed: u64) {
         let g = &mut Rng::new(seed ^ 4 << 32);
         (0..share(2)).for_each(|_| plan(r, g));
         (1..=MAX_DEGREE).for_each(|degree| gate::plan_values_of(r, g, degree, 7));
+        let g = &mut Rng::new(seed ^ 5 << 32);
+        (0..share(1)).for_each(|_| gate::any_plan_interval(r, g));
     });
 }
 

@@ -14,6 +14,8 @@ use crate::layouts::polynomial_evaluation as rust;
 
 type Published = rust::Polynomial<f64>;
 
+/// The interval of a plan.
+const ENDS: (f64, f64) = (-1.0, 1.0);
 /// The point and the modulus of a walk.
 const POINT: i64 = -123_456_789_012;
 const MODULUS: u64 = 2_147_483_647;
@@ -110,7 +112,7 @@ pub fn plans(b: &mut Bench, basis: Basis, strategy: SplitStrategy, degree: usize
     let mut room = Room::new(degree + 1);
     let call = |i: usize, room: &mut Room| {
         let c = &c[i % INPUTS];
-        plan_into(ours, parity, our_basis, false, c, room.lend()).expect("a plan")
+        plan_into(ours, parity, our_basis, false, c, ENDS, room.lend()).expect("a plan")
     };
     for (i, p) in p.iter().enumerate() {
         let n = call(i, &mut room).lists;
@@ -190,7 +192,7 @@ pub fn walks(b: &mut Bench, basis: Basis, degree: usize) {
     let (our_basis, parity, ours) = kinds_of(basis, Parity::Full, strategy);
     let mut room = Room::new(degree + 1);
     let input = &whole(&c)[0];
-    let head = plan_into(ours, parity, our_basis, false, input, room.lend()).expect("a plan");
+    let head = plan_into(ours, parity, our_basis, false, input, ENDS, room.lend()).expect("a plan");
     let Room(numbers, ends, steps) = &room;
     let point = |i: usize| POINT + i as i64;
     let theirs = |i: usize| value(basis, &c[0], point(i), MODULUS);

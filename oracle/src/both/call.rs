@@ -156,7 +156,10 @@ impl Display for Call {
                 write!(f, " from={} to={}", Float(self.ends.0), Float(self.ends.1))
             }
             ChangeOfBasis => write!(f, " from={} to={}", Float(self.ends.0), Float(self.ends.1)),
-            Plan | PlanFolded => write!(f, " points and moduli={:?}", self.walks),
+            Plan | PlanFolded => {
+                write!(f, " from={} to={}", Float(self.ends.0), Float(self.ends.1))?;
+                write!(f, " points and moduli={:?}", self.walks)
+            }
             _ => Ok(()),
         }
     }

@@ -3,9 +3,9 @@
 
 use std::process::exit;
 
-use super::lent::{damage, limits, random};
+use super::lent::{damage, interval, limits, random};
 use super::parts::{self, PART};
-use crate::chain::Head;
+use crate::chain::{Head, Interval};
 use crate::chains::Lent;
 use crate::inputs::{MAX_DEGREE, MAX_SCALE, Rng, length};
 use crate::printed::{plan, settings};
@@ -170,17 +170,19 @@ fn planned(g: &mut Rng, settings: &str, degree: usize) -> Option<Lent> {
     Lent::of(std::str::from_utf8(&line).expect("a line is ASCII"))
 }
 
-fn case(g: &mut Rng, row: usize, plan: Lent) -> Case {
+fn case(g: &mut Rng, row: usize, mut plan: Lent) -> Case {
     let scales = (scale(g), scale(g));
+    plan.head.interval = interval(g);
     Case { row, plan, scales }
 }
 
-fn damaged(g: &mut Rng, row: usize, mut plan: Lent) -> Case {
-    damage(g, &mut plan);
+fn damaged(g: &mut Rng, row: usize, plan: Lent) -> Case {
+    let mut case = case(g, row + 1, plan);
+    damage(g, &mut case.plan);
     while g.one_in(3) {
-        damage(g, &mut plan);
+        damage(g, &mut case.plan);
     }
-    case(g, row + 1, plan)
+    case
 }
 
 /// Now and then above the limit.
@@ -219,7 +221,8 @@ pub fn compare(count: u64, seed: u64) {
     }
 }
 
-/// The same with a shorter last list or without it, without a step or at lower scales, as long as a difference stays.
+/// The same with a shorter last list or without it, without a step, at lower scales or with zeros for the interval, as long as a
+/// difference stays.
 fn smallest(mut case: Case) -> Case {
     loop {
         let size = case.size();
@@ -244,6 +247,10 @@ fn smallest(mut case: Case) -> Case {
             take(&mut case, |c| lower(&mut c.scales.0, scale));
             take(&mut case, |c| lower(&mut c.scales.1, scale));
         }
+        take(&mut case, |c| {
+            let before = std::mem::take(&mut c.plan.head.interval);
+            before != Interval::default()
+        });
         if case.size() == size {
             return case;
         }

@@ -1,8 +1,8 @@
 //! Lent plans for the comparison of chains: random ones that can be walked, and damages.
 
-use crate::chain::Head;
+use crate::chain::{Head, Interval};
 use crate::chains::Lent;
-use crate::inputs::Rng;
+use crate::inputs::{Rng, float};
 use crate::split::parts;
 
 /// Plans at the limits of the walk: all powers with one list of about 4,096 places, and about 16 values waiting.
@@ -111,6 +111,15 @@ fn combine(g: &mut Rng, plan: &mut Lent, powers: &[usize]) {
     plan.numbers.extend([kind, power as u16, 0, 0]);
 }
 
+/// Any four numbers: nothing may depend on the interval.
+pub fn interval(g: &mut Rng) -> Interval {
+    let [a, b, u, w] = [(); 4].map(|()| {
+        let kind = g.pick(&[2, 3]);
+        float(g, kind)
+    });
+    Interval { a, b, u, w }
+}
+
 /// One damage; some leave a plan that can be walked.
 pub fn damage(g: &mut Rng, plan: &mut Lent) {
     match g.below(20) {
@@ -152,12 +161,13 @@ fn count(g: &mut Rng, head: &mut Head) {
 fn unread(g: &mut Rng, plan: &mut Lent) {
     let n = g.next() as usize;
     let head = &mut plan.head;
-    match g.below(6) {
+    match g.below(7) {
         0 => head.degree = n,
         1 => head.base = n,
         2 => head.ct = n,
         3 => head.pt = n,
         4 => head.depth = n,
+        5 => head.interval = interval(g),
         _ => plan.c.iter_mut().for_each(|c| *c = g.next() as i64),
     }
 }

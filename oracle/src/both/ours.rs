@@ -172,7 +172,7 @@ fn folded_lists<F: Coefficient>(
 
 fn plan(call: &Call, fold: bool, w: &mut Words) -> Result<(), Refusal> {
     let (basis, parity, strategy) = kinds(call);
-    let plan = lib::Plan::new(basis, &call.whole(), parity, strategy, fold)?;
+    let plan = lib::Plan::on_interval(basis, &call.whole(), parity, strategy, fold, call.ends)?;
     let head = plan.head();
     assert_eq!(head.strategy, strategy, "the head's strategy");
     let transform: PolynomialInputTransform = head.transform;
@@ -185,6 +185,8 @@ fn plan(call: &Call, fold: bool, w: &mut Words) -> Result<(), Refusal> {
     w.numbers(&[head.degree, head.base, head.depth, head.lists]);
     plan.boundaries().iter().for_each(|&n| w.number(n.into()));
     plan.coefficients().iter().for_each(|&x| w.whole(x));
+    let lib::Interval { a, b, u, w: v } = head.interval;
+    w.floats(&[u, v, a, b]);
     w.numbers(&[head.ct_ct, head.pt_ct]);
     for &(point, modulus) in &call.walks {
         w.number(plan.walk(point, modulus)? as usize);

@@ -97,8 +97,12 @@ fn interpolation(g: &mut Rng) -> Call {
     }
 }
 
-/// The interval; whole numbers where the coefficients are.
+/// The interval; whole numbers where the coefficients are, but for a plan.
 fn ends(g: &mut Rng, call: Call) -> Call {
+    if matches!(call.name, Plan | PlanFolded) {
+        let ends = interval(g);
+        return Call { ends, ..call };
+    }
     let random = match call.name {
         ChangeOfBasis => true,
         EvaluateOnInterval | Interpolate | Decompose | DecomposeFolded => g.one_in(4),

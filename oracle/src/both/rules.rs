@@ -31,8 +31,16 @@ pub fn refusal(call: &Call) -> Option<Refusal> {
         FoldParity => folding(call),
         DecomposeFolded => [folding(call), vec![(fold_is_large(call), Ours(3))]].concat(),
         Decompose => [length(call), vec![large(call)]].concat(),
-        Plan => [length(call), vec![(spoilt(call), Ours(4)), large(call)]].concat(),
-        PlanFolded => [length(call), folding(call)].concat(),
+        Plan => [
+            length(call),
+            vec![
+                (spoilt(call), Ours(4)),
+                large(call),
+                (!rises(call), Ours(7)),
+            ],
+        ]
+        .concat(),
+        PlanFolded => [length(call), folding(call), vec![(!rises(call), Ours(7))]].concat(),
     };
     tests.into_iter().find(|t| t.0).map(|t| t.1)
 }
@@ -65,11 +73,15 @@ fn folding(call: &Call) -> Vec<Test> {
 
 fn interpolation(call: &Call) -> Vec<Test> {
     let (u, v) = (call.c.len(), call.values.len());
-    let rises = call.ends.0 < call.ends.1;
     vec![
         (u != v || u == 0 || u > MAX_DEGREE + 1, Ours(8)),
-        (!rises, Both(7)),
+        (!rises(call), Both(7)),
     ]
+}
+
+/// Whether the lower end is below the upper one; no NaN is.
+fn rises(call: &Call) -> bool {
+    call.ends.0 < call.ends.1
 }
 
 /// Whether a place that the parity does not allow has another number than zero.

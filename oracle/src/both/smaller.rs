@@ -17,6 +17,8 @@ enum Edit {
     Value(usize, f64),
     Point(f64),
     Ends(f64, f64),
+    Lower(f64),
+    Upper(f64),
     /// Leaves one walk only.
     Walk(usize),
     WalkAt(i64, u64),
@@ -66,7 +68,7 @@ fn edits(call: &Call) -> Vec<Edit> {
     for x in [0.0, 1.0] {
         all.extend((0..call.c.len()).map(|i| Put(i, x)));
         all.extend((0..call.values.len()).map(|i| Value(i, x)));
-        all.push(Point(x));
+        all.extend([Point(x), Lower(x), Upper(x)]);
     }
     all.extend([Ends(-1.0, 1.0), Ends(0.0, 1.0)]);
     all
@@ -106,8 +108,11 @@ fn edited(call: &Call, edit: Edit) -> Option<Call> {
         Point(x) => put(&mut next.x, x),
         Ends(a, b) => {
             next.ends = (a, b);
-            ![(-1.0, 1.0), (0.0, 1.0)].contains(&call.ends)
+            !plain(call.ends)
         }
+        // A plain interval stays, else these edits and the one above would take turns without end.
+        Lower(x) => !plain(call.ends) && put(&mut next.ends.0, x),
+        Upper(x) => !plain(call.ends) && put(&mut next.ends.1, x),
         Walk(i) => {
             next.walks = call.walks.get(i).copied().into_iter().collect();
             call.walks.len() > 1
@@ -118,6 +123,11 @@ fn edited(call: &Call, edit: Edit) -> Option<Call> {
         }
     };
     simpler.then_some(next)
+}
+
+/// Whether an interval is one of the simplest.
+fn plain(ends: (f64, f64)) -> bool {
+    [(-1.0, 1.0), (0.0, 1.0)].contains(&ends)
 }
 
 /// Whether the number gets simpler: 0 is the simplest, then comes 1.

@@ -86,8 +86,18 @@ fn setting(g: &mut Rng, setting: Setting, degree: usize, out: &mut Vec<Call>) {
     for name in [Plan, PlanFolded] {
         if name == Plan || folds {
             let walks = walks(g);
+            // All are accepted, so that each degree is planned in each setting.
+            let ends = if g.one_in(4) {
+                g.pick(&RISING)
+            } else {
+                (-1.0, 1.0)
+            };
             let call = here(Call::on(name, Form::Whole, &whole));
-            out.push(Call { walks, ..call });
+            out.push(Call {
+                walks,
+                ends,
+                ..call
+            });
         }
     }
 }

@@ -80,7 +80,7 @@ fn polynomial(call: &Call) -> rust::Polynomial<f64> {
         .with_interval(call.ends.0, call.ends.1)
 }
 
-/// The head, the boundaries, the lists; for a plan its counts and its values too.
+/// The head, the boundaries, the lists, the interval with its pair; for a plan its counts and its values too.
 fn lists(call: &Call, cut: &rust::BSGSPolynomial<Vec<f64>>, w: &mut Words) {
     w.number(cut.basis() as usize);
     w.number(cut.parity() as usize);
@@ -94,6 +94,8 @@ fn lists(call: &Call, cut: &rust::BSGSPolynomial<Vec<f64>>, w: &mut Words) {
     }
     let numbers = cut.baby_steps().iter().flatten();
     numbers.for_each(|&x| w.by_form(call.form, x));
+    let ((u, v), (a, b)) = (cut.change_of_basis(), cut.interval());
+    w.floats(&[u, v, a, b]);
     match call.name {
         Plan | PlanFolded => {
             counts(call.strategy, cut, w);
@@ -102,9 +104,6 @@ fn lists(call: &Call, cut: &rust::BSGSPolynomial<Vec<f64>>, w: &mut Words) {
             values.for_each(|v| w.number(v as usize));
         }
         _ => {
-            let (u, v) = cut.change_of_basis();
-            let (a, b) = cut.interval();
-            w.floats(&[u, v, a, b]);
             w.number(cut.log_split());
             w.number(cut.consumed_bits(call.scales.0, call.scales.1));
         }
