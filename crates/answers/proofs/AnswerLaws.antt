@@ -47,7 +47,9 @@ use Rattle.answers.proofs.TextFits.{plan-fits}
 module _ (strategy : SplitStrategy) (parity : Parity) (basis : Basis) (folded : Bool) (c : List ℤ) where
   for-planned : Accepted folded parity c
       → textFor strategy parity basis folded c
-      ≡ joined (linesOf (headFor strategy parity basis folded c minusOne plusOne) (listsFor strategy parity basis folded c) (stepsFor strategy parity basis folded c))
+      ≡ joined
+      (linesOf (headFor strategy parity basis folded c minusOne plusOne) (listsFor strategy parity basis folded c)
+      (stepsFor strategy parity basis folded c))
   unfolding textFor
   for-planned accepted = ap joined (sym (when-accepted _ _ accepted))
 

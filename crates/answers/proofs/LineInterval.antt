@@ -1,5 +1,5 @@
 -- The bounds of the interval of lines are in order.
-use mathlib.Core.Path.{_≡_, refl}
+use mathlib.Core.Path.{refl}
 use lib.Ieee.{lt, neg}
 use Rattle.number.specs.Interval.{Ordered}
 use Rattle.answers.specs.LineInterval.{minusOne, plusOne}

@@ -94,8 +94,8 @@ plans-estimated parity basis folded c a b out bounds steps r out′ bounds′ st
     let accepted = brings .accepted in
     let facts = plannable folded parity basis c accepted in
     rw (right .answer, lent-lengths MinMult parity basis folded c a b out′ bounds′ steps′ accepted (right .stored))
-    (estimated (plannedParity folded parity) basis (plannedTransform folded parity basis) (changeOfBasis basis a b) (plannedDegree MinMult parity basis folded c)
-    (record { from = omega (arith, facts .several); to = facts .few }))
+    (estimated (plannedParity folded parity) basis (plannedTransform folded parity basis) (changeOfBasis basis a b)
+    (plannedDegree MinMult parity basis folded c) (record { from = omega (arith, facts .several); to = facts .few }))
 
 -- ---- the example
 

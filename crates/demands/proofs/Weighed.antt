@@ -31,7 +31,8 @@ use Rattle.demands.specs.Weighed.{planMade, planChain, StoredWeighed, Pl
 use Rattle.demands.proofs.Right.{holds, stored-right, plans-right}
 
 module _ (strategy : SplitStrategy) (parity : Parity) (basis : Basis) (folded : Bool) (c : List ℤ) (a b : Float) (coefficients : List ℤ)
-    (bounds steps : List ℕ) (input coeff : ℕ) (accepted : Accepted folded parity c) (stored : Stored strategy parity basis folded c coefficients bounds steps) where
+    (bounds steps : List ℕ) (input coeff : ℕ) (accepted : Accepted folded parity c)
+    (stored : Stored strategy parity basis folded c coefficients bounds steps) where
   abbrev head : Head
   head = headFor strategy parity basis folded c a b
 

@@ -1,6 +1,6 @@
 -- The three demands of the request, in its words and order, each sentence over the statements that say it. Its document 01 is docs/RULES.md here.
 -- This page is to be read first: the statements stand in the files beside it, which name every definition that they rest on, and proofs/Demands
--- proves them all.
+-- proves them all. A plan is of a polynomial on an interval (request Q-7): what is said of plans here is said for every interval.
 use mathlib.Core.List.{List}
 use Prim.Native.Nat.{ℕ}
 use lib.Ieee.{Float}

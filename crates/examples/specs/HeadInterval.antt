@@ -1,6 +1,6 @@
 -- Worked examples of the interval in a plan's head and of its refusal, 7, computed.
 use mathlib.Core.Path.{_≡_, refl}
-use mathlib.Core.Bool.{Bool, true, false}
+use mathlib.Core.Bool.{true, false}
 use mathlib.Core.List.{List, [], _∷_}
 use Prim.Native.Nat.{ℕ}
 use lib.Ieee.{Float, nan, inf, fin, add, sub, div, neg, lt, ofInt}
@@ -8,16 +8,14 @@ use lib.IntN.{ℤ, pos, negsuc}
 use Rattle.algebra.specs.Allowed.{allows}
 use Rattle.algebra.specs.Magnitude.{sumAbs}
 use Rattle.algebra.specs.declared.Basis.the-variants.{Monomial, Chebyshev}
-use Rattle.algebra.specs.declared.Parity.{Parity}
 use Rattle.algebra.specs.declared.Parity.the-variants.{Full, Odd}
 use Rattle.number.specs.Exact.{num}
-use Rattle.number.specs.Interval.{changeOfBasis}
 use Rattle.number.specs.Parity.{hasParityFrom}
 use Rattle.counts.specs.declared.choice.SplitStrategy.the-variants.{MinDepth, MinMult}
 use Rattle.plan.specs.PlanHead.{headOf}
 use Rattle.plan.specs.PlanCall.{headFor, planRefusal}
 
--- -0, and the greatest f64
+-- −0
 abbrev minusZero : Float
 minusZero = fin true 0 (pos 0)
 

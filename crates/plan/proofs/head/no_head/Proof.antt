@@ -1,5 +1,4 @@
 -- `plan::head::no_head` meets its contract: each field is that of the definition, and the interval that of a refusal.
-use mathlib.Core.Path.{sym}
 use borrow.Author.Needs.{needs}
 use Rattle.plan.proofs.head.no_head.Statement.{statement}
 use Rattle.plan.proofs.head.no_head.Tie as tie
