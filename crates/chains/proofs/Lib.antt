@@ -1,2 +1,3 @@
 mod Zeros
+mod LineLaws
 pub mod ZerosWeighed

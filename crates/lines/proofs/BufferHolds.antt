@@ -26,7 +26,7 @@ module _ {A : Type 0} where
   stores (x ∷ l) [] = refl
   stores (x ∷ l) (v ∷ vs) = stores-behind v l 0 vs ∙ ap (λ (r : List A). v ∷ r) (stores l vs)
 
-  stores-back : (l vs : List A) → length vs ≤ length l → take (length vs) (sets l 0 vs) ≡ vs
+  pub stores-back : (l vs : List A) → length vs ≤ length l → take (length vs) (sets l 0 vs) ≡ vs
   stores-back l [] fits = refl
   stores-back [] (v ∷ vs) fits = absurd (omega arith)
   stores-back (x ∷ l) (v ∷ vs) fits = rw (stores-behind v l 0 vs) (ap (λ (r : List A). v ∷ r) (stores-back l vs (omega arith)))

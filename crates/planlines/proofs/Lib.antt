@@ -1,1 +1,2 @@
 mod BlockLaws
+mod LastLaws

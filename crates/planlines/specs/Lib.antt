@@ -1,1 +1,3 @@
 pub mod AnswerBlock
+pub mod LastText
+pub mod AnswerInput

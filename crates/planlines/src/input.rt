@@ -1,14 +1,29 @@
 // All of standard input: block by block, and then its end.
-use crate::block::Answered;
 use crate::block::answer_block;
 use crate::stream::read_block;
-use crate::stream::write_text;
 use answers::put_end;
+use streams::BlockRead;
 ghost use Prim.Native.Nat.{_≤_};
-ghost use lib.ListN.{length};
+ghost use lib.ListN.{length, take};
+ghost use Rattle.texts.specs.Put.{Put};
 ghost use Rattle.answers.specs.TakeTurn.{TurnRoom};
+ghost use Rattle.planlines.specs.LastText.{lastText};
+ghost use Rattle.planlines.specs.AnswerInput.{AnswerInput};
 
-// Answers the lines that line feeds end. Each answer is written before the next block is read.
+// How many bytes of an unended line are held, and what the last read brought.
+pub struct Stopped {
+    pub held: usize,
+    pub last: BlockRead,
+}
+
+// What the last read brought, and how many bytes of text are put behind it.
+pub struct Finished {
+    pub last: BlockRead,
+    pub text: usize,
+}
+
+// Answers the lines that line feeds end, and stops where the input ends, or where reading or writing fails. Each answer is written before the next block
+// is read.
 fn answer_blocks(
     block: &mut [u8],
     line: &mut [u8],
@@ -17,32 +32,52 @@ fn answer_blocks(
     bounds: &mut [u16],
     steps: &mut [u16],
     out: &mut [u8],
-) -> Answered
+) -> Stopped
     requires { ⌜ TurnRoom (now line) 0 (now coefficients) (now planned) (now bounds) (now steps) (now out) ⌝ }
     ensures { λ r. ⌜ r .held ≤ length (now (line .entry)) ⌝ }
 {
     let mut held = 0;
     let mut turns = u64::MAX;
     while turns > 0 {
-        let count = read_block(block);
-        if count == 0 {
-            break;
-        }
+        let read = read_block(block);
+        let BlockRead::Bytes(count) = read else {
+            return Stopped { held, last: read };
+        };
         let some = &block[..count];
         let answered = answer_block(some, line, held, coefficients, planned, bounds, steps, out);
-        if !answered.written {
-            return answered;
-        }
         held = answered.held;
+        if !answered.written {
+            return Stopped { held, last: read };
+        }
         turns -= 1;
     }
-    Answered {
+    Stopped {
         held,
-        written: true,
+        last: BlockRead::Failed,
     }
 }
 
-// Answers every line. The last may lack its line feed.
+// Puts what is to be written behind the last read, and returns its length: where the input ended, the answer to the line that its end ends; else nothing.
+fn put_last(
+    last: BlockRead,
+    line: &[u8],
+    held: usize,
+    coefficients: &mut [i64],
+    planned: &mut [i64],
+    bounds: &mut [u16],
+    steps: &mut [u16],
+    out: &mut [u8],
+) -> usize
+    requires { ⌜ TurnRoom (now line) held (now coefficients) (now planned) (now bounds) (now steps) (now out) ⌝ }
+    ensures { λ r. ⌜ Put (now (out .entry)) 0 (lastText last (take held (now (line .entry)))) (now (out .exit)) r ⌝ }
+{
+    let BlockRead::Ended = last else {
+        return 0;
+    };
+    put_end(line, held, coefficients, planned, bounds, steps, out)
+}
+
+// Answers every line that the input ends. The last may lack its line feed: its answer is put and left to be written.
 pub fn answer_input(
     block: &mut [u8],
     line: &mut [u8],
@@ -51,14 +86,13 @@ pub fn answer_input(
     bounds: &mut [u16],
     steps: &mut [u16],
     out: &mut [u8],
-)
+) -> Finished
     requires { ⌜ TurnRoom (now line) 0 (now coefficients) (now planned) (now bounds) (now steps) (now out) ⌝ }
+    ensures { λ r. ⌜ AnswerInput (now (out .exit)) r ⌝ }
 {
-    let answered = answer_blocks(block, line, coefficients, planned, bounds, steps, out);
-    if !answered.written {
-        return;
-    }
-    let held = answered.held;
-    let text = put_end(line, held, coefficients, planned, bounds, steps, out);
-    write_text(&out[..text]);
+    let stopped = answer_blocks(block, line, coefficients, planned, bounds, steps, out);
+    let held = stopped.held;
+    let last = stopped.last;
+    let text = put_last(last, line, held, coefficients, planned, bounds, steps, out);
+    Finished { last, text }
 }

@@ -9,6 +9,7 @@ use answers::LIST_ROOM;
 use answers::STEP_ROOM;
 use answers::TEXT_ROOM;
 use input::answer_input;
+use stream::write_text;
 ghost use mathlib.Core.Path.{_≡_};
 ghost use lib.ListN.{length};
 ghost use Rattle.answers.specs.Limits.{textRoom};
@@ -29,7 +30,7 @@ fn main() {
     let mut bounds = [0u16; LIST_ROOM];
     let mut steps = [0u16; STEP_ROOM];
     let mut out = text_buffer();
-    answer_input(
+    let finished = answer_input(
         &mut block,
         &mut line,
         &mut coefficients,
@@ -38,4 +39,6 @@ fn main() {
         &mut steps,
         &mut out,
     );
+    let text = finished.text;
+    write_text(&out[..text]);
 }

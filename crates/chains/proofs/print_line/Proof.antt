@@ -11,58 +11,38 @@ use Rattle.chains.proofs.print_line.Statement.{statement}
 use Rattle.chains.proofs.print_line.Tie as tie
 
 -- the line ends within the buffer
-within : (k : tie.After-put-line) → k .put-line .result ≤ length (k .put-line .last .0)
-within k = let put = k .put-line .ensures in omega (arith, put .1, put-length (put .0), length-replicate {A = ℕ} lineRoom 0)
+within : (k : tie.After-put-line-at) → k .put-line-at .result ≤ length (k .put-line-at .last .0)
+within k = let put = k .put-line-at .ensures in omega (arith, put .1, put-length (put .0), length-replicate {A = ℕ} lineRoom 0)
 
-letters-at-requires : tie.Need-letters-at-requires
-letters-at-requires c κs = search needs
+slice-aggregate-put-line-at : tie.Need-slice-aggregate-put-line-at
+slice-aggregate-put-line-at c = search needs
 
-weigh-zeros-requires : tie.Need-weigh-zeros-requires
-weigh-zeros-requires c κs = search needs
-
-closed-bits-requires : tie.Need-closed-bits-requires
-closed-bits-requires c κs = search needs
-
-slice-aggregate-put-line : tie.Need-slice-aggregate-put-line
-slice-aggregate-put-line c = search needs
-
-put-line-requires : tie.Need-put-line-requires
-put-line-requires c κs = search needs
+put-line-at-requires : tie.Need-put-line-at-requires
+put-line-at-requires c κs = search needs
 
 array-share-prefix-text : tie.Need-array-share-prefix-text
 array-share-prefix-text c = within (c .before)
 
-slice-aggregate-write-all : tie.Need-slice-aggregate-write-all
-slice-aggregate-write-all c = sym (length-take-le _ _ (within (c .before .before)))
+slice-aggregate-write-text : tie.Need-slice-aggregate-write-text
+slice-aggregate-write-text c = sym (length-take-le _ _ (within (c .before .before)))
 
-write-all-requires : tie.Need-write-all-requires
-write-all-requires c κs = search needs
+slice-aggregate-write-text-2 : tie.Need-slice-aggregate-write-text-2
+slice-aggregate-write-text-2 c = search needs
+
+write-text-requires : tie.Need-write-text-requires
+write-text-requires c κs = search needs
 
 returns : tie.Need-returns
 returns c = search needs
-
-slice-aggregate-fail : tie.Need-slice-aggregate-fail
-slice-aggregate-fail c = search needs
-
-fail-requires : tie.Need-fail-requires
-fail-requires c κs = search needs
-
-returns-2 : tie.Need-returns-2
-returns-2 c = search needs
 
 pub print-line-spec : {M : Type 1} → statement M
 print-line-spec =
     tie.close
     (tie.spec
-    letters-at-requires
-    weigh-zeros-requires
-    closed-bits-requires
-    slice-aggregate-put-line
-    put-line-requires
+    slice-aggregate-put-line-at
+    put-line-at-requires
     array-share-prefix-text
-    slice-aggregate-write-all
-    write-all-requires
-    returns
-    slice-aggregate-fail
-    fail-requires
-    returns-2)
+    slice-aggregate-write-text
+    slice-aggregate-write-text-2
+    write-text-requires
+    returns)

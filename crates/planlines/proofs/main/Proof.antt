@@ -1,9 +1,10 @@
--- `planlines::main` is safe: its arrays have the lengths that reading and answering ask for.
+-- `planlines::main` is safe: its arrays have the lengths that reading and answering ask for, and the last text is within its buffer.
 use mathlib.Core.Path.{sym}
 use Prim.Native.Nat.{ℕ}
 use borrow.Author.Needs.{needs}
 use lib.IntN.{ℤ, pos}
 use lib.ListN.{length-replicate}
+use lib.Seq.{length-take-le}
 use Rattle.planlines.proofs.BlockLaws.{rooms}
 use Rattle.planlines.proofs.main.Statement.{statement}
 use Rattle.planlines.proofs.main.Tie as tie
@@ -37,6 +38,17 @@ answer-input-requires c κs =
     rooms (length-replicate {A = ℕ} 65536 0) (length-replicate {A = ℤ} 4097 (pos 0)) (length-replicate {A = ℤ} 4096 (pos 0))
     (length-replicate {A = ℕ} 4096 0) (length-replicate {A = ℕ} 49152 0) (sym (c .before .before .before .before .before .before .before .text-buffer .ensures))
 
+array-share-prefix-out : tie.Need-array-share-prefix-out
+array-share-prefix-out c = c .before .before .before .before .before .before .before .answer-input .ensures .within
+
+slice-aggregate-write-text : tie.Need-slice-aggregate-write-text
+slice-aggregate-write-text c =
+    let answered = c .before .before .before .before .before .before .before .before in
+    sym (length-take-le _ _ (answered .answer-input .ensures .within))
+
+write-text-requires : tie.Need-write-text-requires
+write-text-requires c κs = search needs
+
 returns : tie.Need-returns
 returns c = search needs
 
@@ -53,4 +65,7 @@ main-spec =
     slice-aggregate-answer-input-6
     slice-aggregate-answer-input-7
     answer-input-requires
+    array-share-prefix-out
+    slice-aggregate-write-text
+    write-text-requires
     returns)

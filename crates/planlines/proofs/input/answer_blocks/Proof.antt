@@ -1,10 +1,13 @@
 -- `planlines::input::answer_blocks` meets its contract: the buffers keep their lengths, and of the line no more is held than its buffer has. Nothing says
 -- that the input ends, so a count of turns that falls is the measure.
 use mathlib.Core.Path.{_≡_, refl, _∙_}
+use Prim.Native.Nat.{_≤_}
 use native.Mathlib.Omega.{arith}
 use borrow.Author.Needs.{needs}
 use lib.ListN.{length}
+use Rattle.io.specs.Counts.{Counts}
 use Rattle.answers.specs.TakeTurn.{TurnRoom}
+use Rattle.planlines.proofs.LastLaws.{bytes-counted}
 use Rattle.planlines.proofs.input.answer_blocks.Statement.{statement}
 use Rattle.planlines.proofs.input.answer_blocks.Tie as tie
 
@@ -24,6 +27,24 @@ Inv-loop block₀ line₀ coefficients₀ planned₀ bounds₀ steps₀ out₀ h
 abbrev μ-loop : tie.MeasureT-loop
 μ-loop block₀ line₀ coefficients₀ planned₀ bounds₀ steps₀ out₀ held₀ turns₀ block line coefficients planned bounds steps out held turns = turns
 
+-- the bytes of the last read stand at the start of the block
+counted : (k : tie.After-read Inv-loop μ-loop) → let called = k .before .before .before .before in
+    Counts (k .read .given .0 .0) (called .read-block .last .0)
+counted k =
+    let called = k .before .before .before .before in
+    bytes-counted (called .read-block .last .0) (k .read .given .1) (called .read-block .ensures)
+
+-- of a block that is answered: where it was read, and where the loop's turn begins
+abbrev read : tie.After-answer-block Inv-loop μ-loop → tie.After-read-block Inv-loop μ-loop
+read k = k .before .before .before .before .before .before .before .before .before .before .before .before .before
+
+abbrev turn : tie.After-answer-block Inv-loop μ-loop → tie.At-loop Inv-loop μ-loop
+turn k = read k .before .before .before
+
+answered-within : (k : tie.After-answer-block Inv-loop μ-loop) → let start = turn k .before .before .before .before .before .before in
+    k .answer-block .result .held ≤ length (start .args .line .now)
+answered-within k = omega (arith, k .answer-block .ensures .within, turn k .loop .inv .line-long)
+
 loop-holds : tie.Need-loop-holds Inv-loop μ-loop
 loop-holds c = record {
   room = c .before .before .before .before .before .pre;
@@ -39,14 +60,8 @@ loop-holds c = record {
 read-block-requires : tie.Need-read-block-requires Inv-loop μ-loop
 read-block-requires c κs = search needs
 
-slice-reshare-prefix-some : tie.Need-slice-reshare-prefix-some Inv-loop μ-loop
-slice-reshare-prefix-some c = search needs
-
-slice-aggregate-some : tie.Need-slice-aggregate-some Inv-loop μ-loop
-slice-aggregate-some c = search needs
-
-answer-block-requires : tie.Need-answer-block-requires Inv-loop μ-loop
-answer-block-requires c κs = c .before .before .before .before .before .before .before .before .before .before .before .before .before .loop .inv .room
+enum-known-read : tie.Need-enum-known-read Inv-loop μ-loop
+enum-known-read c = search needs
 
 same-length : tie.Need-same-length Inv-loop μ-loop
 same-length c = search needs
@@ -71,46 +86,20 @@ same-length-7 c = search needs
 
 returns : tie.Need-returns Inv-loop μ-loop
 returns c =
-    let answered = c .before .before .before .before .before .before .before .before .before .before .before .before in
-    let loop = answered .before .before .before .before .before .before .before .before .before .before .before .before .before .before in
-    omega (arith, answered .answer-block .ensures .within, loop .loop .inv .line-long)
+    let inv = c .before .before .before .before .before .before .loop .inv in
+    omega (arith, inv .room .held-within, inv .line-long)
 
-sub-turns : tie.Need-sub-turns Inv-loop μ-loop
-sub-turns c = search needs
+slice-reshare-prefix-some : tie.Need-slice-reshare-prefix-some Inv-loop μ-loop
+slice-reshare-prefix-some c = counted (c .before) .0
 
-loop-less : tie.Need-loop-less Inv-loop μ-loop
-loop-less c = search needs
+slice-aggregate-some : tie.Need-slice-aggregate-some Inv-loop μ-loop
+slice-aggregate-some c = counted (c .before .before) .1
 
-loop-again : tie.Need-loop-again Inv-loop μ-loop
-loop-again c =
-    let answered = c .before .before .before .before .before .before .before .before .before .before .before .before in
-    let read = answered .before .before .before .before .before .before .before .before .before .before .before in
-    let inv = read .before .before .before in
-    let room = inv .loop .inv .room in
-    let line-kept = answered .answer-block .kept .1 .0 in
-    let coefficients-kept = answered .answer-block .kept .1 .1 .1 .0 in
-    let planned-kept = answered .answer-block .kept .1 .1 .1 .1 .0 in
-    let bounds-kept = answered .answer-block .kept .1 .1 .1 .1 .1 .0 in
-    let steps-kept = answered .answer-block .kept .1 .1 .1 .1 .1 .1 .0 in
-    let out-kept = answered .answer-block .kept .1 .1 .1 .1 .1 .1 .1 .0 in
-    record {
-      room = record {
-        line-room = line-kept ∙ room .line-room;
-        held-within = omega (arith, answered .answer-block .ensures .within, line-kept);
-        coefficient-room = omega (arith, coefficients-kept, room .coefficient-room);
-        planned-room = omega (arith, planned-kept, room .planned-room);
-        boundary-room = omega (arith, bounds-kept, room .boundary-room);
-        step-room = omega (arith, steps-kept, room .step-room);
-        text-room = out-kept ∙ room .text-room;
-      };
-      block-long = read .read-block .kept .0 ∙ inv .loop .inv .block-long;
-      line-long = line-kept ∙ inv .loop .inv .line-long;
-      coefficients-long = coefficients-kept ∙ inv .loop .inv .coefficients-long;
-      planned-long = planned-kept ∙ inv .loop .inv .planned-long;
-      bounds-long = bounds-kept ∙ inv .loop .inv .bounds-long;
-      steps-long = steps-kept ∙ inv .loop .inv .steps-long;
-      out-long = out-kept ∙ inv .loop .inv .out-long;
-    }
+answer-block-requires : tie.Need-answer-block-requires Inv-loop μ-loop
+answer-block-requires c κs =
+    let known = c .before .before .before .before .before .before .before in
+    let called = known .before .before .before .before .before in
+    called .before .before .before .loop .inv .room
 
 same-length-8 : tie.Need-same-length-8 Inv-loop μ-loop
 same-length-8 c = search needs
@@ -134,9 +123,44 @@ same-length-14 : tie.Need-same-length-14 Inv-loop μ-loop
 same-length-14 c = search needs
 
 returns-2 : tie.Need-returns-2 Inv-loop μ-loop
-returns-2 c =
-    let inv = c .before .loop .inv in
-    omega (arith, inv .room .held-within, inv .line-long)
+returns-2 c = answered-within (c .before .before .before .before .before .before .before .before .before .before .before .before)
+
+sub-turns : tie.Need-sub-turns Inv-loop μ-loop
+sub-turns c = search needs
+
+loop-less : tie.Need-loop-less Inv-loop μ-loop
+loop-less c = search needs
+
+loop-again : tie.Need-loop-again Inv-loop μ-loop
+loop-again c =
+    let answered = c .before .before .before .before .before .before .before .before .before .before .before .before in
+    let inv = turn answered .loop .inv in
+    let room = inv .room in
+    let kept = answered .answer-block .kept .1 in
+    let line-kept = kept .0 in
+    let coefficients-kept = kept .1 .1 .0 in
+    let planned-kept = kept .1 .1 .1 .0 in
+    let bounds-kept = kept .1 .1 .1 .1 .0 in
+    let steps-kept = kept .1 .1 .1 .1 .1 .0 in
+    let out-kept = kept .1 .1 .1 .1 .1 .1 .0 in
+    record {
+      room = record {
+        line-room = line-kept ∙ room .line-room;
+        held-within = omega (arith, answered .answer-block .ensures .within, line-kept);
+        coefficient-room = omega (arith, coefficients-kept, room .coefficient-room);
+        planned-room = omega (arith, planned-kept, room .planned-room);
+        boundary-room = omega (arith, bounds-kept, room .boundary-room);
+        step-room = omega (arith, steps-kept, room .step-room);
+        text-room = out-kept ∙ room .text-room;
+      };
+      block-long = read answered .read-block .kept .0 ∙ inv .block-long;
+      line-long = line-kept ∙ inv .line-long;
+      coefficients-long = coefficients-kept ∙ inv .coefficients-long;
+      planned-long = planned-kept ∙ inv .planned-long;
+      bounds-long = bounds-kept ∙ inv .bounds-long;
+      steps-long = steps-kept ∙ inv .steps-long;
+      out-long = out-kept ∙ inv .out-long;
+    }
 
 same-length-15 : tie.Need-same-length-15 Inv-loop μ-loop
 same-length-15 c = search needs
@@ -161,8 +185,8 @@ same-length-21 c = search needs
 
 returns-3 : tie.Need-returns-3 Inv-loop μ-loop
 returns-3 c =
-    let inv = c .before .before .before .before .before .before in
-    omega (arith, inv .loop .inv .room .held-within, inv .loop .inv .line-long)
+    let inv = c .before .loop .inv in
+    omega (arith, inv .room .held-within, inv .line-long)
 
 pub answer-blocks-spec : {M : Type 1} → statement M
 answer-blocks-spec =
@@ -172,9 +196,7 @@ answer-blocks-spec =
     μ-loop
     loop-holds
     read-block-requires
-    slice-reshare-prefix-some
-    slice-aggregate-some
-    answer-block-requires
+    enum-known-read
     same-length
     same-length-2
     same-length-3
@@ -183,9 +205,9 @@ answer-blocks-spec =
     same-length-6
     same-length-7
     returns
-    sub-turns
-    loop-less
-    loop-again
+    slice-reshare-prefix-some
+    slice-aggregate-some
+    answer-block-requires
     same-length-8
     same-length-9
     same-length-10
@@ -194,6 +216,9 @@ answer-blocks-spec =
     same-length-13
     same-length-14
     returns-2
+    sub-turns
+    loop-less
+    loop-again
     same-length-15
     same-length-16
     same-length-17

@@ -1,16 +1,16 @@
--- `planlines::stream::write_text` is safe: the bytes written so far are bytes of the text. Nothing says that the other side takes any, so a count of
+-- `streams::output::write_text` is safe: the bytes written so far are bytes of the text. Nothing says that the other side takes any, so a count of
 -- turns that falls is the measure.
 use Prim.Native.Nat.{_≤_}
 use borrow.Author.Needs.{needs}
 use lib.ListN.{length}
-use Rattle.planlines.proofs.stream.write_text.Statement.{statement}
-use Rattle.planlines.proofs.stream.write_text.Tie as tie
+use Rattle.streams.proofs.output.write_text.Statement.{statement}
+use Rattle.streams.proofs.output.write_text.Tie as tie
 
 abbrev Inv-loop : tie.InvT-loop
-Inv-loop text done₀ turns₀ t6 done turns = done ≤ length text
+Inv-loop text failure done₀ turns₀ done turns = done ≤ length text
 
 abbrev μ-loop : tie.MeasureT-loop
-μ-loop text done₀ turns₀ t6 done turns = turns
+μ-loop text failure done₀ turns₀ done turns = turns
 
 loop-holds : tie.Need-loop-holds Inv-loop μ-loop
 loop-holds c = search needs
@@ -29,9 +29,6 @@ write-requires c κs = search needs
 
 goes-on-requires : tie.Need-goes-on-requires Inv-loop μ-loop
 goes-on-requires c κs = search needs
-
-slice-aggregate-fail : tie.Need-slice-aggregate-fail Inv-loop μ-loop
-slice-aggregate-fail c = search needs
 
 fail-requires : tie.Need-fail-requires Inv-loop μ-loop
 fail-requires c κs = search needs
@@ -69,7 +66,6 @@ write-text-spec =
     part-rest-end
     write-requires
     goes-on-requires
-    slice-aggregate-fail
     fail-requires
     returns
     count-requires

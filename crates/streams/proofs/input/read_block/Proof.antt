@@ -1,16 +1,16 @@
--- `planlines::stream::read_block` meets its contract: the buffer keeps its length, and `io::count` cuts the answer down to it. Nothing says that a read
--- succeeds, so a count of turns that falls is the measure.
+-- `streams::input::read_block` meets its contract: the buffer keeps its length, and `brought` says where the bytes of a read that did not fail stand. Nothing
+-- says that a read succeeds, so a count of turns that falls is the measure.
 use mathlib.Core.Path.{_≡_}
 use borrow.Author.Needs.{needs}
 use lib.ListN.{length}
-use Rattle.planlines.proofs.stream.read_block.Statement.{statement}
-use Rattle.planlines.proofs.stream.read_block.Tie as tie
+use Rattle.streams.proofs.input.read_block.Statement.{statement}
+use Rattle.streams.proofs.input.read_block.Tie as tie
 
 abbrev Inv-loop : tie.InvT-loop
-Inv-loop block₀ turns₀ t4 block turns = length block ≡ length block₀
+Inv-loop block₀ failure turns₀ block turns = length block ≡ length block₀
 
 abbrev μ-loop : tie.MeasureT-loop
-μ-loop block₀ turns₀ t4 block turns = turns
+μ-loop block₀ failure turns₀ block turns = turns
 
 loop-holds : tie.Need-loop-holds Inv-loop μ-loop
 loop-holds c = search needs
@@ -18,8 +18,8 @@ loop-holds c = search needs
 read-requires : tie.Need-read-requires Inv-loop μ-loop
 read-requires c κs = search needs
 
-count-requires : tie.Need-count-requires Inv-loop μ-loop
-count-requires c κs = search needs
+brought-requires : tie.Need-brought-requires Inv-loop μ-loop
+brought-requires c κs = search needs
 
 same-length : tie.Need-same-length Inv-loop μ-loop
 same-length c = search needs
@@ -29,9 +29,6 @@ returns c = search needs
 
 is-passing-requires : tie.Need-is-passing-requires Inv-loop μ-loop
 is-passing-requires c κs = search needs
-
-slice-aggregate-fail : tie.Need-slice-aggregate-fail Inv-loop μ-loop
-slice-aggregate-fail c = search needs
 
 fail-requires : tie.Need-fail-requires Inv-loop μ-loop
 fail-requires c κs = search needs
@@ -65,11 +62,10 @@ read-block-spec =
     μ-loop
     loop-holds
     read-requires
-    count-requires
+    brought-requires
     same-length
     returns
     is-passing-requires
-    slice-aggregate-fail
     fail-requires
     same-length-2
     returns-2
