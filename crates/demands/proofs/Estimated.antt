@@ -18,8 +18,7 @@ use Rattle.number.specs.Split.{partsOf}
 use Rattle.number.specs.declared.interval.Interval.{Interval}
 use Rattle.number.specs.inside.Between.{Between}
 use Rattle.number.proofs.Bits.{some-digit}
-use Rattle.needed.specs.NeededList.{neededList, neededCount}
-use Rattle.needed.specs.inside.Marks.{isTarget, places, markAt, markApart, markParts, sweepAt, sweepFrom, targetMarks, neededMarks, markedFrom}
+use Rattle.needed.specs.NeededList.{isTarget, isPart, isPartOfOne, listedDown, neededList, neededCount}
 use Rattle.counts.specs.Slices.{slicesIn, slicesOf, lastOf}
 use Rattle.counts.specs.PlainCount.{allowedTo, plainCount}
 use Rattle.counts.specs.Pair.{lastIsPlain, pairOf, pairAt}
@@ -101,8 +100,8 @@ plans-estimated parity basis folded c a b out bounds steps r out′ bounds′ st
 
 pub cheaper-reported : CheaperReported
 unfolding minMult bestOf better pairAt pairOf lastIsPlain slicesOf slicesIn lastOf plainCount allowedTo splitFor reported allowedIn ofKind stepsAt
-    listSteps treeSteps combineKind lastPlain lastLength powerSteps leavesOf lengthsOf treeOf treeIn neededCount neededList markedFrom neededMarks
-    sweepFrom targetMarks markParts markApart sweepAt markAt places isTarget allows topPower partsOf powerBelow isPowerOfTwo bitLen digits
+    listSteps treeSteps combineKind lastPlain lastLength powerSteps leavesOf lengthsOf treeOf treeIn neededCount neededList listedDown isPartOfOne
+    isPart isTarget allows topPower partsOf powerBelow isPowerOfTwo bitLen digits
 cheaper-reported = record {
   chosen = refl;
   estimate-chosen = refl;

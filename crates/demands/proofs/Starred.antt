@@ -18,8 +18,7 @@ use Rattle.algebra.specs.declared.PolynomialInputTransform.the-variants.{Identi
 use Rattle.number.specs.Bits.{digits, bitLen, topPower, powerBelow, isPowerOfTwo}
 use Rattle.number.specs.Refusal.{unlessRefused}
 use Rattle.number.specs.Split.{partsOf, splitRefusal, splitOf}
-use Rattle.needed.specs.NeededList.{neededList, neededCount}
-use Rattle.needed.specs.inside.Marks.{isTarget, places, markAt, markApart, markParts, sweepAt, sweepFrom, targetMarks, neededMarks, markedFrom}
+use Rattle.needed.specs.NeededList.{isTarget, isPart, isPartOfOne, listedDown, neededList, neededCount}
 use Rattle.counts.specs.Slices.{slicesIn, slicesOf, lastOf}
 use Rattle.counts.specs.PlainCount.{allowedTo, plainCount}
 use Rattle.counts.specs.Pair.{lastIsPlain, pairOf, pairAt}
@@ -47,8 +46,7 @@ in-both P in-monomial in-chebyshev Chebyshev = in-chebyshev
 
 chosen-5 : (basis : Basis) → MultFull basis 5 1 4 3
 unfolding minMultCall countsCall countsOf splitFor minMult bestOf better pairAt pairOf lastIsPlain slicesOf slicesIn lastOf plainCount allowedTo
-    neededCount neededList markedFrom neededMarks sweepFrom targetMarks markParts markApart sweepAt markAt places isTarget allows topPower
-    unlessRefused partsOf powerBelow isPowerOfTwo bitLen digits
+    neededCount neededList listedDown isPartOfOne isPart isTarget allows topPower unlessRefused partsOf powerBelow isPowerOfTwo bitLen digits
 chosen-5 =
     in-both (λ (basis : Basis). MultFull basis 5 1 4 3) (record { chosen = refl; counted = refl }) (record { chosen = refl; counted = refl })
 
@@ -65,17 +63,17 @@ lists-at-1 = refl
 -- MinDepth's counts of degree 7
 counts-of-7 : (basis : Basis) → planCounts MinDepth Full basis Identity 7 ≡ record { ct = 5; pt = 5 }
 unfolding reported allowedIn ofKind stepsAt listSteps treeSteps combineKind lastPlain lastLength powerSteps leavesOf lengthsOf treeOf treeIn
-    listedAgain splitFor minDepth aExceedsB allowedTo neededList markedFrom neededMarks sweepFrom targetMarks markParts markApart sweepAt markAt
-    places isTarget allows topPower partsOf powerBelow isPowerOfTwo bitLen digits
+    listedAgain splitFor minDepth aExceedsB allowedTo neededList listedDown isPartOfOne isPart isTarget allows topPower partsOf powerBelow
+    isPowerOfTwo bitLen digits
 counts-of-7 = in-both (λ (basis : Basis). planCounts MinDepth Full basis Identity 7 ≡ record { ct = 5; pt = 5 }) refl refl
 
 -- ---- the table
 
 pub starred : Starred
 unfolding minMultCall countsCall countsOf splitFor minMult bestOf better pairAt pairOf lastIsPlain slicesOf slicesIn lastOf plainCount allowedTo
-    neededCount neededList markedFrom neededMarks sweepFrom targetMarks markParts markApart sweepAt markAt places isTarget allows topPower
-    unlessRefused splitOf splitRefusal partsOf powerBelow isPowerOfTwo bitLen digits aExceedsB minDepth depthCall depthOf bitsCall bitsOf
-    pureChain chainBefore lengthsOf treeOf treeIn listedAgain dot sum cheb fold everySecond sumRFrom addR coeffR transformOf inputOf outputOf
+    neededCount neededList listedDown isPartOfOne isPart isTarget allows topPower unlessRefused splitOf splitRefusal partsOf powerBelow isPowerOfTwo
+    bitLen digits aExceedsB minDepth depthCall depthOf bitsCall bitsOf pureChain chainBefore lengthsOf treeOf treeIn listedAgain dot sum cheb fold
+    everySecond sumRFrom addR coeffR transformOf inputOf outputOf
 starred = record {
   split-3 = refl;
   split-5 = refl;

@@ -10,8 +10,7 @@ use Rattle.number.specs.Bits.{digits, bitLen, topPower, powerBelow, isPowerOfTw
 use Rattle.number.specs.Parity.{hasParityFrom}
 use Rattle.number.specs.Refusal.{unlessRefused}
 use Rattle.number.specs.Split.{partsOf}
-use Rattle.needed.specs.NeededList.{neededList}
-use Rattle.needed.specs.inside.Marks.{isTarget, places, markAt, markApart, markParts, sweepAt, sweepFrom, targetMarks, neededMarks, markedFrom}
+use Rattle.needed.specs.NeededList.{isTarget, isPart, isPartOfOne, listedDown, neededList}
 use Rattle.counts.specs.PlainCount.{allowedTo}
 use Rattle.counts.specs.MinDepth.{aExceedsB, minDepth}
 use Rattle.counts.specs.Choice.{splitFor}
@@ -50,10 +49,10 @@ pub nine-lines : answerLines (opening (9 ∷ 49 ∷ 9 ∷ 50 ∷ 9 ∷ 51 ∷ 9 
     ∷ (81 ∷ 9 ∷ 52 ∷ 10 ∷ [])
     ∷ []
 unfolding answerLines answerRefusal plannedLines unlessRefused linesOf isLine fields areSettings areWhole isWhole isNumber areDigits basisIn parityIn
-    strategyIn foldIn coefficientsIn valueOf numberFrom sumAbs hasParityFrom headOf reported allowedIn ofKind stepsAt listSteps treeSteps combineKind lastPlain
-    lastLength powerSteps leavesOf lengthsOf treeOf treeIn listedAgain splitFor minDepth aExceedsB depthOf allowedTo neededList markedFrom neededMarks
-    sweepFrom targetMarks markParts markApart sweepAt markAt places isTarget allows topPower partsOf powerBelow isPowerOfTwo bitLen digits cutAt listsOf
-    digitsWithin decimal signedDecimal fieldsText lineText
+    strategyIn foldIn coefficientsIn valueOf numberFrom sumAbs hasParityFrom headOf reported allowedIn ofKind stepsAt listSteps treeSteps combineKind
+    lastPlain lastLength powerSteps leavesOf lengthsOf treeOf treeIn listedAgain splitFor minDepth aExceedsB depthOf allowedTo neededList listedDown
+    isPartOfOne isPart isTarget allows topPower partsOf powerBelow isPowerOfTwo bitLen digits cutAt listsOf digitsWithin decimal signedDecimal
+    fieldsText lineText
 nine-lines = refl
 
 -- the empty line, and a tab behind the last field: "R 12"

@@ -16,8 +16,7 @@ use Rattle.number.specs.Exact.{num}
 use Rattle.number.specs.Bits.{digits, bitLen, topPower, powerBelow, isPowerOfTwo}
 use Rattle.number.specs.Refusal.{unlessRefused}
 use Rattle.number.specs.Split.{partsOf}
-use Rattle.needed.specs.NeededList.{neededList, neededCount}
-use Rattle.needed.specs.inside.Marks.{isTarget, places, markAt, markApart, markParts, sweepAt, sweepFrom, targetMarks, neededMarks, markedFrom}
+use Rattle.needed.specs.NeededList.{isTarget, isPart, isPartOfOne, listedDown, neededList, neededCount}
 use Rattle.counts.specs.Slices.{slicesIn, slicesOf, lastOf}
 use Rattle.counts.specs.PlainCount.{allowedTo, plainCount}
 use Rattle.counts.specs.Pair.{lastIsPlain, pairOf, pairAt}
@@ -55,9 +54,9 @@ pub nine-lines-head : (a b : Float) → headFor MinDepth Full Monomial false fiv
   steps = 6;
   interval = record { a = a; b = b; u = num (pos 1); w = num (pos 0) };
 }
-unfolding ofInt headOf reported allowedIn ofKind stepsAt listSteps treeSteps combineKind lastPlain lastLength powerSteps leavesOf lengthsOf treeOf treeIn
-    listedAgain splitFor minDepth aExceedsB depthOf allowedTo neededList markedFrom neededMarks sweepFrom targetMarks markParts markApart sweepAt
-    markAt places isTarget allows topPower partsOf powerBelow isPowerOfTwo bitLen digits
+unfolding ofInt headOf reported allowedIn ofKind stepsAt listSteps treeSteps combineKind lastPlain lastLength powerSteps leavesOf lengthsOf treeOf
+    treeIn listedAgain splitFor minDepth aExceedsB depthOf allowedTo neededList listedDown isPartOfOne isPart isTarget allows topPower partsOf
+    powerBelow isPowerOfTwo bitLen digits
 nine-lines-head a b = refl
 
 -- `L 1 2 3 4`, `L 5`
@@ -79,23 +78,20 @@ pub nine-lines-steps : planSteps MinDepth Full Monomial 4
     ∷ combineStep 4 4
     ∷ []
 unfolding stepsAt listSteps treeSteps combineKind lastPlain lastLength powerSteps leavesOf treeOf treeIn listedAgain splitFor minDepth aExceedsB
-    neededList markedFrom neededMarks sweepFrom targetMarks markParts markApart sweepAt markAt places isTarget allows topPower partsOf powerBelow
-    isPowerOfTwo bitLen digits
+    neededList listedDown isPartOfOne isPart isTarget allows topPower partsOf powerBelow isPowerOfTwo bitLen digits
 nine-lines-steps = refl
 
 -- at degree 5 the last list is no constant alone, and its combine has kind 3
 pub steps-5 : planSteps MinDepth Full Monomial 5 ≡ makeStep 2 ∷ makeStep 3 ∷ makeStep 4 ∷ loadStep 0 ∷ loadStep 1 ∷ combineStep 3 4 ∷ []
 unfolding stepsAt listSteps treeSteps combineKind lastPlain lastLength powerSteps leavesOf treeOf treeIn listedAgain splitFor minDepth aExceedsB
-    neededList markedFrom neededMarks sweepFrom targetMarks markParts markApart sweepAt markAt places isTarget allows topPower partsOf powerBelow
-    isPowerOfTwo bitLen digits
+    neededList listedDown isPartOfOne isPart isTarget allows topPower partsOf powerBelow isPowerOfTwo bitLen digits
 steps-5 = refl
 
 -- at degree 7 the leading slice is listed again: lists of 4, 2 and 2
 pub steps-7 : planSteps MinDepth Full Monomial 7
     ≡ makeStep 2 ∷ makeStep 3 ∷ makeStep 4 ∷ loadStep 0 ∷ loadStep 1 ∷ loadStep 2 ∷ combineStep 3 2 ∷ combineStep 3 4 ∷ []
 unfolding stepsAt listSteps treeSteps combineKind lastPlain lastLength powerSteps leavesOf treeOf treeIn listedAgain splitFor minDepth aExceedsB
-    neededList markedFrom neededMarks sweepFrom targetMarks markParts markApart sweepAt markAt places isTarget allows topPower partsOf powerBelow
-    isPowerOfTwo bitLen digits
+    neededList listedDown isPartOfOne isPart isTarget allows topPower partsOf powerBelow isPowerOfTwo bitLen digits
 steps-7 = refl
 
 -- ---- a last list of one
@@ -115,8 +111,7 @@ pub steps-12 : planSteps MinDepth Full Monomial 12
     ∷ combineStep 3 8
     ∷ []
 unfolding stepsAt listSteps treeSteps combineKind lastPlain lastLength powerSteps leavesOf treeOf treeIn listedAgain splitFor minDepth aExceedsB
-    neededList markedFrom neededMarks sweepFrom targetMarks markParts markApart sweepAt markAt places isTarget allows topPower partsOf powerBelow
-    isPowerOfTwo bitLen digits
+    neededList listedDown isPartOfOne isPart isTarget allows topPower partsOf powerBelow isPowerOfTwo bitLen digits
 steps-12 = refl
 
 -- a last list of one that is there since the leading slice, of degree 12, is listed again: degree 124 ends with the lists 16, 4, 4, 4, 1
@@ -138,41 +133,37 @@ last-steps-124 = refl
 -- the list of one of an Odd polynomial is one too: degree 12 has the same steps
 pub steps-odd : planSteps MinDepth Odd Monomial 12 ≡ planSteps MinDepth Full Monomial 12
 unfolding stepsAt listSteps treeSteps combineKind lastPlain lastLength powerSteps leavesOf treeOf treeIn listedAgain splitFor minDepth aExceedsB
-    neededList markedFrom neededMarks sweepFrom targetMarks markParts markApart sweepAt markAt places isTarget allows topPower partsOf powerBelow
-    isPowerOfTwo bitLen digits
+    neededList listedDown isPartOfOne isPart isTarget allows topPower partsOf powerBelow isPowerOfTwo bitLen digits
 steps-odd = refl
 
 -- an Even list of two, at degree 5, stays kind 3, though it has no allowed power
 pub steps-even : planSteps MinDepth Even Monomial 5 ≡ makeStep 2 ∷ makeStep 4 ∷ loadStep 0 ∷ loadStep 1 ∷ combineStep 3 4 ∷ []
 unfolding stepsAt listSteps treeSteps combineKind lastPlain lastLength powerSteps leavesOf treeOf treeIn listedAgain splitFor minDepth aExceedsB
-    neededList markedFrom neededMarks sweepFrom targetMarks markParts markApart sweepAt markAt places isTarget allows topPower partsOf powerBelow
-    isPowerOfTwo bitLen digits
+    neededList listedDown isPartOfOne isPart isTarget allows topPower partsOf powerBelow isPowerOfTwo bitLen digits
 steps-even = refl
 
 -- MinMult at degree 12: the estimate, and what the plan reports, with one multiplication moved
 pub estimate-12 : countsCall MinMult Full Monomial 12 ≡ record { refusal = 0; ct = 7; pt = 9 }
 unfolding countsCall countsOf splitFor minMult bestOf better pairAt pairOf lastIsPlain slicesOf slicesIn lastOf plainCount allowedTo neededCount
-    neededList markedFrom neededMarks sweepFrom targetMarks markParts markApart sweepAt markAt places isTarget allows topPower unlessRefused partsOf
-    powerBelow isPowerOfTwo bitLen digits
+    neededList listedDown isPartOfOne isPart isTarget allows topPower unlessRefused partsOf powerBelow isPowerOfTwo bitLen digits
 estimate-12 = refl
 
 pub reported-12 : planCounts MinMult Full Monomial Identity 12 ≡ record { ct = 6; pt = 10 }
 unfolding reported allowedIn ofKind stepsAt listSteps treeSteps combineKind lastPlain lastLength powerSteps leavesOf lengthsOf treeOf treeIn splitFor
-    minMult bestOf better pairAt pairOf lastIsPlain slicesOf slicesIn lastOf plainCount allowedTo neededCount neededList markedFrom neededMarks
-    sweepFrom targetMarks markParts markApart sweepAt markAt places isTarget allows topPower partsOf powerBelow isPowerOfTwo bitLen digits
+    minMult bestOf better pairAt pairOf lastIsPlain slicesOf slicesIn lastOf plainCount allowedTo neededCount neededList listedDown isPartOfOne isPart
+    isTarget allows topPower partsOf powerBelow isPowerOfTwo bitLen digits
 reported-12 = refl
 
 -- at degree 4, a power of two, the estimate has moved it already
 pub estimate-4 : countsCall MinMult Full Monomial 4 ≡ record { refusal = 0; ct = 3; pt = 3 }
 unfolding countsCall countsOf splitFor minMult bestOf better pairAt pairOf lastIsPlain slicesOf slicesIn lastOf plainCount allowedTo neededCount
-    neededList markedFrom neededMarks sweepFrom targetMarks markParts markApart sweepAt markAt places isTarget allows topPower unlessRefused partsOf
-    powerBelow isPowerOfTwo bitLen digits
+    neededList listedDown isPartOfOne isPart isTarget allows topPower unlessRefused partsOf powerBelow isPowerOfTwo bitLen digits
 estimate-4 = refl
 
 pub reported-4 : planCounts MinMult Full Monomial Identity 4 ≡ record { ct = 3; pt = 3 }
 unfolding reported allowedIn ofKind stepsAt listSteps treeSteps combineKind lastPlain lastLength powerSteps leavesOf lengthsOf treeOf treeIn splitFor
-    minMult bestOf better pairAt pairOf lastIsPlain slicesOf slicesIn lastOf plainCount allowedTo neededCount neededList markedFrom neededMarks
-    sweepFrom targetMarks markParts markApart sweepAt markAt places isTarget allows topPower partsOf powerBelow isPowerOfTwo bitLen digits
+    minMult bestOf better pairAt pairOf lastIsPlain slicesOf slicesIn lastOf plainCount allowedTo neededCount neededList listedDown isPartOfOne isPart
+    isTarget allows topPower partsOf powerBelow isPowerOfTwo bitLen digits
 reported-4 = refl
 
 -- ---- a fold
@@ -193,23 +184,23 @@ pub folded-head : (a b : Float) → headFor MinDepth Odd Monomial true (pos 0 �
   steps = 1;
   interval = record { a = a; b = b; u = num (pos 1); w = num (pos 0) };
 }
-unfolding ofInt fold everySecond transformOf headOf reported allowedIn ofKind stepsAt listSteps treeSteps combineKind lastPlain lastLength powerSteps leavesOf
-    lengthsOf treeOf treeIn listedAgain splitFor minDepth aExceedsB depthOf allowedTo neededList markedFrom neededMarks sweepFrom targetMarks
-    markParts markApart sweepAt markAt places isTarget allows topPower partsOf powerBelow isPowerOfTwo bitLen digits
+unfolding ofInt fold everySecond transformOf headOf reported allowedIn ofKind stepsAt listSteps treeSteps combineKind lastPlain lastLength powerSteps
+    leavesOf lengthsOf treeOf treeIn listedAgain splitFor minDepth aExceedsB depthOf allowedTo neededList listedDown isPartOfOne isPart isTarget
+    allows topPower partsOf powerBelow isPowerOfTwo bitLen digits
 folded-head a b = refl
 
 -- ---- sizes
 
 -- those of the nine-line plan, before its coefficients are there
 pub sizes-4 : sizesCall MinDepth Full Monomial false 4 ≡ record { refusal = 0; coefficients = 5; lists = 2; steps = 6 }
-unfolding sizesCall sizesOf unlessRefused leavesOf treeOf treeIn listedAgain splitFor minDepth aExceedsB neededCount neededList markedFrom neededMarks
-    sweepFrom targetMarks markParts markApart sweepAt markAt places isTarget allows topPower partsOf powerBelow isPowerOfTwo bitLen digits
+unfolding sizesCall sizesOf unlessRefused leavesOf treeOf treeIn listedAgain splitFor minDepth aExceedsB neededCount neededList listedDown isPartOfOne
+    isPart isTarget allows topPower partsOf powerBelow isPowerOfTwo bitLen digits
 sizes-4 = refl
 
 -- and of the fold of 0 1 0 2: two coefficients in one list
 pub sizes-folded : sizesCall MinDepth Odd Monomial true 3 ≡ record { refusal = 0; coefficients = 2; lists = 1; steps = 1 }
-unfolding sizesCall sizesOf unlessRefused leavesOf treeOf treeIn listedAgain splitFor minDepth aExceedsB neededCount neededList markedFrom neededMarks
-    sweepFrom targetMarks markParts markApart sweepAt markAt places isTarget allows topPower partsOf powerBelow isPowerOfTwo bitLen digits
+unfolding sizesCall sizesOf unlessRefused leavesOf treeOf treeIn listedAgain splitFor minDepth aExceedsB neededCount neededList listedDown isPartOfOne
+    isPart isTarget allows topPower partsOf powerBelow isPowerOfTwo bitLen digits
 sizes-folded = refl
 
 -- 2 comes before 5, and 1 before 5 and 6

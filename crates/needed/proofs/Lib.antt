@@ -1,10 +1,11 @@
 pub mod Flags
 pub mod Needed
+pub mod RisingLists
+pub mod NeededList
 pub mod MarkLaws
 pub mod SweepLaws
 pub mod PlaceLaws
 pub mod NeededMarks
-pub mod NeededList
-pub mod RisingLists
+pub mod MarkedPowers
 pub mod BaseLaws
 pub mod Promises

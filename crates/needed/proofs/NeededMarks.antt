@@ -1,53 +1,26 @@
 -- The marks are the needed powers, all of them and nothing else: the marks to begin with are the targets, and the sweep adds what these need.
 use mathlib.Core.Path.{_≡_, sym, _∙_}
-use mathlib.Core.Bool.{Bool, true, _&&_}
-use mathlib.Core.Logic.{_⊎_, inl, inr, _↔_}
+use mathlib.Core.Bool.{Bool}
+use mathlib.Core.Logic.{_↔_}
 use Prim.Native.Nat.{ℕ, _+_, _-_, _≤_, _<_}
 use native.Mathlib.Omega.{arith}
-use borrow.Author.Tests.{lt-ltb, ltb-true, le-leb, leb-true, eq-eqb, eqb-true}
 use lib.ListN.{length}
-use lib.Dec.{ltb, leb, eqb}
-use Rattle.algebra.specs.Allowed.{allows}
 use Rattle.algebra.specs.declared.Basis.{Basis}
 use Rattle.algebra.specs.declared.Parity.{Parity}
 use Rattle.number.specs.Bits.{topPower}
 use Rattle.needed.specs.Needed.{Needed, babyLimit, Target, top, small, NeededPower}
-use Rattle.needed.specs.inside.Marks.{Marked, isTarget, greatestTarget, places, targetMarks, neededMarks}
+use Rattle.needed.specs.NeededList.{isTarget}
+use Rattle.needed.specs.inside.Marks.{Marked, greatestTarget, places, targetMarks, neededMarks}
 use Rattle.number.proofs.Bits.{top-power}
-use Rattle.needed.proofs.Flags.{both, either, left-or, right-or}
 use Rattle.needed.proofs.MarkLaws.{marked-below}
 use Rattle.needed.proofs.SweepLaws.{sweep-least, sweep-length}
 use Rattle.needed.proofs.PlaceLaws.{places-length, place-at}
 use Rattle.needed.proofs.Needed.{needed-more}
+use Rattle.needed.proofs.NeededList.{target-is, is-target}
 
 -- ---- the targets
 
 module _ (parity : Parity) (degree split : ℕ) where
-  -- the test names the targets
-  target-is : (n : ℕ) → isTarget parity (topPower degree) (babyLimit degree split) n ≡ true → Target parity degree split n
-  unfolding isTarget
-  target-is n is = by-side (either _ _ is)
-    where
-      by-side : (((eqb n (topPower degree) && leb 2 n) ≡ true) ⊎ ((leb 3 n && (ltb n (babyLimit degree split) && allows parity n)) ≡ true))
-          → Target parity degree split n
-      by-side (inl tests) =
-          let two = both _ _ tests in
-          top (leb-true 2 n (two .1)) (eqb-true n (topPower degree) (two .0))
-      by-side (inr tests) =
-          let two = both _ _ tests in
-          let below = both _ _ (two .1) in
-          small (leb-true 3 n (two .0)) (ltb-true n (babyLimit degree split) (below .0)) (below .1)
-
-  is-target : (n : ℕ) → Target parity degree split n → isTarget parity (topPower degree) (babyLimit degree split) n ≡ true
-  unfolding isTarget
-  is-target n (top from is) =
-      let tests : (eqb n (topPower degree) && leb 2 n) ≡ true = rw (eq-eqb n (topPower degree) is) (le-leb 2 n from) in
-      left-or _ _ tests
-  is-target n (small from below allowed) =
-      let tests : (leb 3 n && (ltb n (babyLimit degree split) && allows parity n)) ≡ true =
-      rw (le-leb 3 n from, lt-ltb n (babyLimit degree split) below) allowed in
-      right-or (eqb n (topPower degree) && leb 2 n) _ tests
-
   -- no target is above the greatest
   target-most : (n : ℕ) → Target parity degree split n → n ≤ greatestTarget degree split
   target-most n (top from is) = omega arith
@@ -71,12 +44,12 @@ module _ (parity : Parity) (degree split : ℕ) where
       forth : Marked (places test 0 size) n → Target parity degree split n
       forth marked =
           let inside : n < size = omega (arith, marked-below (places test 0 size) n marked, places-length test 0 size) in
-          target-is n (sym (place-at test size n inside) ∙ marked)
+          target-is parity degree split n (sym (place-at test size n inside) ∙ marked)
 
       back : Target parity degree split n → Marked (places test 0 size) n
       back is =
           let inside : n < size = omega (arith, target-most n is) in
-          place-at test size n inside ∙ is-target n is
+          place-at test size n inside ∙ is-target parity degree split n is
 
 -- ---- all marks
 

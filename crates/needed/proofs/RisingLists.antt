@@ -17,7 +17,7 @@ pub rising-rest : (n : ℕ) (ns : List ℕ) → Rising (n ∷ ns) → Rising ns
 rising-rest n [] rising = empty
 rising-rest n (k ∷ ns) (next less rising) = rising
 
-rising-cons : (n : ℕ) (ns : List ℕ) → ((m : ℕ) → List·Memᴰ m ns → n < m) → Rising ns → Rising (n ∷ ns)
+pub rising-cons : (n : ℕ) (ns : List ℕ) → ((m : ℕ) → List·Memᴰ m ns → n < m) → Rising ns → Rising (n ∷ ns)
 rising-cons n [] below rising = single
 rising-cons n (k ∷ ns) below rising = next (below k (List·Memᴰ·head refl)) rising
 

@@ -16,7 +16,7 @@ use Rattle.number.specs.declared.interval.Interval.{Interval}
 use Rattle.number.specs.inside.Between.{Between}
 use Rattle.needed.specs.NeededList.{neededCount}
 use Rattle.needed.specs.inside.Planned.{Planned}
-use Rattle.needed.proofs.NeededList.{count-needed-small}
+use Rattle.needed.proofs.MarkedPowers.{count-needed-small}
 use Rattle.counts.specs.Choice.{splitFor}
 use Rattle.counts.specs.Depth.{depthOf}
 use Rattle.counts.specs.declared.choice.SplitStrategy.{SplitStrategy}

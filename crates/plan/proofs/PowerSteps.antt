@@ -13,7 +13,7 @@ use Rattle.needed.specs.NeededList.{neededList, neededCount}
 use Rattle.needed.specs.inside.Marks.{Marked, markedFrom, countMarks, padded, neededMarks}
 use Rattle.needed.specs.inside.Planned.{Planned}
 use Rattle.needed.proofs.PlaceLaws.{count-none, count-take, count-step}
-use Rattle.needed.proofs.NeededList.{marked-count, needed-counted}
+use Rattle.needed.proofs.MarkedPowers.{marked-count, marked-list, needed-counted}
 use Rattle.needed.proofs.NeededMarks.{needed-length, greatest-within, marked-needed}
 use Rattle.needed.proofs.Promises.{needed-powers}
 use Rattle.lists.proofs.Arranging.{sets-append}
@@ -173,12 +173,14 @@ module _ (parity : Parity) (basis : Basis) (degree split size : ℕ) {marks : Li
 
   -- past the degree all marks are passed
   all-passed : {n : ℕ} → 0 < degree → degree < n → markedFrom 0 (take n marks) ≡ neededList parity basis degree split
-  unfolding neededList padded
+  unfolding padded
   all-passed {n} positive past =
       let known = neededMarks parity basis degree split in
       let counted = needed-length parity basis degree split in
       let most = greatest-within degree split positive in
-      ap (λ (l : List Bool). markedFrom 0 (take n l)) marks-are ∙ marked-past 0 n known (size - length known) (omega arith)
+      ap (λ (l : List Bool). markedFrom 0 (take n l)) marks-are
+      ∙ marked-past 0 n known (size - length known) (omega arith)
+      ∙ marked-list parity basis degree split
 
   pub upto-all : {n step : ℕ} {b₀ b : List ℕ} → Upto marks n step b₀ b → 0 < degree → degree < n → PowersPut parity basis degree split b₀ step b
   unfolding powerSteps neededCount

@@ -1,25 +1,21 @@
 -- The needed powers worked out: a list of marks, of which place n is true where power n is needed, swept from high to low.
 use mathlib.Core.Path.{_≡_}
-use mathlib.Core.Bool.{Bool, true, false, cond, _&&_, _||_}
+use mathlib.Core.Bool.{Bool, true, false, cond}
 use mathlib.Core.List.{List, [], _∷_, _++_}
 use Prim.Native.Nat.{ℕ, zero, suc, _+_, _-_, _^_, max}
-use lib.Dec.{ltb, leb, eqb}
+use lib.Dec.{ltb}
 use lib.ListN.{length, getD, set, replicate}
-use Rattle.algebra.specs.Allowed.{allows}
 use Rattle.algebra.specs.declared.Basis.{Basis}
 use Rattle.algebra.specs.declared.Basis.the-variants.{Monomial, Chebyshev}
 use Rattle.algebra.specs.declared.Parity.{Parity}
 use Rattle.number.specs.Split.{partsOf}
 use Rattle.number.specs.Bits.{topPower}
 use Rattle.needed.specs.Needed.{babyLimit}
+use Rattle.needed.specs.NeededList.{isTarget}
 
 -- power n is marked
 abbrev pub Marked : List Bool → (n : ℕ) → Type 0
 Marked marks n = getD marks n false ≡ true
-
--- whether n is the top power and at least 2, or an allowed power from 3 below the limit
-unfoldable pub isTarget : Parity → (top limit n : ℕ) → Bool
-isTarget parity top limit n = (eqb n top && leb 2 n) || (leb 3 n && (ltb n limit && allows parity n))
 
 -- the greatest place that may be needed at once
 abbrev pub greatestTarget : (degree split : ℕ) → ℕ

@@ -3,7 +3,7 @@
 use mathlib.Core.Path.{sym, _∙_}
 use native.Mathlib.Omega.{arith}
 use borrow.Author.Needs.{needs}
-use Rattle.needed.proofs.NeededList.{count-needed-small}
+use Rattle.needed.proofs.MarkedPowers.{count-needed-small}
 use Rattle.counts.proofs.PairLaws.{plain-two, pair-plain, pair-whole}
 use Rattle.counts.proofs.TallyLaws.{tally-range}
 use Rattle.counts.proofs.pair.estimate_op_counts.Statement.{statement}

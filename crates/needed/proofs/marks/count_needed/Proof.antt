@@ -4,7 +4,7 @@ use Prim.Native.Nat.{_-_, _^_, _≤_}
 use native.Mathlib.Omega.{arith}
 use borrow.Author.Needs.{needs}
 use Rattle.number.proofs.Bits.{few-digits}
-use Rattle.needed.proofs.NeededList.{count-needed-small}
+use Rattle.needed.proofs.MarkedPowers.{count-needed-small}
 use Rattle.needed.proofs.BaseLaws.{split-under, small-planned, needed-from-base}
 use Rattle.needed.proofs.marks.count_needed.Statement.{statement}
 use Rattle.needed.proofs.marks.count_needed.Tie as tie

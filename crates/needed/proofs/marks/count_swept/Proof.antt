@@ -8,7 +8,7 @@ use Rattle.number.specs.Limits.{countLimit}
 use Rattle.needed.specs.inside.Marks.{greatestTarget, countMarks, neededMarks}
 use Rattle.needed.proofs.PlaceLaws.{take-padded}
 use Rattle.needed.proofs.NeededMarks.{greatest-within, needed-length}
-use Rattle.needed.proofs.NeededList.{needed-counted}
+use Rattle.needed.proofs.MarkedPowers.{needed-counted}
 use Rattle.needed.proofs.marks.count_swept.Statement.{statement}
 use Rattle.needed.proofs.marks.count_swept.Tie as tie
 

@@ -8,7 +8,7 @@ use borrow.Author.Needs.{needs}
 use borrow.Author.Tests.{le-leb, lt-leb, leb-false, lt-ltb, le-ltb, eq-eqb, ne-eqb}
 use lib.Dec.{ltb, leb}
 use Rattle.algebra.specs.Allowed.{allows}
-use Rattle.needed.specs.inside.Marks.{isTarget}
+use Rattle.needed.specs.NeededList.{isTarget}
 use Rattle.needed.proofs.marks.is_target.Statement.{statement}
 use Rattle.needed.proofs.marks.is_target.Tie as tie
 

@@ -8,7 +8,7 @@ use native.Mathlib.Omega.{arith}
 use borrow.Author.Needs.{needs}
 use lib.ListN.{set}
 use Rattle.number.specs.Limits.{countLimit}
-use Rattle.needed.specs.inside.Marks.{isTarget}
+use Rattle.needed.specs.NeededList.{isTarget}
 use Rattle.needed.proofs.PlaceLaws.{filled, fill-start, fill-step, fill-end}
 use Rattle.needed.proofs.marks.mark_targets.Statement.{statement}
 use Rattle.needed.proofs.marks.mark_targets.Tie as tie
