@@ -8,6 +8,7 @@ use Rattle.demands.proofs.PlainStep.{plans-plain}
 use Rattle.demands.proofs.Estimated.{plans-estimated}
 use Rattle.demands.proofs.Total.{plans-total, plans-made, plan-order, folds-total, lists-total, trials-total, chains-total, interpolations-total}
 use Rattle.demands.proofs.Total.{numbers-total}
+use Rattle.demands.proofs.RefusedWalks.{trials-refused, chains-refused}
 use Rattle.demands.proofs.Equal.{published, floats-equal, plans-equal}
 use Rattle.demands.proofs.HeadTold.{heads-told}
 use Rattle.demands.proofs.Fits.{plans-fit}
@@ -23,6 +24,8 @@ total = record {
   chains-total = chains-total;
   interpolations-total = interpolations-total;
   numbers-total = numbers-total;
+  trials-refused = trials-refused;
+  chains-refused = chains-refused;
 }
 
 pub equal : Equal

@@ -15,6 +15,7 @@ pub mod StoredEarlier
 pub mod HeadTold
 pub mod Fits
 pub mod Total
+pub mod RefusedWalks
 pub mod Equal
 pub mod Starred
 pub mod Demands

@@ -181,12 +181,12 @@ lists-total A numbers strategy parity basis c out bounds r out′ bounds′ call
 
 -- ---- the trial walk
 
-neither : (a b : Bool) → (a || b) ≡ false → (a ≡ false) × (b ≡ false)
+pub neither : (a b : Bool) → (a || b) ≡ false → (a ≡ false) × (b ≡ false)
 neither false b none-is = (refl, none-is)
 neither true b none-is = absurd (true≢false none-is)
 
 module _ (head : Head) (coefficients : List ℤ) (bounds steps : List ℕ) (point : ℤ) (modulus : ℕ) where
-  trial-refusal-is : trialOf head coefficients bounds steps point modulus .refusal ≡ trialRefusal head coefficients bounds steps point modulus
+  pub trial-refusal-is : trialOf head coefficients bounds steps point modulus .refusal ≡ trialRefusal head coefficients bounds steps point modulus
   unfolding trialOf
   trial-refusal-is = refusal-of (trialRefusal head coefficients bounds steps point modulus) _ _ (λ (t : Trial). t .refusal) refl refl
 
@@ -222,7 +222,7 @@ trials-total head coefficients bounds steps point modulus =
 -- ---- the heaviest chain
 
 module _ (head : Head) (coefficients : List ℤ) (bounds steps : List ℕ) (input coeff : ℕ) where
-  chain-refusal-is : chainOf head coefficients bounds steps input coeff .refusal ≡ chainRefusal head coefficients bounds steps input coeff
+  pub chain-refusal-is : chainOf head coefficients bounds steps input coeff .refusal ≡ chainRefusal head coefficients bounds steps input coeff
   unfolding chainOf
   chain-refusal-is = refusal-of (chainRefusal head coefficients bounds steps input coeff) _ _ (λ (t : Chain). t .refusal) refl refl
 

@@ -16,6 +16,7 @@ use Rattle.demands.specs.PlainStep.{PlansPlain}
 use Rattle.demands.specs.Estimated.{PlansEstimated}
 use Rattle.demands.specs.Total.{PlansTotal, PlansMade, PlanOrder, FoldsTotal, ListsTotal, TrialsTotal, ChainsTotal, InterpolationsTotal}
 use Rattle.demands.specs.Total.{NumbersTotal}
+use Rattle.demands.specs.RefusedWalks.{TrialsRefused, ChainsRefused}
 use Rattle.demands.specs.Equal.{Published, FloatsEqual, PlansEqual}
 use Rattle.demands.specs.HeadTold.{HeadsTold}
 use Rattle.demands.specs.Fits.{PlansFit}
@@ -35,6 +36,9 @@ pub record Total : Type 1 where
   pub chains-total : ChainsTotal
   pub interpolations-total : InterpolationsTotal
   pub numbers-total : NumbersTotal
+  -- Document 01, of the walk: "It refuses with 24 exactly if ..", and there follow the reasons.
+  pub trials-refused : TrialsRefused
+  pub chains-refused : ChainsRefused
 
 -- 2. Equal.
 pub record Equal : Type 1 where

@@ -1,5 +1,6 @@
 pub mod Demands
 pub mod Total
+pub mod RefusedWalks
 pub mod Equal
 pub mod Accepts
 pub mod Right

@@ -33,10 +33,10 @@ unfoldable pub anyMissing : {A : Type 0} → Powers A → List ℕ → Bool
 anyMissing powers [] = false
 anyMissing powers (n ∷ ns) = missing (powers n) || anyMissing powers ns
 
--- a test of what a step left; where it left nothing, it holds
+-- a test of what a step left; where it left nothing, there is nothing to test
 abbrev pub failsAt : {X : Type 0} → Option X → (X → Bool) → Bool
 failsAt (some v) test = test v
-failsAt none test = true
+failsAt none test = false
 
 -- a count passes its buffer; the boundaries do not rise from 0 within the coefficients
 abbrev pub headReasons : Head → List ℤ → (bounds steps : List ℕ) → List Bool
