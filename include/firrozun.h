@@ -51,8 +51,11 @@ extern "C" {
 /* The kinds of a step, its first number. */
 #define FIRROZUN_STEP_MAKE 1          /* 1 n a b: makes power n from powers a and b */
 #define FIRROZUN_STEP_LOAD 2          /* 2 i 0 0: pushes the value of list i, counted from 0 */
-#define FIRROZUN_STEP_COMBINE 3       /* 3 p 0 0: takes high, then low, and pushes high * (power p) + low, two ciphertexts multiplied */
+#define FIRROZUN_STEP_COMBINE 3       /* 3 p 0 0: takes high, then low, and pushes high * (power p) + low; see below how it counts */
 #define FIRROZUN_STEP_COMBINE_PLAIN 4 /* 4 p 0 0: the same, where high is the last list alone and that a constant: a plaintext */
+
+/* A step of kind 3 counts as a multiplication of two ciphertexts, even where high is plain. High is plain where the parity leaves its list nothing but
+ * a constant: the even polynomial 1 0 2 0 3 0 with FIRROZUN_MIN_DEPTH has the last list 3 0, of value 3, and a step of kind 3 behind its load. */
 
 /* ---- refusals */
 

@@ -271,7 +271,8 @@ pub enum Step {
         /// The list's number, from 0.
         list: u16,
     },
-    /// Takes high, then low, and pushes high · (power) + low.
+    /// Takes high, then low, and pushes high · (power) + low. It counts as a multiplication of two encrypted numbers, even where high is
+    /// plain because the parity leaves its list nothing but a constant, as the last list 3 0 of the even polynomial 1 0 2 0 3 0.
     Combine {
         /// The power that high is multiplied by.
         power: u16,
