@@ -3,6 +3,9 @@
  * Each function is proved to answer, and to leave in its buffers, what crates/exports/specs says, for every input. docs/RULES.md has the rules
  * in words. Link with target/staticlib/libexports.a, which `rt staticlib exports` writes (x86-64 Linux).
  *
+ * "Undefined reference to firrozun_layout_8" at linking says that the library is older or newer than this header, and has other structs or arguments.
+ * Build it anew: run `rt staticlib exports` in the repository that this header is from, and link with what it writes.
+ *
  * Kinds go by number (FIRROZUN_MONOMIAL and so on). A number that is no kind's is refusal 43, ahead of every other test.
  *
  * Refusals: the answer's first field is 0, or the number of the first test that holds, in the order given with each function. After a refusal
@@ -21,6 +24,23 @@
 #ifdef __cplusplus
 extern "C" {
 #endif
+
+/* ---- the layouts */
+
+/* The number of the layouts, 8, which stands in the name too: it is raised with each change of a struct or of a function's arguments. The pointer
+ * behind it makes every program that includes this header ask the linker for this name, so that it does not link with a library of other layouts.
+ * The attribute retain keeps the pointer with --gc-sections too; gcc has it from 11 on, and clang from 13 on. */
+uint32_t firrozun_layout_8(void);
+
+#define FIRROZUN_KEPT __attribute__((used))
+#ifdef __has_attribute
+#if __has_attribute(retain)
+#undef FIRROZUN_KEPT
+#define FIRROZUN_KEPT __attribute__((used, retain))
+#endif
+#endif
+FIRROZUN_KEPT static uint32_t (*const firrozun_layout)(void) = firrozun_layout_8;
+#undef FIRROZUN_KEPT
 
 /* ---- kinds */
 

@@ -154,6 +154,7 @@ pub struct CChain {
 }
 
 extern "C" {
+    fn firrozun_layout_8() -> u32;
     fn firrozun_split_degree(n: usize) -> CParts;
     fn firrozun_min_depth_split(degree: usize) -> CSplit;
     fn firrozun_min_mult_split(parity: u8, basis: u8, degree: usize) -> CSplit;
@@ -259,6 +260,12 @@ extern "C" {
         coeff: usize,
     ) -> CChain;
 }
+
+/// The number of the layouts of this file stands in the name, and is raised with each change of a struct or of a call's arguments in
+/// `crates/exports`. The reference has every program that links this crate ask for the name, so that a library with other layouts
+/// does not link.
+#[used]
+static LAYOUT: unsafe extern "C" fn() -> u32 = firrozun_layout_8;
 
 pub fn split_degree(n: usize) -> CParts {
     // SAFETY: the call takes and answers numbers alone, and is proved for every number.

@@ -8,3 +8,4 @@ pub mod Listing
 pub mod Heads
 pub mod HeadsShown
 pub mod Planning
+pub mod Layout

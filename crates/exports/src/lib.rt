@@ -3,6 +3,7 @@ pub mod degrees;
 pub mod flat;
 pub mod head;
 pub mod kinds;
+pub mod layout;
 pub mod listing;
 pub mod planning;
 pub mod values;

@@ -1,5 +1,5 @@
-//! Refusal 43. The safe types have no kind that the library does not know, so its number is tested here, below them. And where the
-//! fields of the head stand: callers of before the interval count on those ahead of it.
+//! Where the fields of each struct stand, and the number of these layouts. And refusal 43: the safe types have no kind that the library
+//! does not know, so its number is tested here, below them.
 
 use super::*;
 use std::mem::{offset_of, size_of};
@@ -25,32 +25,50 @@ const NO_HEAD: CHead = CHead {
     },
 };
 
+/// Compares the size of a struct, and the place of each of its fields, with numbers.
+macro_rules! assert_layout {
+    ($type:ty, $size:literal, $($field:ident $place:literal),+) => {
+        assert_eq!(size_of::<$type>(), $size, stringify!($type));
+        $(assert_eq!(offset_of!($type, $field), $place, stringify!($type.$field));)+
+    };
+}
+
+/// The numbers are worked out by hand from the rules of C on x86-64: a byte stands at any place, and what has 8 bytes at a multiple of 8.
+/// `examples/c/layout.c` has the same.
 #[test]
-fn the_interval_stands_last_in_the_head() {
-    let bytes = offset_of!(CHead, transform);
-    let words = [
-        offset_of!(CHead, degree),
-        offset_of!(CHead, base),
-        offset_of!(CHead, ct),
-        offset_of!(CHead, pt),
-        offset_of!(CHead, depth),
-        offset_of!(CHead, coefficients),
-        offset_of!(CHead, lists),
-        offset_of!(CHead, steps),
-        offset_of!(CHead, interval),
-    ];
-    assert_eq!((bytes, words), (3, [8, 16, 24, 32, 40, 48, 56, 64, 72]));
-    let numbers = [
-        offset_of!(CHeadInterval, a),
-        offset_of!(CHeadInterval, b),
-        offset_of!(CHeadInterval, u),
-        offset_of!(CHeadInterval, w),
-    ];
-    assert_eq!(numbers, [0, 8, 16, 24]);
-    assert_eq!(size_of::<CHeadInterval>(), 32);
-    assert_eq!(size_of::<CHead>(), 72 + 32);
-    assert_eq!(offset_of!(CPlanned, head), 8);
-    assert_eq!(size_of::<CPlanned>(), 8 + 72 + 32);
+fn the_layouts_of_answers_on_numbers() {
+    assert_layout!(CParts, 32, refusal 0, a 8, b 16, distance 24);
+    assert_layout!(CSplit, 16, refusal 0, split 8);
+    assert_layout!(CCounts, 24, refusal 0, ct 8, pt 16);
+    assert_layout!(CDepth, 16, refusal 0, depth 8);
+    assert_layout!(CBits, 16, refusal 0, bits 8);
+    assert_layout!(CDegree, 16, refusal 0, degree 8);
+    assert_layout!(CSizes, 32, refusal 0, coefficients 8, lists 16, steps 24);
+}
+
+#[test]
+fn the_layouts_of_answers_on_coefficients() {
+    assert_layout!(CFolded, 16, refusal 0, transform 1, parity 2, count 8);
+    assert_layout!(CValue, 16, refusal 0, value 8);
+    assert_layout!(CInterval, 40, refusal 0, a 8, b 16, u 24, w 32);
+    assert_layout!(CInterpolated, 56, refusal 0, count 8, parity 16, a 24, b 32, u 40, w 48);
+    assert_layout!(CListed, 40, refusal 0, degree 8, base 16, coefficients 24, lists 32);
+}
+
+#[test]
+fn the_layouts_of_a_plan() {
+    assert_layout!(CHeadInterval, 32, a 0, b 8, u 16, w 24);
+    assert_layout!(CHead, 104, basis 0, parity 1, strategy 2, transform 3, degree 8, base 16, ct 24, pt 32, depth 40);
+    assert_layout!(CHead, 104, coefficients 48, lists 56, steps 64, interval 72);
+    assert_layout!(CPlanned, 112, refusal 0, head 8);
+    assert_layout!(CTrial, 16, refusal 0, remainder 8);
+    assert_layout!(CChain, 16, refusal 0, weight 8);
+}
+
+#[test]
+fn the_number_of_the_layouts() {
+    // SAFETY: the call takes nothing and answers a number.
+    assert_eq!(unsafe { LAYOUT() }, 8);
 }
 
 /// +0 in the head of a refusal: -0 would be equal to it.
