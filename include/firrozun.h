@@ -21,6 +21,8 @@
 #include <stddef.h>
 #include <stdint.h>
 
+#define FIRROZUN_VERSION "0.7.0"
+
 #ifdef __cplusplus
 extern "C" {
 #endif
