@@ -3,7 +3,7 @@ use mathlib.Core.Path.{_≡_, refl}
 use mathlib.Core.List.{[], _∷_, map}
 use lib.IntN.{pos, negsuc, _+ℤ_, _*ℤ_}
 use Rattle.algebra.specs.Cut.{differences, doubled, lowered, cutAt}
-use Rattle.algebra.specs.Fold.{everySecond, coeffR, addR, sumRFrom, fold}
+use Rattle.algebra.specs.Fold.{everySecond, coeffR, fold}
 use Rattle.algebra.specs.Magnitude.{sumAbs}
 use Rattle.algebra.specs.Operations.{wholeOps}
 use Rattle.algebra.specs.Power.{pow, cheb, power}
@@ -25,11 +25,6 @@ seventh = refl
 pub monomial-at-2 : value wholeOps Monomial (pos 2) (map pos (1 ∷ 2 ∷ 3 ∷ 4 ∷ 5 ∷ 6 ∷ [])) ≡ pos 321
 unfolding dot sum pow
 monomial-at-2 = refl
-
--- 1 + 2·2 + 3·7 + 4·26 + 5·97 + 6·362
-pub chebyshev-at-2 : value wholeOps Chebyshev (pos 2) (map pos (1 ∷ 2 ∷ 3 ∷ 4 ∷ 5 ∷ 6 ∷ [])) ≡ pos 2787
-unfolding dot sum cheb
-chebyshev-at-2 = refl
 
 -- ---- the cut of 1 + 2·T_1 + 3·T_2 + 4·T_3 at 2: (1 - 2·T_1) + T_2·(3 + 8·T_1)
 
@@ -79,12 +74,7 @@ pub odd-monomial-fold : fold wholeOps Odd Monomial (map pos (0 ∷ 1 ∷ 0 ∷ 2
 unfolding fold everySecond
 odd-monomial-fold = refl
 
--- T_1 + 2·T_3 is x·(R_0 + 2·R_1) at T_2, with R_0 = 1 and R_1 = 2·T_1 - 1
-pub odd-chebyshev-fold : fold wholeOps Odd Chebyshev (map pos (0 ∷ 1 ∷ 0 ∷ 2 ∷ [])) ≡ negsuc 0 ∷ pos 4 ∷ []
-unfolding fold everySecond sumRFrom addR coeffR
-odd-chebyshev-fold = refl
-
--- at 3: T_2 = 17, and 3·(-1 + 4·17) = 201 = 3 + 2·99
+-- T_1 + 2·T_3 is x·(-1 + 4·y) at y = T_2 (the fold is in the starred table): at 3, T_2 = 17, and 3·(-1 + 4·17) = 201 = 3 + 2·99
 pub odd-chebyshev-at-3 : outputOf wholeOps ChebyshevT2TimesInput (pos 3)
     (value wholeOps Chebyshev (inputOf wholeOps ChebyshevT2TimesInput (pos 3)) (negsuc 0 ∷ pos 4 ∷ [])) ≡ pos 201
 unfolding outputOf inputOf dot sum cheb

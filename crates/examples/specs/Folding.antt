@@ -17,11 +17,6 @@ use Rattle.number.specs.Refusal.{unlessRefused}
 use Rattle.number.specs.Parity.{hasParityFrom}
 use Rattle.number.specs.FoldCall.{foldRefusal, foldAnswer, foldBuffer}
 
--- odd Chebyshev 0 1 0 2 folds to -1 4
-pub odd-fold : fold wholeOps Odd Chebyshev (pos 0 ∷ pos 1 ∷ pos 0 ∷ pos 2 ∷ []) ≡ negsuc 0 ∷ pos 4 ∷ []
-unfolding fold everySecond sumRFrom addR coeffR
-odd-fold = refl
-
 -- a fold may sum above 2^30 where its polynomial doesn't
 pub large-fold : fold wholeOps Odd Chebyshev (pos 0 ∷ pos 0 ∷ pos 0 ∷ pos 536870912 ∷ []) ≡ negsuc 536870911 ∷ pos 1073741824 ∷ []
 unfolding fold everySecond sumRFrom addR coeffR
@@ -35,10 +30,6 @@ third-fold = refl
 pub even-fold : fold wholeOps Even Chebyshev (pos 1 ∷ pos 0 ∷ pos 2 ∷ pos 0 ∷ []) ≡ pos 1 ∷ pos 2 ∷ []
 unfolding fold everySecond
 even-fold = refl
-
-pub odd-monomial : fold wholeOps Odd Monomial (pos 0 ∷ pos 1 ∷ pos 0 ∷ pos 2 ∷ []) ≡ pos 1 ∷ pos 2 ∷ []
-unfolding fold everySecond
-odd-monomial = refl
 
 -- Full is 5, whatever else holds
 pub full-refused : foldRefusal wholeNumbers Full Monomial [] [] ≡ 5

@@ -154,12 +154,7 @@ unfolding reported allowedIn ofKind stepsAt listSteps treeSteps combineKind last
     isTarget allows topPower partsOf powerBelow isPowerOfTwo bitLen digits
 reported-12 = refl
 
--- at degree 4, a power of two, the estimate has moved it already
-pub estimate-4 : countsCall MinMult Full Monomial 4 ≡ record { refusal = 0; ct = 3; pt = 3 }
-unfolding countsCall countsOf splitFor minMult bestOf better pairAt pairOf lastIsPlain slicesOf slicesIn lastOf plainCount allowedTo neededCount
-    neededList listedDown isPartOfOne isPart isTarget allows topPower unlessRefused partsOf powerBelow isPowerOfTwo bitLen digits
-estimate-4 = refl
-
+-- at degree 4, a power of two, the estimate has moved it already (demands/specs/Starred), and the plan reports the same
 pub reported-4 : planCounts MinMult Full Monomial Identity 4 ≡ record { ct = 3; pt = 3 }
 unfolding reported allowedIn ofKind stepsAt listSteps treeSteps combineKind lastPlain lastLength powerSteps leavesOf lengthsOf treeOf treeIn splitFor
     minMult bestOf better pairAt pairOf lastIsPlain slicesOf slicesIn lastOf plainCount allowedTo neededCount neededList listedDown isPartOfOne isPart
