@@ -81,6 +81,7 @@ starred = record {
   depth-splits = refl;
   mult-2 =
       in-both (λ (basis : Basis). MultFull basis 2 1 1 2) (record { chosen = refl; counted = refl }) (record { chosen = refl; counted = refl });
+  tie-2 = in-both (λ (basis : Basis). map (pairAt Full basis 2) (1 ∷ 2 ∷ []) ≡ record { ct = 1; pt = 2 } ∷ record { ct = 1; pt = 2 } ∷ []) refl refl;
   mult-4 =
       in-both (λ (basis : Basis). MultFull basis 4 1 3 3) (record { chosen = refl; counted = refl }) (record { chosen = refl; counted = refl });
   mult-5 = chosen-5;

@@ -14,6 +14,7 @@ use Rattle.algebra.specs.declared.Parity.the-variants.{Full, Odd}
 use Rattle.algebra.specs.declared.PolynomialInputTransform.the-variants.{Identity}
 use Rattle.number.specs.Split.{splitOf}
 use Rattle.counts.specs.MinDepth.{minDepth}
+use Rattle.counts.specs.Pair.{pairAt}
 use Rattle.counts.specs.Calls.{minMultCall, countsCall, depthCall, bitsCall}
 use Rattle.counts.specs.declared.choice.SplitStrategy.the-variants.{MinDepth, MinMult}
 use Rattle.lists.specs.Tree.{planTree}
@@ -36,6 +37,8 @@ pub record Starred : Type 0 where
   -- MinMult, Full, in both bases: degree 2 split 1 (tie), pair (1, 2); degree 4 split 1, (3, 3); degree 5 split 1, (4, 3);
   -- degree 7 split 2, (4, 6)
   pub mult-2 : (basis : Basis) → MultFull basis 2 1 1 2
+  -- the tie: of the splits from 1 to 2, the bit length of degree 2, both have this pair
+  pub tie-2 : (basis : Basis) → map (pairAt Full basis 2) (1 ∷ 2 ∷ []) ≡ record { ct = 1; pt = 2 } ∷ record { ct = 1; pt = 2 } ∷ []
   pub mult-4 : (basis : Basis) → MultFull basis 4 1 3 3
   pub mult-5 : (basis : Basis) → MultFull basis 5 1 4 3
   pub mult-7 : (basis : Basis) → MultFull basis 7 2 4 6
