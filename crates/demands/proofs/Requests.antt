@@ -1,7 +1,10 @@
 -- The requests that have landed are met: each statement by the theorem of its name.
 use mathlib.Core.Path.{refl}
-use Rattle.demands.specs.Requests.{BufferSizes, LastConstant, PlanChains, DegreeForBudget, SplitWithDistance, IntervalInHead, Requests}
+use Rattle.demands.specs.Requests.{BufferSizes, LastConstant, PlanChains, SplitCases, DegreeForBudget, SplitWithDistance, IntervalInHead, Requests}
 use Rattle.number.proofs.SplitDistance.{third-is-distance, parts-differ, refused-zero, split-product}
+use Rattle.counts.specs.Choice.{splitFor}
+use Rattle.counts.specs.MinDepth.{minDepth}
+use Rattle.counts.proofs.Promises.{cases-published, chosen}
 use Rattle.counts.proofs.BudgetPromises.{largest-degrees, bits-fall, none-below-scale}
 use Rattle.walk.proofs.Paths.{heaviest-greatest}
 use Rattle.walk.proofs.StepsWeigh.{steps-weigh}
@@ -37,6 +40,10 @@ plan-chains = record {
   chain-order = chain-order;
 }
 
+pub split-cases : SplitCases
+unfolding splitFor minDepth
+split-cases = record { one-each = refl; read-off = λ parity basis degree. refl; cases-published = cases-published; chosen = chosen }
+
 pub degree-for-budget : DegreeForBudget
 degree-for-budget = record {
   largest-degrees = largest-degrees;
@@ -66,6 +73,7 @@ requests = record {
   buffer-sizes = buffer-sizes;
   last-constant = last-constant;
   plan-chains = plan-chains;
+  split-cases = split-cases;
   degree-for-budget = degree-for-budget;
   split-with-distance = split-with-distance;
   interval-in-head = interval-in-head;

@@ -1,14 +1,20 @@
 -- The requests of document 02 that have landed, in its words, each sentence over the statements that say it. docs/REQUESTS.md has a note on each, and
 -- proofs/Requests proves them all.
 use mathlib.Core.Path.{_≡_}
-use mathlib.Core.List.{[], _∷_}
+use mathlib.Core.List.{[], _∷_, map}
 use Prim.Native.Nat.{ℕ}
 use Rattle.algebra.specs.Ring.{Ring}
+use Rattle.algebra.specs.declared.Basis.{Basis}
 use Rattle.algebra.specs.declared.Parity.{Parity}
+use Rattle.number.specs.Bits.{bitLen}
 use Rattle.number.specs.SplitDistance.{ThirdIsDistance, PartsDiffer, RefusedZero, SplitProduct}
 use Rattle.counts.specs.Calls.{largestTests}
+use Rattle.counts.specs.Choice.{splitFor}
+use Rattle.counts.specs.MinDepth.{minDepthCases, splitBeside}
+use Rattle.counts.specs.Promises.{CasesPublished, Chosen}
 use Rattle.counts.specs.BudgetPromises.{LargestDegrees, BitsFall, NoneBelowScale}
 use Rattle.counts.specs.declared.choice.SplitStrategy.{SplitStrategy}
+use Rattle.counts.specs.declared.choice.SplitStrategy.the-variants.{MinDepth}
 use Rattle.walk.specs.Paths.{HeaviestGreatest}
 use Rattle.walk.specs.StepsWeigh.{StepsWeigh}
 use Rattle.walk.specs.UnusedPower.{UnusedLeftOut}
@@ -56,8 +62,25 @@ pub record PlanChains : Type 1 where
   -- The plans that the plan call makes are all weighed.
   pub stored-weighed : StoredWeighed
   pub plans-weighed : PlansWeighed
+  -- "A program prints, for the zero curves of degree 2 to 511 and every setting without folding, at input scale 30 and coefficient scale 20, one tabbed
+  -- line each, equal or not: degree, the letters of basis, parity and strategy, chain, `bsgs_consumed_bits`. Degree changes slowest, then basis M C,
+  -- parity F E O, strategy D M." No statement of this crate says it, since the program, `chains`, is a crate above: chains/specs/Line and
+  -- chains/specs/ZeroChain define its lines, `ZerosWeighed` (chains/specs/ZerosWeighed) says that the chain of a line is that of the curve's plan, and
+  -- the gate compares what it prints with a recorded output.
+
   -- "The call refuses a scale with 10 and then an unrunnable plan with 24, as already known." That it ends so on any arguments is in specs/Total.
   pub chain-order : ChainOrder
+
+-- Q-4. MinDepth split as listed cases.
+pub record SplitCases : Type 0 where
+  -- "Replace them by 32 cases, one for each bit length, so that the split of a given curve can be read off."
+  pub one-each : map (λ (listed : ℕ × ℕ). listed .0) minDepthCases
+      ≡ 1 ∷ 2 ∷ 3 ∷ 4 ∷ 5 ∷ 6 ∷ 7 ∷ 8 ∷ 9 ∷ 10 ∷ 11 ∷ 12 ∷ 13 ∷ 14 ∷ 15 ∷ 16
+      ∷ 17 ∷ 18 ∷ 19 ∷ 20 ∷ 21 ∷ 22 ∷ 23 ∷ 24 ∷ 25 ∷ 26 ∷ 27 ∷ 28 ∷ 29 ∷ 30 ∷ 31 ∷ 32 ∷ []
+  pub read-off : (parity : Parity) (basis : Basis) (degree : ℕ) → splitFor MinDepth parity basis degree ≡ splitBeside (bitLen degree) minDepthCases
+  -- "Every contract is the same afterwards." Each case is what the two formulas give, and so is the split of every degree that is taken.
+  pub cases-published : CasesPublished
+  pub chosen : (parity : Parity) (basis : Basis) (degree : ℕ) → Chosen parity basis degree
 
 -- Q-5. Largest degree for a budget.
 pub record DegreeForBudget : Type 0 where
@@ -89,6 +112,10 @@ pub record IntervalInHead : Type 1 where
   pub intervals-told : IntervalsTold
   -- "The walk doesn't read these four numbers, so its value is the same for any interval." Nor do the trial walk and the heaviest chain.
   pub interval-unread : IntervalUnread
+  -- "`planlines` plans on −1 to 1 and prints the same lines." No statement of this crate says it, since the program is a crate above: `plannedLines`
+  -- (answers/specs/Answer) plans on −1 to 1, and the contract of `put_answer` (answers) holds the text of an answer to it; that a plan's text is the same
+  -- on any interval is `IntervalUnprinted` (texts/specs/IntervalUnprinted), and the gate compares what the program prints with recorded answers.
+
   -- "A plan whose lower bound isn't below its upper one is refused with 7, after 3 and before 21." That the tests are in this order is in specs/Total.
   pub unordered-refused : UnorderedRefused
   -- Lists, boundaries, steps and all else in the head are the same on any interval that is not refused. The sizes of Q-1 take none.
@@ -98,6 +125,7 @@ pub record Requests : Type 1 where
   pub buffer-sizes : BufferSizes
   pub last-constant : LastConstant
   pub plan-chains : PlanChains
+  pub split-cases : SplitCases
   pub degree-for-budget : DegreeForBudget
   pub split-with-distance : SplitWithDistance
   pub interval-in-head : IntervalInHead
