@@ -18,6 +18,7 @@ pub mod FoldPlaces
 pub mod FoldLaw
 pub mod Remainders
 pub mod Homomorphism
+pub mod IsRemainder
 pub mod RemainderLaw
 pub mod EnumNumbers
 pub mod Magnitudes

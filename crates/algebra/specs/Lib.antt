@@ -13,5 +13,6 @@ pub mod Fold
 pub mod Transform
 pub mod FoldLaw
 pub mod Remainder
+pub mod IsRemainder
 pub mod RemainderLaw
 pub mod Magnitude

@@ -15,11 +15,13 @@ use Rattle.algebra.specs.Operations.{wholeOps}
 use Rattle.algebra.specs.Allowed.{HasParity}
 use Rattle.algebra.specs.Cut.{cutAt}
 use Rattle.algebra.specs.Value.{value}
+use Rattle.algebra.specs.Remainder.{rem}
 use Rattle.algebra.specs.Transform.{inputOf, outputOf}
 use Rattle.algebra.specs.declared.Basis.{Basis}
 use Rattle.algebra.specs.declared.Parity.{Parity}
 use Rattle.algebra.proofs.FoldLaw.{fold-law}
 use Rattle.algebra.proofs.Integers.{integers}
+use Rattle.algebra.proofs.IsRemainder.{remainders-told}
 use Rattle.number.proofs.Refusal.{when-accepted}
 use Rattle.counts.specs.Choice.{splitFor}
 use Rattle.counts.specs.declared.choice.SplitStrategy.{SplitStrategy}
@@ -31,9 +33,11 @@ use Rattle.lists.proofs.Arranging.{length-ends, low-size, high-size}
 use Rattle.lists.proofs.Bounds.{sound-for}
 use Rattle.lists.proofs.ListCall.{front}
 use Rattle.lists.proofs.Lists.{lists-in-order, length-arranged}
+use Rattle.walk.specs.Limits.{modulusLimit}
 use Rattle.walk.specs.Options.{_then_, missing}
 use Rattle.walk.specs.Rules.{exactRules}
 use Rattle.walk.specs.Lent.{stepsFrom, lentSteps, exactWalk}
+use Rattle.walk.specs.Trial.{trialOf}
 use Rattle.walk.specs.WalksHeld.{Filled, empty, more, Holds}
 use Rattle.walk.specs.declared.plan.Head.{Head}
 use Rattle.walk.proofs.FlatSteps.{flat-steps, flat-length}
@@ -72,6 +76,20 @@ steps-right strategy parity basis folded c x accepted =
     ∙ ap some (back-to folded parity basis c x (covered-accepted folded parity c .0 accepted .right-parity))
 
 -- ---- the buffers
+
+-- of a walk that ends with the value all is right: the trial walk follows it, and no reason to refuse it holds
+pub walks-by : (head : Head) (coefficients : List ℤ) (bounds steps : List ℕ) (basis : Basis) (c : List ℤ) (x : ℤ)
+    → exactWalk head coefficients bounds steps x ≡ some (value wholeOps basis x c) → WalksRight head coefficients bounds steps basis c x
+walks-by head coefficients bounds steps basis c x exact = record {
+  exact = exact;
+  trial = trial;
+  remainder = λ modulus low high. rw (trial modulus low high) (remainders-told modulus (omega arith) (value wholeOps basis x c) .is);
+  runs = sym (refused-for-reasons ℤ exactRules head coefficients bounds steps x) ∙ ap missing exact;
+}
+  where
+    trial : (modulus : ℕ) → 2 ≤ modulus → modulus ≤ modulusLimit
+        → trialOf head coefficients bounds steps x modulus ≡ record { refusal = 0; remainder = rem modulus (value wholeOps basis x c) }
+    trial modulus low high = trial-follows head coefficients bounds steps x modulus low high .answers (value wholeOps basis x c) exact
 
 -- a sound tree makes no empty list
 filled-append : (xs ys : List (List ℤ)) → Filled xs → Filled ys → Filled (xs ++ ys)
@@ -153,11 +171,7 @@ module _ (strategy : SplitStrategy) (parity : Parity) (basis : Basis) (folded : 
           ∙ steps-right strategy parity basis folded c x accepted
 
       pub walks-right : (x : ℤ) → WalksRight head coefficients bounds steps basis c x
-      walks-right x = record {
-        exact = exact x;
-        trial = λ modulus low high. trial-follows head coefficients bounds steps x modulus low high .answers (value wholeOps basis x c) (exact x);
-        runs = sym (refused-for-reasons ℤ exactRules head coefficients bounds steps x) ∙ ap missing (exact x);
-      }
+      walks-right x = walks-by head coefficients bounds steps basis c x (exact x)
 
 -- the steps that are read from the buffer
 pub lent-steps : (strategy : SplitStrategy) (parity : Parity) (basis : Basis) (folded : Bool) (c : List ℤ) (a b : Float) (coefficients : List ℤ)

@@ -15,7 +15,7 @@ use Rattle.algebra.specs.Value.{value}
 use Rattle.algebra.specs.declared.Basis.{Basis}
 use Rattle.algebra.specs.declared.Parity.{Parity}
 use Rattle.number.proofs.BothHold.{and-left, and-right}
-use Rattle.walk.specs.Options.{_then_, when, missing}
+use Rattle.walk.specs.Options.{_then_, when}
 use Rattle.walk.specs.Kinds.{kindOf}
 use Rattle.walk.specs.Rules.{exactRules}
 use Rattle.walk.specs.State.{Lists, Powers, State, withWaiting}
@@ -25,14 +25,12 @@ use Rattle.walk.specs.Lent.{lentSteps, lentLists, boundsRise, lentWalk, exactWa
 use Rattle.walk.specs.declared.plan.Head.{Head}
 use Rattle.walk.specs.declared.plan.Step.{Step}
 use Rattle.walk.proofs.Options.{then-alike, when-some}
-use Rattle.walk.proofs.TrialFollows.{trial-follows}
-use Rattle.walk.proofs.Unrunnable.{refused-for-reasons}
 use Rattle.plan.specs.PlanHead.{headOf}
 use Rattle.plan.specs.PlanCall.{headFor, numbersFor}
 use Rattle.plan.specs.PlanSizes.{sizesOf}
 use Rattle.demands.specs.Right.{Stored}
 use Rattle.demands.specs.StoredEarlier.{anyCombine, EarlierRight}
-use Rattle.demands.proofs.Right.{lent-steps, stored-right}
+use Rattle.demands.proofs.Right.{walks-by, lent-steps, stored-right}
 
 -- ---- a step by kind 3 or 4
 
@@ -133,8 +131,4 @@ earlier-right strategy parity basis folded c head coefficients bounds steps x ac
     walked-alike head today coefficients bounds steps numbers (stored .basis-is) (stored .parity-is) (stored .transform-is)
     (stored .coefficient-count) (stored .list-count) (stored .step-places) steps-alike
     x (value wholeOps basis x c) (stored-right strategy parity basis folded c a b coefficients bounds numbers x accepted held .exact) in
-    record {
-      exact = exact;
-      trial = λ modulus low high. trial-follows head coefficients bounds steps x modulus low high .answers (value wholeOps basis x c) exact;
-      runs = sym (refused-for-reasons ℤ exactRules head coefficients bounds steps x) ∙ ap missing exact;
-    }
+    walks-by head coefficients bounds steps basis c x exact

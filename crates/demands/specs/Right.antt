@@ -10,6 +10,7 @@ use lib.ListN.{drop}
 use Rattle.algebra.specs.Operations.{wholeOps}
 use Rattle.algebra.specs.Value.{value}
 use Rattle.algebra.specs.Remainder.{rem}
+use Rattle.algebra.specs.IsRemainder.{IsRemainder}
 use Rattle.algebra.specs.Transform.{inputOf, outputOf}
 use Rattle.algebra.specs.declared.Basis.{Basis}
 use Rattle.algebra.specs.declared.Parity.{Parity}
@@ -57,6 +58,9 @@ pub record WalksRight (head : Head) (coefficients : List ℤ) (bounds steps : Li
   -- every i64 as the point, and every modulus from 2 to 2,147,483,647.
   pub trial : (modulus : ℕ) → 2 ≤ modulus → modulus ≤ modulusLimit
       → trialOf head coefficients bounds steps x modulus ≡ record { refusal = 0; remainder = rem modulus (value wholeOps basis x c) }
+  -- and that is the remainder: below the modulus, and a whole multiple of it away from the value
+  pub remainder : (modulus : ℕ) → 2 ≤ modulus → modulus ≤ modulusLimit
+      → IsRemainder modulus (value wholeOps basis x c) (trialOf head coefficients bounds steps x modulus .remainder)
   -- none of the reasons of refusal 24 holds
   pub runs : unrunnable exactRules head coefficients bounds steps x ≡ false
 
