@@ -12,6 +12,8 @@ pub mod PlainStep
 mod Pairs
 pub mod Estimated
 pub mod StoredEarlier
+pub mod FoldNumber
+pub mod Detected
 pub mod HeadTold
 pub mod Fits
 pub mod Total

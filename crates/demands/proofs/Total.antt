@@ -5,7 +5,7 @@ use mathlib.Core.Bool.{Bool, true, false, _||_, true≢false}
 use mathlib.Core.List.{List, [], _∷_}
 use Prim.Native.Nat.{ℕ, zero, suc, _<_}
 use native.Mathlib.Omega.{arith}
-use borrow.Author.Tests.{ltb-false}
+use borrow.Author.Tests.{ltb-false, eqb-false}
 use lib.Dec.{ltb}
 use lib.Ieee.{Float}
 use lib.IntN.{ℤ}
@@ -15,15 +15,18 @@ use Rattle.algebra.specs.declared.Basis.{Basis}
 use Rattle.algebra.specs.declared.Basis.the-variants.{Monomial}
 use Rattle.algebra.specs.declared.Parity.{Parity}
 use Rattle.algebra.specs.declared.Parity.the-variants.{Full}
+use Rattle.algebra.proofs.IsRemainder.{remainders-told}
 use Rattle.number.specs.Bits.{bitLen, isPowerOfTwo}
 use Rattle.number.specs.FoldCall.{foldTests, foldRefusal, foldAnswer, foldBuffer}
 use Rattle.number.specs.Limits.{planLimit, degreeLimit, scaleLimit}
+use Rattle.number.specs.Numbers.{Numbers, floatNumbers}
 use Rattle.number.specs.Refusal.{Test, firstRefusal, unlessRefused, Numbered}
 use Rattle.number.specs.Split.{partsBy, partsOf, noParts, splitRefusal, splitOf}
-use Rattle.number.specs.Tests.{noDegree, tooHigh, unordered, miscounted, outOfRange, tooWide, noRoom}
+use Rattle.number.specs.Tests.{degreeOf, noDegree, tooHigh, unordered, miscounted, outOfRange, tooWide, noRoom}
 use Rattle.number.specs.declared.fold.Folded.{Folded}
 use Rattle.number.specs.declared.split.Parts.{Parts}
 use Rattle.number.proofs.Refusal.{none-holds, numbered-append, refusals-say, when-refused, when-accepted}
+use Rattle.interpolation.specs.Interpolate.{coefficientsOf}
 use Rattle.interpolation.specs.InterpolateCall.{interpolateRefusal, interpolateAnswer, interpolateBuffer}
 use Rattle.interpolation.specs.declared.Interpolated.{Interpolated}
 use Rattle.counts.specs.Calls.{noSplit, minDepthRefusal, minDepthCall, minMultRefusal, minMultCall, noCounts, countsRefusal, countsCall}
@@ -42,8 +45,13 @@ use Rattle.counts.specs.declared.consumed.ConsumedBits.{ConsumedBits}
 use Rattle.counts.specs.declared.budget.LargestDegree.{LargestDegree}
 use Rattle.counts.specs.declared.depth.EvalDepth.{EvalDepth}
 use Rattle.counts.proofs.BudgetPromises.{largest-degrees}
+use Rattle.counts.proofs.Promises.{chosen}
+use Rattle.lists.specs.Tree.{relists, planTree}
+use Rattle.lists.specs.Arrange.{leavesOf}
+use Rattle.lists.specs.Lists.{listsOf}
 use Rattle.lists.specs.ListCall.{listTests, listRefusal, listAnswer, listCoefficients, listBoundaries}
 use Rattle.lists.specs.declared.call.Listed.{Listed}
+use Rattle.lists.proofs.Lists.{lists-in-order}
 use Rattle.walk.specs.Limits.{modulusLimit}
 use Rattle.walk.specs.Lent.{exactWalk}
 use Rattle.walk.specs.Trial.{trialTests, trialRefusal, trialOf}
@@ -65,6 +73,8 @@ use Rattle.plan.specs.declared.sizes.PlanSizes.{PlanSizes}
 use Rattle.demands.specs.Total.{Ends, answers, refuses, ZeroHead, PlansTotal, PlansMade, PlanOrder, FoldsTotal, ListsTotal}
 use Rattle.demands.specs.Total.{TrialAnswered, TrialsTotal, ChainsTotal, InterpolationsTotal, NumbersTotal}
 use Rattle.plan.proofs.PlanTests.{settings-numbered, early-numbered}
+use Rattle.demands.proofs.Detected.{parities-detected}
+use Rattle.demands.proofs.FoldNumber.{fold-numbered}
 use Rattle.demands.proofs.Refusals.{refusal-of, lateTests, plan-made, made-brings}
 use Rattle.demands.proofs.Right.{plans-right}
 
@@ -149,12 +159,35 @@ folds-total A numbers parity basis c out r left call =
     let k = foldRefusal numbers parity basis c out in
     let refusal : r .refusal ≡ k = ap (λ (f : Folded). f .refusal) (call .answer) ∙ refusal-of k _ _ (λ (f : Folded). f .refusal) refl refl in
     ends (foldTests numbers parity basis c out) (r .refusal) (omega arith, (omega arith, (omega arith, (omega arith, (omega arith, (omega arith, tt))))))
-    refusal (λ accepted. call .buffer ∙ sym (when-accepted _ _ (sym refusal ∙ accepted)))
+    refusal
+    (λ accepted. let passed = sym refusal ∙ accepted in
+    let is = call .answer ∙ sym (when-accepted _ _ passed) in
+    record {
+      transform-is = rw is;
+      transform-number = rw is (fold-numbered parity basis);
+      parity-is = rw is;
+      parity-number = rw is;
+      count-is = rw is;
+      buffer-is = call .buffer ∙ sym (when-accepted _ _ passed);
+    })
     (λ refused. let some-test : 0 < foldRefusal numbers parity basis c out = rw refusal at refused in
     let is = call .answer ∙ sym (when-refused k _ _ some-test) in
     record { transform = rw is; parity = rw is; count = rw is; buffer = call .buffer ∙ sym (when-refused k _ out some-test) })
 
 -- ---- the list calls
+
+-- the leaves of the tree are the lists, where the tests of the degree are passed
+lists-counted : {A : Type 0} (numbers : Numbers A) (strategy : SplitStrategy) (parity : Parity) (basis : Basis) (c out : List A) (bounds : List ℕ)
+    → listRefusal numbers strategy parity basis c out bounds ≡ 0
+    → leavesOf (planTree strategy parity basis (degreeOf c)) ≡ length (listsOf (numbers .ops) basis (planTree strategy parity basis (degreeOf c)) c)
+unfolding listRefusal
+lists-counted numbers strategy parity basis c out bounds passed =
+    let tests = none-holds (listTests numbers strategy parity basis c out bounds)
+    (omega arith, (omega arith, (omega arith, (omega arith, (omega arith, tt))))) passed in
+    let few = ltb-false planLimit (degreeOf c) (tests .0) in
+    let several = eqb-false (degreeOf c) 0 (tests .1 .0) in
+    lists-in-order (numbers .ops) (relists strategy) basis (degreeOf c) (splitFor strategy parity basis (degreeOf c)) c (omega arith) few
+    (chosen parity basis (degreeOf c) .from-one strategy (omega arith) few) .count
 
 pub lists-total : (A : Type 0) → ListsTotal A
 unfolding listRefusal listAnswer listCoefficients listBoundaries
@@ -164,9 +197,14 @@ lists-total A numbers strategy parity basis c out bounds r out′ bounds′ call
     ends (listTests numbers strategy parity basis c out bounds) (r .refusal)
     (omega arith, (omega arith, (omega arith, (omega arith, (omega arith, tt))))) refusal
     (λ accepted. let passed = sym refusal ∙ accepted in
+    let is = call .answer ∙ sym (when-accepted _ _ passed) in
     record {
-      coefficients = call .coefficients ∙ sym (when-accepted _ _ passed);
-      boundaries = call .boundaries ∙ sym (when-accepted _ _ passed);
+      degree-is = rw is;
+      base-is = rw is;
+      coefficients-are = rw is;
+      lists-are = rw is (lists-counted numbers strategy parity basis c out bounds passed);
+      first-buffer = call .coefficients ∙ sym (when-accepted _ _ passed);
+      second-buffer = call .boundaries ∙ sym (when-accepted _ _ passed);
     })
     (λ refused. let some-test : 0 < listRefusal numbers strategy parity basis c out bounds = rw refusal at refused in
     let is = call .answer ∙ sym (when-refused k _ _ some-test) in
@@ -205,10 +243,12 @@ module _ (head : Head) (coefficients : List ℤ) (bounds steps : List ℕ) (poin
       let follows = trial-follows head coefficients bounds steps point modulus low high in
       let exact = exactWalk head coefficients bounds steps point in
       let there = missing-some exact (sym (missing-image (rem modulus) exact) ∙ (rw (follows .walks) at (tests .1 .0))) in
+      let answer = ap (λ (t : Trial). t .remainder) (follows .answers (there .value) (there .is)) in
       record {
         value = there .value;
         exact = there .is;
-        remainder = ap (λ (t : Trial). t .remainder) (follows .answers (there .value) (there .is));
+        remainder = answer;
+        is-remainder = rw answer (remainders-told modulus (omega arith) (there .value) .is);
       }
 
 pub trials-total : TrialsTotal
@@ -257,7 +297,16 @@ interpolations-total nodes values a b out r left call =
     let k = interpolateRefusal nodes values a b out in
     let refusal : r .refusal ≡ k = ap (λ (f : Interpolated). f .refusal) (call .answer) ∙ refusal-of k _ _ (λ (f : Interpolated). f .refusal) refl refl in
     ends (miscounted (length nodes) (length values) ∷ unordered a b ∷ noRoom (length out) (length nodes) ∷ []) (r .refusal)
-    (omega arith, (omega arith, (omega arith, tt))) refusal (λ accepted. call .buffer ∙ sym (when-accepted _ _ (sym refusal ∙ accepted)))
+    (omega arith, (omega arith, (omega arith, tt))) refusal
+    (λ accepted. let passed = sym refusal ∙ accepted in
+    let is = call .answer ∙ sym (when-accepted _ _ passed) in
+    record {
+      count-is = rw is;
+      parity-is = rw is;
+      parity-number = rw is (parities-detected Float floatNumbers (coefficientsOf nodes values));
+      interval-is = rw is;
+      buffer-is = call .buffer ∙ sym (when-accepted _ _ passed);
+    })
     (λ refused. let some-test : 0 < interpolateRefusal nodes values a b out = rw refusal at refused in
     let is = call .answer ∙ sym (when-refused k _ _ some-test) in
     record { count = rw is; parity = rw is; interval = rw is; buffer = call .buffer ∙ sym (when-refused k _ out some-test) })

@@ -17,6 +17,7 @@ use Rattle.demands.specs.Estimated.{PlansEstimated}
 use Rattle.demands.specs.Total.{PlansTotal, PlansMade, PlanOrder, FoldsTotal, ListsTotal, TrialsTotal, ChainsTotal, InterpolationsTotal}
 use Rattle.demands.specs.Total.{NumbersTotal}
 use Rattle.demands.specs.RefusedWalks.{TrialsRefused, ChainsRefused}
+use Rattle.demands.specs.Detected.{ParitiesDetected}
 use Rattle.demands.specs.Equal.{Published, FloatsEqual, PlansEqual}
 use Rattle.demands.specs.HeadTold.{HeadsTold}
 use Rattle.demands.specs.Fits.{PlansFit}
@@ -39,11 +40,16 @@ pub record Total : Type 1 where
   -- Document 01, of the walk: "It refuses with 24 exactly if ..", and there follow the reasons.
   pub trials-refused : TrialsRefused
   pub chains-refused : ChainsRefused
+  -- Parity detection refuses nothing; its answer is told by its number.
+  pub parities-detected : (A : Type 0) → ParitiesDetected A
 
 -- 2. Equal.
 pub record Equal : Type 1 where
   -- "Compared are answers, list boundaries and the bits of every f64, one NaN counting as any other: within document 01's limits they equal the Rust's."
-  -- The calls are compared with recorded answers, those on whole numbers through the f64 calls, to which they are equal.
+  -- This sentence is tested and not proved, since the Rust is no program of this language. The gate, `.ci/run`, runs the programs `replay_number`,
+  -- `replay_counts`, `replay_lists` and `replay_plans`, which hold the public calls to its recorded answers, bit by bit; `oracle/compare`, outside the
+  -- gate, does it with a million calls more. What is proved here is that the calls on whole numbers, which the Rust does not have, and the plan call
+  -- equal the calls on f64 through which they are compared.
   pub floats-equal : FloatsEqual
   pub plans-equal : PlansEqual
   -- "Split choice, counts, factorisation, folding, Horner and Clenshaw are also proved equal to definitions written from their published rules."

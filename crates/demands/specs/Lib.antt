@@ -1,4 +1,6 @@
 pub mod Demands
+pub mod FoldNumber
+pub mod Detected
 pub mod Total
 pub mod RefusedWalks
 pub mod Equal

@@ -6,21 +6,24 @@ use mathlib.Core.Bool.{Bool, true, false}
 use mathlib.Core.List.{List, [], _∷_, map}
 use mathlib.Core.Logic.{_↔_}
 use mathlib.Core.Option.{some}
-use Prim.Native.Nat.{ℕ, _<_}
+use Prim.Native.Nat.{ℕ, _^_, _<_}
 use lib.IntN.{ℤ}
 use lib.Ieee.{Float}
 use lib.ListN.{length}
 use lib.Seq.{sets}
 use Rattle.algebra.specs.EnumNumbers.{basisNumber, parityNumber, transformNumber}
 use Rattle.algebra.specs.Remainder.{rem}
+use Rattle.algebra.specs.IsRemainder.{IsRemainder}
+use Rattle.algebra.specs.Transform.{transformOf}
 use Rattle.algebra.specs.declared.Basis.{Basis}
-use Rattle.algebra.specs.declared.Basis.the-variants.{Monomial}
+use Rattle.algebra.specs.declared.Basis.the-variants.{Monomial, Chebyshev}
 use Rattle.algebra.specs.declared.Parity.{Parity}
 use Rattle.algebra.specs.declared.Parity.the-variants.{Full}
 use Rattle.number.specs.FoldCall.{folded, foldTests, FoldCall}
-use Rattle.number.specs.Interval.{noInterval}
+use Rattle.number.specs.Interval.{changeOfBasis, noInterval}
 use Rattle.number.specs.Limits.{planLimit, degreeLimit}
-use Rattle.number.specs.Numbers.{Numbers}
+use Rattle.number.specs.Numbers.{Numbers, floatNumbers}
+use Rattle.number.specs.Parity.{parityOf}
 use Rattle.number.specs.Refusal.{Test, NoneHolds, FirstHolds}
 use Rattle.number.specs.Split.{partsOf, noParts, splitOf}
 use Rattle.number.specs.Tests.{degreeOf, noDegree, tooHigh, unordered, miscounted, outOfRange, tooWide, noRoom}
@@ -38,6 +41,7 @@ use Rattle.counts.specs.declared.choice.SplitStrategy.{SplitStrategy}
 use Rattle.counts.specs.declared.choice.SplitStrategy.the-variants.{MinDepth, MinMult}
 use Rattle.lists.specs.Tree.{planTree}
 use Rattle.lists.specs.Arrange.{arranged, endsOf}
+use Rattle.lists.specs.Lists.{listsOf}
 use Rattle.lists.specs.ListCall.{listTests, ListCall}
 use Rattle.lists.specs.declared.call.Listed.{Listed}
 use Rattle.walk.specs.Lent.{exactWalk}
@@ -49,6 +53,8 @@ use Rattle.plan.specs.PlanCall.{plannedParity, settingsTests, planTests, PlanCa
 use Rattle.plan.specs.PlanSizes.{degreeToPlan, sizesOf, noSizes, sizesCall}
 use Rattle.plan.specs.declared.call.Planned.{Planned}
 use Rattle.demands.specs.Accepts.{BringsPlan}
+use Rattle.demands.specs.Detected.{Detected}
+use Rattle.demands.specs.FoldNumber.{foldNumber}
 use Rattle.demands.specs.Right.{PlanRight}
 
 -- how a call ends: none of its tests holds, and it answers; or it refuses with the number of the first test that holds
@@ -108,7 +114,20 @@ pub record PlanOrder (strategy : SplitStrategy) (parity : Parity) (basis : Basis
 
 -- ---- the other calls on polynomials and plans, on whole numbers or f64
 
--- the fold call: the fold in the buffer's first places, or zero in every field and the buffer unchanged
+-- the fold call: the fold's transform, parity and number of coefficients, and the fold in the buffer
+pub record FoldAnswered {A : Type 0} (numbers : Numbers A) (parity : Parity) (basis : Basis) (c out : List A) (r : Folded) (left : List A) : Type 0 where
+  -- the transform of the parity and basis, by its number: 1 and 2 in the Monomial basis, 3 and 4 in the Chebyshev basis, Even before Odd
+  pub transform-is : r .transform ≡ transformOf parity basis
+  pub transform-number : transformNumber (r .transform) ≡ foldNumber parity basis
+  -- the result has parity Full, which is number 0
+  pub parity-is : r .parity ≡ Full
+  pub parity-number : parityNumber (r .parity) ≡ 0
+  -- how many coefficients the fold has
+  pub count-is : r .count ≡ length (folded numbers parity basis c out)
+  -- the fold stands in the buffer's first places, and the places beyond are unchanged
+  pub buffer-is : left ≡ sets out 0 (folded numbers parity basis c out)
+
+-- or zero in every field, and the buffer unchanged
 pub record FoldRefused {A : Type 0} (r : Folded) (out left : List A) : Type 0 where
   pub transform : transformNumber (r .transform) ≡ 0
   pub parity : parityNumber (r .parity) ≡ 0
@@ -118,14 +137,23 @@ pub record FoldRefused {A : Type 0} (r : Folded) (out left : List A) : Type 0 wh
 abbrev pub FoldsTotal : Type 0 → Type 0
 FoldsTotal A = (numbers : Numbers A) (parity : Parity) (basis : Basis) (c out : List A) (r : Folded) (left : List A)
     → FoldCall numbers parity basis c out r left
-    → Ends (foldTests numbers parity basis c out) (r .refusal) (left ≡ sets out 0 (folded numbers parity basis c out)) (FoldRefused r out left)
+    → Ends (foldTests numbers parity basis c out) (r .refusal) (FoldAnswered numbers parity basis c out r left) (FoldRefused r out left)
 
--- the list calls: the lists in one buffer and their boundaries in the other, or zero in every field and both unchanged
-pub record ListAnswered {A : Type 0} (numbers : Numbers A) (strategy : SplitStrategy) (parity : Parity) (basis : Basis) (c out out′ : List A)
-    (bounds bounds′ : List ℕ) : Type 0 where
-  pub coefficients : out′ ≡ sets out 0 (arranged (numbers .ops) basis (planTree strategy parity basis (degreeOf c)) c)
-  pub boundaries : bounds′ ≡ sets bounds 0 (endsOf (planTree strategy parity basis (degreeOf c)) 0 (length c))
+-- the list calls: degree, base and the numbers of coefficients and lists, the lists in one buffer and their boundaries in the other
+pub record ListAnswered {A : Type 0} (numbers : Numbers A) (strategy : SplitStrategy) (parity : Parity) (basis : Basis) (c out : List A)
+    (bounds : List ℕ) (r : Listed) (out′ : List A) (bounds′ : List ℕ) : Type 0 where
+  -- the degree of the polynomial, and the base of the split that the strategy chooses for it
+  pub degree-is : r .degree ≡ degreeOf c
+  pub base-is : r .base ≡ 2 ^ splitFor strategy parity basis (degreeOf c)
+  -- how many coefficients and lists there are
+  pub coefficients-are : r .coefficients ≡ length c
+  pub lists-are : r .lists ≡ length (listsOf (numbers .ops) basis (planTree strategy parity basis (degreeOf c)) c)
+  -- the lists stand one after another in the first places of their buffer, and the places beyond are unchanged
+  pub first-buffer : out′ ≡ sets out 0 (arranged (numbers .ops) basis (planTree strategy parity basis (degreeOf c)) c)
+  -- and so does the place just past each list in the other
+  pub second-buffer : bounds′ ≡ sets bounds 0 (endsOf (planTree strategy parity basis (degreeOf c)) 0 (length c))
 
+-- or zero in every field, and both buffers unchanged
 pub record ListRefused {A : Type 0} (r : Listed) (out out′ : List A) (bounds bounds′ : List ℕ) : Type 0 where
   pub degree : r .degree ≡ 0
   pub base : r .base ≡ 0
@@ -138,13 +166,15 @@ abbrev pub ListsTotal : Type 0 → Type 0
 ListsTotal A = (numbers : Numbers A) (strategy : SplitStrategy) (parity : Parity) (basis : Basis) (c out : List A) (bounds : List ℕ) (r : Listed)
     (out′ : List A) (bounds′ : List ℕ) → ListCall numbers strategy parity basis c out bounds r out′ bounds′
     → Ends (listTests numbers strategy parity basis c out bounds) (r .refusal)
-    (ListAnswered numbers strategy parity basis c out out′ bounds bounds′) (ListRefused r out out′ bounds bounds′)
+    (ListAnswered numbers strategy parity basis c out bounds r out′ bounds′) (ListRefused r out out′ bounds bounds′)
 
 -- the trial walk, of any head and buffers at any point and modulus: the remainder of an exact value, or zero. It writes in no buffer.
 pub record TrialAnswered (head : Head) (coefficients : List ℤ) (bounds steps : List ℕ) (point : ℤ) (modulus : ℕ) : Type 0 where
   pub value : ℤ
   pub exact : exactWalk head coefficients bounds steps point ≡ some value
   pub remainder : trialOf head coefficients bounds steps point modulus .remainder ≡ rem modulus value
+  -- which is below the modulus, and a whole multiple of it away from the value
+  pub is-remainder : IsRemainder modulus value (trialOf head coefficients bounds steps point modulus .remainder)
 
 abbrev pub TrialsTotal : Type 0
 TrialsTotal = (head : Head) (coefficients : List ℤ) (bounds steps : List ℕ) (point : ℤ) (modulus : ℕ)
@@ -159,7 +189,19 @@ ChainsTotal = (head : Head) (coefficients : List ℤ) (bounds steps : List ℕ) 
     (GreatestOfAnswer head coefficients bounds steps input coeff (chainOf head coefficients bounds steps input coeff .weight))
     (chainOf head coefficients bounds steps input coeff .weight ≡ 0)
 
--- interpolation, on any nodes, values and interval
+-- interpolation, on any nodes, values and interval: the number of coefficients, their parity and interval, and the coefficients in the buffer
+pub record InterpolateAnswered (nodes values : List Float) (a b : Float) (out : List Float) (r : Interpolated) (left : List Float) : Type 0 where
+  -- a coefficient for each node
+  pub count-is : r .count ≡ length nodes
+  -- the parity that the coefficients have, and its number
+  pub parity-is : r .parity ≡ parityOf floatNumbers (coefficientsOf nodes values)
+  pub parity-number : Detected floatNumbers (coefficientsOf nodes values) (r .parity)
+  -- the interval from a to b with its change pair in the Chebyshev basis
+  pub interval-is : r .interval ≡ changeOfBasis Chebyshev a b
+  -- the coefficients stand in the buffer's first places, and the places beyond are unchanged
+  pub buffer-is : left ≡ sets out 0 (coefficientsOf nodes values)
+
+-- or zero in every field, and the buffer unchanged
 pub record InterpolateRefused (r : Interpolated) (out left : List Float) : Type 0 where
   pub count : r .count ≡ 0
   pub parity : parityNumber (r .parity) ≡ 0
@@ -170,7 +212,7 @@ abbrev pub InterpolationsTotal : Type 0
 InterpolationsTotal = (nodes values : List Float) (a b : Float) (out : List Float) (r : Interpolated) (left : List Float)
     → InterpolateCall nodes values a b out r left
     → Ends (miscounted (length nodes) (length values) ∷ unordered a b ∷ noRoom (length out) (length nodes) ∷ []) (r .refusal)
-    (left ≡ sets out 0 (coefficientsOf nodes values)) (InterpolateRefused r out left)
+    (InterpolateAnswered nodes values a b out r left) (InterpolateRefused r out left)
 
 -- ---- the calls on a bare index, degree or budget
 
