@@ -150,7 +150,7 @@ pub record ListAnswered {A : Type 0} (numbers : Numbers A) (strategy : SplitStra
   pub lists-are : r .lists ≡ length (listsOf (numbers .ops) basis (planTree strategy parity basis (degreeOf c)) c)
   -- the lists stand one after another in the first places of their buffer, and the places beyond are unchanged
   pub first-buffer : out′ ≡ sets out 0 (arranged (numbers .ops) basis (planTree strategy parity basis (degreeOf c)) c)
-  -- and so does the place just past each list in the other
+  -- and in the first places of the other buffer the place just past each list, the places beyond being unchanged
   pub second-buffer : bounds′ ≡ sets bounds 0 (endsOf (planTree strategy parity basis (degreeOf c)) 0 (length c))
 
 -- or zero in every field, and both buffers unchanged
@@ -170,10 +170,11 @@ ListsTotal A = (numbers : Numbers A) (strategy : SplitStrategy) (parity : Parity
 
 -- the trial walk, of any head and buffers at any point and modulus: the remainder of an exact value, or zero. It writes in no buffer.
 pub record TrialAnswered (head : Head) (coefficients : List ℤ) (bounds steps : List ℕ) (point : ℤ) (modulus : ℕ) : Type 0 where
+  -- the value that the exact walk ends with
   pub value : ℤ
   pub exact : exactWalk head coefficients bounds steps point ≡ some value
+  -- its remainder is answered: a number below the modulus, and a whole multiple of it away from the value
   pub remainder : trialOf head coefficients bounds steps point modulus .remainder ≡ rem modulus value
-  -- which is below the modulus, and a whole multiple of it away from the value
   pub is-remainder : IsRemainder modulus value (trialOf head coefficients bounds steps point modulus .remainder)
 
 abbrev pub TrialsTotal : Type 0
