@@ -1,11 +1,13 @@
-//! Links the proved static library `libexports.a`: from the folder in `FIRROZUN_LIB`, or else from `target/staticlib` of the
-//! repository, where `rt staticlib exports` proves and writes it if it is missing.
+//! Links the proved static library `libexports.a`: that of the folder in `FIRROZUN_LIB`, as it is; or else that in
+//! `target/staticlib` of the repository, which `tools/build library` brings up to date first. If it cannot, nothing is linked.
 
 use std::path::{Path, PathBuf};
-use std::process::{exit, Command};
+use std::process::{exit, Command, Stdio};
 use std::{env, io};
 
 const ARCHIVE: &str = "libexports.a";
+/// The script that tells whether the library is up to date, and builds it if it is not. Only building wants `rt`.
+const BUILD: &str = "tools/build";
 
 fn main() {
     println!("cargo:rerun-if-env-changed=FIRROZUN_LIB");
@@ -34,7 +36,7 @@ fn lent(folder: &Path) -> PathBuf {
     }
 }
 
-/// The repository's own folder. What is missing there is built.
+/// The repository's own folder, with the library up to date. Cargo runs this again when a source of the library has changed.
 fn own() -> PathBuf {
     let here = PathBuf::from(env::var_os("CARGO_MANIFEST_DIR").unwrap_or_default());
     let root = match here.join("../..").canonicalize() {
@@ -43,34 +45,31 @@ fn own() -> PathBuf {
             "this crate does not stand in Firrozun's repository; set FIRROZUN_LIB to the folder of {ARCHIVE}"
         )),
     };
-    let folder = root.join("target").join("staticlib");
-    if !folder.join(ARCHIVE).is_file() {
-        build(&root);
+    for source in ["crates.txt", "crates", BUILD] {
+        println!("cargo:rerun-if-changed={}", root.join(source).display());
     }
-    if !folder.join(ARCHIVE).is_file() {
-        refuse(&format!(
-            "`rt staticlib exports` wrote no {}",
-            folder.join(ARCHIVE).display()
-        ));
-    }
-    folder
+    bring_up_to_date(&root);
+    root.join("target").join("staticlib")
 }
 
-fn build(root: &Path) {
-    match Command::new("rt")
-        .args(["staticlib", "exports"])
-        .current_dir(root)
-        .status()
-    {
+fn bring_up_to_date(root: &Path) {
+    let elsewhere = format!("to link a {ARCHIVE} as it is, set FIRROZUN_LIB to its folder");
+    // What a build script writes to standard output is for cargo.
+    let status = Command::new(root.join(BUILD))
+        .arg("library")
+        .stdin(Stdio::null())
+        .stdout(io::stderr())
+        .status();
+    match status {
         Ok(status) if status.success() => {}
         Ok(status) => refuse(&format!(
-            "`rt staticlib exports` in {} failed ({status}); what it printed stands above",
+            "`{BUILD} library` in {} failed ({status}), and said why above; {elsewhere}",
             root.display()
         )),
-        Err(error) if error.kind() == io::ErrorKind::NotFound => refuse(&format!(
-            "there is no {ARCHIVE}, and no `rt` to build it: install the Rattle kit, or set FIRROZUN_LIB to the folder of a built {ARCHIVE}"
+        Err(error) => refuse(&format!(
+            "`{BUILD} library` in {} could not be started, and wants bash: {error}; {elsewhere}",
+            root.display()
         )),
-        Err(error) => refuse(&format!("`rt staticlib exports` could not be started: {error}")),
     }
 }
 
