@@ -1,13 +1,16 @@
 //! Standard input answered line by line, as `planlines` does it. The memory does not grow with the input.
 
-use std::io::{BufRead, BufReader, Read, Result, Write};
+use std::io::{self, BufRead, BufReader, Read, Write};
 
 use crate::texts::{Answerer, MAX_LINE};
 
 const BLOCK: usize = 1 << 16;
 
 /// Calls `each` with every line, without its line feed; of a line that is too long with the first bytes alone.
-pub fn each_line(input: impl Read, mut each: impl FnMut(&[u8]) -> Result<()>) -> Result<()> {
+pub fn each_line<E: From<io::Error>>(
+    input: impl Read,
+    mut each: impl FnMut(&[u8]) -> Result<(), E>,
+) -> Result<(), E> {
     let mut input = BufReader::with_capacity(BLOCK, input);
     // The beginning of a line that goes on in the next block.
     let mut begun = vec![];
@@ -44,10 +47,10 @@ fn keep(begun: &mut Vec<u8>, bytes: &[u8]) {
     begun.extend_from_slice(&bytes[..bytes.len().min(room)]);
 }
 
-pub fn answer_all(input: impl Read, mut output: impl Write) -> Result<()> {
+pub fn answer_all(input: impl Read, mut output: impl Write) -> io::Result<()> {
     let mut answerer = Answerer::default();
     let mut out = Vec::with_capacity(2 * BLOCK);
-    each_line(input, |line| {
+    each_line(input, |line| -> io::Result<()> {
         answerer.answer(line, &mut out);
         if out.len() >= BLOCK {
             output.write_all(&out)?;

@@ -1,6 +1,7 @@
 //! Records what the published planner answers, one call a line, and answers lines as `planlines` does; README.md has
 //! the formats. With the feature `both` it also compares the published planner with the proved library, and times both.
 
+mod answers;
 #[cfg(feature = "both")]
 mod bench;
 #[cfg(feature = "both")]
@@ -64,7 +65,7 @@ fn main() {
         }
         ["since", before, after] => since(before, after, false),
         ["since", "--moved", before, after] => since(before, after, true),
-        ["walks"] => walked::check(stdin().lock()).expect("lines"),
+        ["walks", lines, answers] => walks(lines, answers),
         _ => usage(),
     }
 }
@@ -74,6 +75,14 @@ fn since(before: &str, after: &str, moves: bool) {
     since::compare(open(before), open(after), moves, stdout().lock()).expect("answers")
 }
 
+fn walks(lines: &str, answers: &str) {
+    let open = |name| File::open(name).expect("lines and answers");
+    if let Err(error) = walked::check(open(lines), open(answers)) {
+        eprintln!("oracle walks: {error:#}");
+        std::process::exit(1)
+    }
+}
+
 fn folder(dir: &str) -> PathBuf {
     create_dir_all(dir).expect("a folder to write recordings to");
     PathBuf::from(dir)
@@ -81,9 +90,9 @@ fn folder(dir: &str) -> PathBuf {
 
 fn usage() -> ! {
     eprintln!("usage: oracle gate DIR | oracle large DIR COUNT SEED");
-    eprintln!("       oracle lines < LINES | oracle curves COUNT SEED | oracle walks < LINES");
+    eprintln!("       oracle lines < LINES | oracle curves COUNT SEED");
     eprintln!("       oracle degrees SEED | oracle since [--moved] BEFORE AFTER");
-    eprintln!("       oracle chains");
+    eprintln!("       oracle chains | oracle walks LINES ANSWERS");
     eprintln!("       oracle both COUNT SEED | oracle heaviest COUNT SEED (with the feature both)");
     eprintln!("       oracle budgets COUNT SEED (with the feature both)");
     eprintln!("       oracle bench ROUNDS SEED (with the feature both)");

@@ -2,9 +2,9 @@
 //! they differ in one way alone: in each plan whose last list is one after another list, and whose degree is no power of two, the combine
 //! right behind the load of that list is `Q` for `G`, and one multiplication of the head moves from ct-ct to pt-ct.
 
-use std::io::{BufRead, BufReader, Read, Result, Write};
-use std::iter::Peekable;
+use std::io::{Read, Result, Write};
 
+use crate::answers::Answers;
 use crate::inputs::{MAX_DEGREE, Rng};
 use crate::printed::{plan, settings};
 
@@ -77,26 +77,4 @@ fn with_move(old: &[String]) -> Option<Vec<String>> {
     let head: Vec<String> = head.iter().map(usize::to_string).collect();
     new[0] = format!("H\t{}", head.join("\t"));
     Some(new)
-}
-
-/// Answers one after another: each begins with an `H` or `R` line.
-struct Answers<R: Read>(Peekable<std::io::Lines<BufReader<R>>>);
-
-impl<R: Read> Answers<R> {
-    fn new(input: R) -> Self {
-        Answers(BufReader::with_capacity(1 << 16, input).lines().peekable())
-    }
-
-    /// The lines of the next answer, none at the end.
-    fn next(&mut self) -> Result<Vec<String>> {
-        let mut answer = vec![];
-        let more = |l: &Result<String>| !l.as_ref().is_ok_and(|l| l.starts_with(['H', 'R']));
-        if let Some(first) = self.0.next() {
-            answer.push(first?);
-        }
-        while let Some(line) = self.0.next_if(more) {
-            answer.push(line?);
-        }
-        Ok(answer)
-    }
 }

@@ -1,42 +1,72 @@
-//! A check of the answers that goes by their text alone. A plan is read back and walked, and its value held against
-//! the polynomial's; its counts are held against its steps; a refusal is worked out a second time.
+//! A check of the answers of `planlines` by their text alone. A plan is read back and walked, and its value held against the
+//! polynomial's; its counts are held against its steps, and what the published Rust chooses against the Rust's choice; a refusal is
+//! worked out from docs/RULES.md. No answer that this program itself gives to a line has a part in it.
 
 use std::collections::BTreeMap;
-use std::io::{Read, Result};
+use std::io::Read;
+use std::str::{FromStr, from_utf8};
 
+use anyhow::{Context, Result, bail, ensure};
+
+use crate::answers::Answers;
 use crate::calls::{Basis, Parity, SplitStrategy, value_mod};
 use crate::inputs::Rng;
-use crate::layouts::polynomial_evaluation::bsgs_op_counts;
+use crate::layouts::polynomial_evaluation::{bsgs_eval_depth, bsgs_op_counts, split_for_strategy};
 use crate::lines::each_line;
 use crate::split::parts;
-use crate::texts::{Answerer, answer};
+
+#[cfg(test)]
+mod tests;
 
 /// A prime: the powers of a point are spread over the remainders.
 const PRIME: u64 = (1 << 61) - 1;
 
-/// Checks the answers to all lines, and says how many plans each setting had, and how many refusals each number.
-pub fn check(input: impl Read) -> Result<()> {
+/// Checks the answers to all lines, and says how many plans each setting had, and how many refusals each number. The error names the
+/// first line whose answer is wrong.
+pub fn check(lines: impl Read, answers: impl Read) -> Result<()> {
+    let mut answers = Answers::new(answers);
     let mut seen: BTreeMap<String, u64> = BTreeMap::new();
-    let mut answerer = Answerer::default();
-    let (mut g, mut out) = (Rng::new(5), vec![]);
-    each_line(input, |line| {
-        out.clear();
-        answerer.answer(line, &mut out);
-        assert_eq!(out, answer(line), "kept buffers change no answer");
-        let text = std::str::from_utf8(&out).expect("an answer is ASCII");
-        let key = match refusal(line) {
-            0 => plan(&mut g, line, text),
-            number => {
-                let name = format!("R\t{number}");
-                assert_eq!(text, format!("{name}\n"), "{}", line.escape_ascii());
-                name
-            }
-        };
+    let (mut g, mut all) = (Rng::new(5), 0);
+    each_line(lines, |line| -> Result<()> {
+        all += 1;
+        let answer = answers.next()?;
+        let key =
+            held(&mut g, line, &answer).with_context(|| format!("line {all}, {}", shown(line)))?;
         *seen.entry(key.replace('\t', " ")).or_default() += 1;
         Ok(())
     })?;
+    ensure!(
+        answers.next()?.is_empty(),
+        "{all} lines, and more answers than lines"
+    );
     seen.iter().for_each(|(key, n)| println!("{key}: {n}"));
+    println!("{all} answers, each right");
     Ok(())
+}
+
+/// The first bytes of a line, for a message.
+fn shown(line: &[u8]) -> String {
+    let short = &line[..line.len().min(200)];
+    let rest = if short.len() < line.len() { "…" } else { "" };
+    format!("'{}'{rest}", short.escape_ascii())
+}
+
+/// Holds an answer against its line. Returns the line's settings, or the refusal.
+fn held(g: &mut Rng, line: &[u8], answer: &[String]) -> Result<String> {
+    ensure!(!answer.is_empty(), "no answer");
+    match refusal(line) {
+        0 => plan(g, from_utf8(line)?, answer),
+        number => {
+            let name = format!("R\t{number}");
+            ensure!(
+                answer == [&name[..]],
+                "the answer is {}, not {}",
+                shown(answer.join("\n").as_bytes()),
+                shown(name.as_bytes())
+            );
+            Ok(name)
+        }
+    }
 }
 
 /// The refusal of a line, by the words of docs/RULES.md one after another; 0 for none.
@@ -81,37 +111,20 @@ fn is_number(field: &str) -> bool {
 struct Plan {
     basis: Basis,
     parity: Parity,
-    head: Vec<usize>,
+    strategy: SplitStrategy,
+    head: [usize; 6],
     lists: Vec<Vec<i64>>,
     steps: Vec<(char, Vec<usize>)>,
 }
 
-/// Holds the text of a plan against its line, and answers its settings.
-fn plan(g: &mut Rng, line: &[u8], text: &str) -> String {
-    let line = std::str::from_utf8(line).unwrap();
+/// Holds a plan against its line, which is accepted. Returns the line's settings.
+fn plan(g: &mut Rng, line: &str, answer: &[String]) -> Result<String> {
     let fields: Vec<&str> = line.split('\t').collect();
     let c: Vec<f64> = fields[4..]
         .iter()
-        .map(|f| f.parse::<i64>().unwrap() as f64)
-        .collect();
-    let basis = if fields[0] == "M" {
-        Basis::Monomial
-    } else {
-        Basis::Chebyshev
-    };
-    let parity = match (fields[1], fields[3]) {
-        ("E", "N") => Parity::Even,
-        ("O", "N") => Parity::Odd,
-        _ => Parity::Full,
-    };
-    let plan = read(basis, parity, text);
-    for x in [2, g.next() as i64] {
-        assert_eq!(
-            plan.walk(x),
-            value_mod(basis, &c, x, PRIME),
-            "{line} at {x}"
-        );
-    }
+        .map(|f| f.parse::<i64>().map(|c| c as f64))
+        .collect::<Result<_, _>>()?;
+    let plan = read(&fields, answer)?;
     let half = [c.len(), c.len().div_ceil(2), c.len() / 2];
     let (transform, cost, numbers) = match (fields[0], fields[1], fields[3]) {
         (_, _, "N") => (0, 0, half[0]),
@@ -120,48 +133,83 @@ fn plan(g: &mut Rng, line: &[u8], text: &str) -> String {
         (_, "E", _) => (3, 1, half[1]),
         _ => (4, 2, half[2]),
     };
-    assert_eq!(plan.head[2], transform, "transform");
-    plan.shape(numbers);
-    plan.plain();
-    plan.counts(fields[2] == "M", cost);
-    plan.depth(fields[2] == "M", cost);
-    fields[..4].join("\t")
-}
-
-fn read(basis: Basis, parity: Parity, text: &str) -> Plan {
-    let mut lines = text
-        .strip_suffix('\n')
-        .expect("a line feed at the end")
-        .split('\n')
-        .peekable();
-    let (letter, head) = fields(lines.next().unwrap());
-    assert!(letter == 'H' && head.len() == 6, "a head");
-    let mut lists = vec![];
-    while let Some(list) = lines.next_if(|l| l.starts_with('L')) {
-        lists.push(
-            list.split('\t')
-                .skip(1)
-                .map(|f| f.parse().unwrap())
-                .collect(),
+    same("the transform", plan.head[2], transform)?;
+    for x in [2, g.next() as i64] {
+        let (walked, value) = (plan.walk(x)?, value_mod(plan.basis, &c, x, PRIME));
+        ensure!(
+            walked == value,
+            "at {x} the walk ends with {walked}, and the value is {value}, modulo {PRIME}"
         );
     }
-    let steps = lines.map(fields).collect();
-    Plan {
-        basis,
-        parity,
-        head,
-        lists,
-        steps,
-    }
+    plan.shape(numbers)?;
+    plan.order()?;
+    plan.fits(g)?;
+    plan.plain()?;
+    plan.counts(cost)?;
+    let depth = bsgs_eval_depth(plan.head[0], plan.strategy);
+    same("the depth", plan.head[5], depth + cost)?;
+    Ok(fields[..4].join("\t"))
 }
 
-fn fields(line: &str) -> (char, Vec<usize>) {
+/// An error that names what is not as it must be.
+fn same<T: PartialEq + std::fmt::Debug>(what: &str, found: T, right: T) -> Result<()> {
+    ensure!(found == right, "{what}: {found:?}, not {right:?}");
+    Ok(())
+}
+
+/// Reads a plan by the fields of its line and the lines of its answer.
+fn read(settings: &[&str], answer: &[String]) -> Result<Plan> {
+    let (first, rest) = answer.split_first().context("no answer")?;
+    let (letter, head) = fields(first)?;
+    ensure!(
+        letter == 'H' && head.len() == 6,
+        "'{first}' is no head of a plan"
+    );
+    let lists = rest.iter().take_while(|l| l.starts_with('L')).count();
+    let (lists, steps) = rest.split_at(lists);
+    Ok(Plan {
+        basis: if settings[0] == "M" {
+            Basis::Monomial
+        } else {
+            Basis::Chebyshev
+        },
+        parity: match (settings[1], settings[3]) {
+            ("E", "N") => Parity::Even,
+            ("O", "N") => Parity::Odd,
+            _ => Parity::Full,
+        },
+        strategy: if settings[2] == "M" {
+            SplitStrategy::MinMult
+        } else {
+            SplitStrategy::MinDepth
+        },
+        head: std::array::from_fn(|i| head[i]),
+        lists: lists
+            .iter()
+            .map(|l| Ok(fields(l)?.1))
+            .collect::<Result<_>>()?,
+        steps: steps.iter().map(|l| fields(l)).collect::<Result<_>>()?,
+    })
+}
+
+/// The letter of a line and the numbers behind it.
+fn fields<T: FromStr>(line: &str) -> Result<(char, Vec<T>)> {
     let mut fields = line.split('\t');
-    let letter = fields.next().unwrap().parse().expect("one letter");
-    (
-        letter,
-        fields.map(|f| f.parse().expect("a number")).collect(),
-    )
+    let letter = fields.next().and_then(|f| f.parse().ok());
+    let letter = letter.with_context(|| format!("'{line}' has no letter ahead of a tab"))?;
+    Ok((letter, fields.map(number).collect::<Result<_>>()?))
+}
+
+/// A number as it is printed: no plus sign, no zero ahead of another digit, no minus ahead of 0.
+fn number<T: FromStr>(field: &str) -> Result<T> {
+    let digits = field.strip_prefix('-').unwrap_or(field);
+    let plain = field == "0" || digits.starts_with(|d| matches!(d, '1'..='9'));
+    let number = if plain { field.parse().ok() } else { None };
+    number.with_context(|| format!("'{field}' is no number of this line"))
+}
+
+fn remainder(x: i64) -> u64 {
+    (x as i128).rem_euclid(PRIME as i128) as u64
 }
 
 fn times(a: u64, b: u64) -> u64 {
@@ -176,6 +224,14 @@ fn minus(a: u64, b: u64) -> u64 {
     (a + PRIME - b) % PRIME
 }
 
+/// The powers that are there, by their indices.
+type Powers = BTreeMap<usize, u64>;
+
+fn power(powers: &Powers, n: usize) -> Result<u64> {
+    let power = powers.get(&n).copied();
+    power.with_context(|| format!("power {n} is used, and no step before made it"))
+}
+
 impl Plan {
     fn allowed(&self, j: usize) -> bool {
         match self.parity {
@@ -185,74 +241,106 @@ impl Plan {
         }
     }
 
-    /// The value at `x` modulo the prime. A power that is used but not made is a panic.
-    fn walk(&self, x: i64) -> u64 {
-        let x = (x as i128).rem_euclid(PRIME as i128) as u64;
+    /// The value at `x` modulo the prime.
+    fn walk(&self, x: i64) -> Result<u64> {
+        let x = remainder(x);
         let square = times(x, x);
         let y = match self.head[2] {
             0 => x,
             1 | 2 => square,
             _ => minus(times(2, square), 1),
         };
+        let value = self.run(self.basis, &self.lists, y)?;
+        let times_input = matches!(self.head[2], 2 | 4);
+        Ok(if times_input { times(value, x) } else { value })
+    }
+
+    /// The steps fit every curve with these settings, and not this one alone, whose zeros may hide a wrong step: with any numbers in the
+    /// lists, and powers of x, they end with the sum of all numbers, the first times power 0, the second times power 1, and so on. Power
+    /// 0 is always there, so that the first number of a list is never 0.
+    fn fits(&self, g: &mut Rng) -> Result<()> {
+        let mut any = |j| match j == 0 || self.allowed(j) {
+            true => 1 + g.below(1 << 30) as i64,
+            false => 0,
+        };
+        let lists = self
+            .lists
+            .iter()
+            .map(|l| (0..l.len()).map(&mut any).collect());
+        let lists: Vec<Vec<i64>> = lists.collect();
+        let c: Vec<f64> = lists.concat().into_iter().map(|c| c as f64).collect();
+        let x = g.next() as i64;
+        let walked = self.run(Basis::Monomial, &lists, remainder(x))?;
+        let value = value_mod(Basis::Monomial, &c, x, PRIME);
+        ensure!(
+            walked == value,
+            "the steps do not fit curves with other numbers in the lists"
+        );
+        Ok(())
+    }
+
+    /// Runs the steps with these lists and this power 1.
+    fn run(&self, basis: Basis, lists: &[Vec<i64>], y: u64) -> Result<u64> {
         let mut powers = BTreeMap::from([(0, 1), (1, y)]);
         let mut waiting = vec![];
-        for (letter, n) in &self.steps {
-            match (letter, &n[..]) {
-                ('P', &[n, a, b]) => {
-                    let (first, second, distance) = parts(n);
-                    assert_eq!((a, b), (first, second), "the parts of a power");
-                    let product = times(powers[&a], powers[&b]);
-                    let power = match self.basis {
-                        Basis::Monomial => product,
-                        Basis::Chebyshev => minus(times(2, product), powers[&distance]),
-                    };
-                    assert!(powers.insert(n, power).is_none(), "a power is made once");
+        for (letter, numbers) in &self.steps {
+            match (letter, &numbers[..]) {
+                ('P', &[n, a, b]) => make(basis, &mut powers, n, (a, b))?,
+                ('B', &[i]) => {
+                    let list = lists.get(i).with_context(|| format!("no list {i}"))?;
+                    waiting.push(value(list, &powers)?);
                 }
-                ('B', &[i]) => waiting.push(self.value(i, &powers)),
-                ('G' | 'Q', &[p]) => {
-                    let (high, low) = (waiting.pop().unwrap(), waiting.pop().unwrap());
-                    waiting.push(plus(times(high, powers[&p]), low));
-                    assert!(waiting.len() < 16, "16 values wait at most");
-                }
-                _ => panic!("no step: {letter} {n:?}"),
+                ('G' | 'Q', &[p]) => combine(&mut waiting, power(&powers, p)?)?,
+                _ => bail!("no step: {letter} {numbers:?}"),
             }
+            ensure!(waiting.len() <= 16, "more than 16 values wait");
         }
-        assert_eq!(waiting.len(), 1, "one value is left");
-        let times_input = matches!(self.head[2], 2 | 4);
-        if times_input {
-            times(waiting[0], x)
-        } else {
-            waiting[0]
-        }
+        same("values at the end", waiting.len(), 1)?;
+        Ok(waiting[0])
     }
 
-    fn value(&self, i: usize, powers: &BTreeMap<usize, u64>) -> u64 {
-        let list = self.lists[i].iter().enumerate();
-        let terms = list.filter(|(j, _)| self.allowed(*j)).map(|(j, &c)| {
-            let c = (c as i128).rem_euclid(PRIME as i128) as u64;
-            times(c, powers[&j])
-        });
-        terms.fold(0, plus)
-    }
-
-    /// Degree, base, the lengths of the lists and the order of the steps.
-    fn shape(&self, numbers: usize) {
-        let lengths: usize = self.lists.iter().map(|l| l.len()).sum();
-        assert_eq!(lengths, numbers, "coefficients");
-        assert_eq!(self.head[0] + 1, numbers, "degree");
-        assert!(self.head[1].is_power_of_two(), "base");
-        assert!(
-            self.lists.iter().all(|l| l.len() <= self.head[1]),
-            "a list's length"
+    /// Degree, base, the lengths of the lists, and zeros where the parity allows no power.
+    fn shape(&self, numbers: usize) -> Result<()> {
+        let [degree, base, ..] = self.head;
+        same("the degree and one more", degree + 1, numbers)?;
+        same(
+            "the numbers of all lists",
+            self.lists.iter().map(|l| l.len()).sum(),
+            numbers,
+        )?;
+        let split = split_for_strategy(self.strategy, degree, self.parity, self.basis);
+        same("the base", base, 1 << split)?;
+        ensure!(
+            self.lists.iter().all(|l| l.len() <= base),
+            "a list is longer than the base"
         );
-        let makes: Vec<usize> = self.numbers_of("P");
-        assert!(makes.is_sorted(), "powers rise");
-        let loads: Vec<usize> = self.numbers_of("B");
-        assert!(loads.into_iter().eq(0..self.lists.len()), "loads in order");
-        let late = self.steps.iter().skip(makes.len()).any(|s| s.0 == 'P');
-        assert!(!late, "powers first");
+        let fall = self.lists.is_sorted_by(|a, b| a.len() >= b.len());
+        ensure!(fall, "a list is longer than the one ahead of it");
+        for (i, list) in self.lists.iter().enumerate() {
+            let wrong = (0..list.len()).find(|&j| !self.allowed(j) && list[j] != 0);
+            ensure!(
+                wrong.is_none(),
+                "place {wrong:?} of list {i} is not 0, and the parity allows no such power"
+            );
+        }
+        Ok(())
     }
 
+    /// Powers come first and rise; lists are loaded in order.
+    fn order(&self) -> Result<()> {
+        let makes = self.numbers_of("P");
+        ensure!(makes.is_sorted(), "the powers do not rise");
+        let late = self.steps.iter().skip(makes.len()).any(|s| s.0 == 'P');
+        ensure!(!late, "a power is made behind another step");
+        let loads = self.numbers_of("B");
+        ensure!(
+            loads.into_iter().eq(0..self.lists.len()),
+            "the lists are not loaded in order"
+        );
+        Ok(())
+    }
+
+    /// The first number of each step with one of these letters.
     fn numbers_of(&self, letters: &str) -> Vec<usize> {
         let steps = self.steps.iter().filter(|s| letters.contains(s.0));
         steps.map(|s| s.1[0]).collect()
@@ -260,51 +348,95 @@ impl Plan {
 
     /// The reported pair by the steps; and by the Rust's estimate, which leaves relisting out, and moves the multiplication of a last
     /// list of one only at a power of two.
-    fn counts(&self, min_mult: bool, cost: usize) {
+    fn counts(&self, cost: usize) -> Result<()> {
+        let [degree, base, _, reported @ .., _] = self.head;
         let ctct = self.numbers_of("PG").len();
         let powers = self
             .lists
             .iter()
             .map(|l| (1..l.len()).filter(|&j| self.allowed(j)).count());
         let ptct = powers.sum::<usize>() + self.numbers_of("Q").len();
-        assert_eq!(self.head[3..5], [ctct + cost, ptct], "reported pair");
-        let strategy = if min_mult {
-            SplitStrategy::MinMult
-        } else {
-            SplitStrategy::MinDepth
-        };
-        let (ct, pt) = bsgs_op_counts(self.head[0], strategy, self.parity, self.basis);
-        let more = self.lists.len() - slices(self.head[0], self.head[1]);
-        assert!(more == 0 || !min_mult, "MinMult lists nothing again");
-        let less = if self.parity == Parity::Odd { 0 } else { more };
+        same(
+            "the reported ct-ct and pt-ct",
+            reported,
+            [ctct + cost, ptct],
+        )?;
+        let (ct, pt) = bsgs_op_counts(degree, self.strategy, self.parity, self.basis);
         let lengths: Vec<usize> = self.lists.iter().map(|l| l.len()).collect();
-        let moved = moved(self.head[0], &lengths);
-        assert_eq!(
-            (ctct, ptct),
-            (ct + more - moved, pt - less + moved),
-            "the estimate, relisting and a last list of one"
+        let (more, moved) = (
+            relisted(degree, base, lengths.len())?,
+            moved(degree, &lengths),
         );
+        ensure!(
+            more == 0 || self.strategy == SplitStrategy::MinDepth,
+            "MinMult lists nothing again"
+        );
+        let less = if self.parity == Parity::Odd { 0 } else { more };
+        let found = (ctct + moved, ptct + less);
+        same(
+            "the steps' ct-ct and pt-ct, relisting and a last list of one aside",
+            found,
+            (ct + more, pt + moved),
+        )
     }
 
     /// A last list of one after another list is combined by Q, right behind its load; no other combine is.
-    fn plain(&self) {
+    fn plain(&self) -> Result<()> {
         let last = self.lists.len() - 1;
         let lone = last > 0 && self.lists[last].len() == 1;
         let load = self.steps.iter().position(|s| *s == ('B', vec![last]));
-        let behind = load.expect("the last list is loaded") + 1;
+        let behind = load.context("the last list is not loaded")? + 1;
         let plain: Vec<usize> = (0..self.steps.len())
             .filter(|&i| self.steps[i].0 == 'Q')
             .collect();
-        let expected = if lone { vec![behind] } else { vec![] };
-        assert_eq!(plain, expected, "plain combines");
+        let right = if lone { vec![behind] } else { vec![] };
+        same("the places of the combines Q", plain, right)
     }
+}
 
-    fn depth(&self, min_mult: bool, cost: usize) {
-        let bits = self.head[0].ilog2() + 1;
-        let late = self.head[0] > (1 << bits) - (1 << ((bits - 1) / 2));
-        let depth = bits as usize + (min_mult && late) as usize;
-        assert_eq!(self.head[5], depth + cost, "depth");
+/// Makes a power, which must not be there, from the parts that the Rust splits it into.
+fn make(basis: Basis, powers: &mut Powers, n: usize, found: (usize, usize)) -> Result<()> {
+    ensure!(
+        !powers.contains_key(&n),
+        "power {n} is made, and it is there"
+    );
+    let (a, b, distance) = parts(n);
+    ensure!(
+        found == (a, b),
+        "power {n} is made of {found:?}, not of {:?}",
+        (a, b)
+    );
+    let product = times(power(powers, a)?, power(powers, b)?);
+    let made = match basis {
+        Basis::Monomial => product,
+        Basis::Chebyshev => minus(times(2, product), power(powers, distance)?),
+    };
+    powers.insert(n, made);
+    Ok(())
+}
+
+/// The value of a list. A number that is 0 needs no power.
+fn value(list: &[i64], powers: &Powers) -> Result<u64> {
+    let mut sum = 0;
+    for (j, &c) in list.iter().enumerate().filter(|(_, c)| **c != 0) {
+        sum = plus(sum, times(remainder(c), power(powers, j)?));
     }
+    Ok(sum)
+}
+
+/// Takes high and low, and puts high times the power plus low.
+fn combine(waiting: &mut Vec<u64>, power: u64) -> Result<()> {
+    let (Some(high), Some(low)) = (waiting.pop(), waiting.pop()) else {
+        bail!("a combine without two values");
+    };
+    waiting.push(plus(times(high, power), low));
+    Ok(())
+}
+
+/// How many lists a plan has more than the slices of its degree.
+fn relisted(degree: usize, base: usize, lists: usize) -> Result<usize> {
+    let more = lists.checked_sub(slices(degree, base));
+    more.with_context(|| format!("{lists} lists are too few"))
 }
 
 /// The number of slices of a degree at a base.
