@@ -1,3 +1,3 @@
 mod Zeros
-mod LineLaws
+mod TableLaws
 pub mod ZerosWeighed

@@ -2,4 +2,4 @@ pub mod Letters
 pub mod ZeroChain
 pub mod ZerosWeighed
 pub mod Line
-pub mod LineAt
+pub mod Table

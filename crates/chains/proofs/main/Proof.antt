@@ -1,46 +1,51 @@
--- `chains::main` is safe: the loop's invariant keeps the degree within the places of its buffers, and the measure is the number of degrees left.
-use Prim.Native.Nat.{_-_, _≤_}
+-- `chains::main` is safe: all lines are put within their buffer.
+use mathlib.Core.Path.{sym}
+use Prim.Native.Nat.{_≤_}
+use native.Mathlib.Omega.{arith}
 use borrow.Author.Needs.{needs}
+use lib.ListN.{length}
+use lib.Seq.{length-take-le}
+use Rattle.texts.proofs.PutLaws.{put-length}
 use Rattle.chains.proofs.main.Statement.{statement}
 use Rattle.chains.proofs.main.Tie as tie
 
-abbrev Inv-loop : tie.InvT-loop
-Inv-loop degree₀ degree = degree ≤ 512
+-- the lines end within the buffer
+within : (k : tie.After-put-chains) → k .put-chains .result ≤ length (k .put-chains .last .0)
+within k = let put = k .put-chains .ensures in omega (arith, put .1, put-length (put .0), k .before .before .text-buffer .ensures)
 
-abbrev μ-loop : tie.MeasureT-loop
-μ-loop degree₀ degree = 512 - degree
+text-buffer-requires : tie.Need-text-buffer-requires
+text-buffer-requires c κs = search needs
 
-loop-holds : tie.Need-loop-holds Inv-loop μ-loop
-loop-holds c = search needs
+slice-aggregate-put-chains : tie.Need-slice-aggregate-put-chains
+slice-aggregate-put-chains c = search needs
 
-print-degree-requires : tie.Need-print-degree-requires Inv-loop μ-loop
-print-degree-requires c κs = search needs
+put-chains-requires : tie.Need-put-chains-requires
+put-chains-requires c κs = search needs
 
-returns : tie.Need-returns Inv-loop μ-loop
+array-share-prefix-text : tie.Need-array-share-prefix-text
+array-share-prefix-text c = within (c .before)
+
+slice-aggregate-write-text : tie.Need-slice-aggregate-write-text
+slice-aggregate-write-text c = sym (length-take-le _ _ (within (c .before .before)))
+
+slice-aggregate-write-text-2 : tie.Need-slice-aggregate-write-text-2
+slice-aggregate-write-text-2 c = search needs
+
+write-text-requires : tie.Need-write-text-requires
+write-text-requires c κs = search needs
+
+returns : tie.Need-returns
 returns c = search needs
-
-add-degree : tie.Need-add-degree Inv-loop μ-loop
-add-degree c = search needs
-
-loop-less : tie.Need-loop-less Inv-loop μ-loop
-loop-less c = search needs
-
-loop-again : tie.Need-loop-again Inv-loop μ-loop
-loop-again c = search needs
-
-returns-2 : tie.Need-returns-2 Inv-loop μ-loop
-returns-2 c = search needs
 
 pub main-spec : {M : Type 1} → statement M
 main-spec =
     tie.close
     (tie.spec
-    Inv-loop
-    μ-loop
-    loop-holds
-    print-degree-requires
-    returns
-    add-degree
-    loop-less
-    loop-again
-    returns-2)
+    text-buffer-requires
+    slice-aggregate-put-chains
+    put-chains-requires
+    array-share-prefix-text
+    slice-aggregate-write-text
+    slice-aggregate-write-text-2
+    write-text-requires
+    returns)

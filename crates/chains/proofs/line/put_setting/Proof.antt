@@ -1,5 +1,5 @@
 -- `chains::line::put_setting` meets its contract. The degree, which has at most 20 digits, and the three letters are put one behind another.
-use Prim.Native.Nat.{_≤_}
+use Prim.Native.Nat.{_+_, _≤_}
 use native.Mathlib.Omega.{arith}
 use borrow.Author.Needs.{needs}
 use Rattle.texts.proofs.DecimalLaws.{decimal-few}
@@ -8,7 +8,7 @@ use Rattle.chains.proofs.line.put_setting.Statement.{statement}
 use Rattle.chains.proofs.line.put_setting.Tie as tie
 
 -- the place behind the degree
-digits : (k : tie.After-put-number) → k .put-number .result ≤ 20
+digits : (k : tie.After-put-number) → k .put-number .result ≤ k .before .before .before .args .at + 20
 digits k =
     let few = decimal-few 19 (k .before .before .before .args .degree) (omega arith) in
     omega (arith, k .put-number .ensures .next)

@@ -1,10 +1,10 @@
--- `chains::put_line_at` meets its contract: the letters are those of the setting, both numbers are made of these letters and the degree, and `put_line` puts
+-- `chains::table::put_line_at` meets its contract: the letters are those of the setting, both numbers are made of these letters and the degree, and `put_line` puts
 -- just these.
 use borrow.Author.Needs.{needs}
 use Rattle.texts.proofs.PutLaws.{put-same}
-use Rattle.chains.proofs.LineLaws.{line-is}
-use Rattle.chains.proofs.put_line_at.Statement.{statement}
-use Rattle.chains.proofs.put_line_at.Tie as tie
+use Rattle.chains.proofs.TableLaws.{line-is}
+use Rattle.chains.proofs.table.put_line_at.Statement.{statement}
+use Rattle.chains.proofs.table.put_line_at.Tie as tie
 
 letters-at-requires : tie.Need-letters-at-requires
 letters-at-requires c κs = search needs
