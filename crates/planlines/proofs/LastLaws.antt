@@ -1,4 +1,4 @@
--- What a read brought, and what is put behind the last one: its bytes stand at the start of the block, and only the end of the input has a text.
+-- What a read brought, and what is put after the last one: its bytes stand at the start of the block, and only the end of the input has a text.
 use mathlib.Core.Path.{_≡_, refl}
 use mathlib.Core.Logic.{_⊎_, inl, inr}
 use mathlib.Core.List.{List, []}

@@ -1,5 +1,5 @@
--- How answering the input ends: the text that is left to be written is what belongs behind the last read, and so nothing unless that said that the input
--- ended. Which bytes were read and written before can't be said here, since the contracts of reading and writing say nothing of them.
+-- How answering the input ends: the text that is left to be written is the one for what the last read brought and the bytes held then, and so nothing unless
+-- that read said that the input has ended. That `last` is what the last read said is read in the source, since no contract tells which bytes are read.
 use mathlib.Core.Path.{_≡_}
 use mathlib.Core.List.{List}
 use Prim.Native.Nat.{ℕ, _≤_}
@@ -7,9 +7,8 @@ use lib.ListN.{length, take}
 use Rattle.planlines.specs.LastText.{lastText}
 use Rattle.planlines.specs.declared.input.Finished.{Finished}
 
--- `out` is the buffer for text
-pub record AnswerInput (out : List ℕ) (r : Finished) : Type 0 where
-  -- the bytes held of a line that has not ended
-  pub held : List ℕ
-  pub text : take (r .text) out ≡ lastText (r .last) held
+-- the first r .held bytes of `line` are held, and the first r .text of `out` are left to be written
+pub record AnswerInput (line out : List ℕ) (r : Finished) : Type 0 where
+  pub held-within : r .held ≤ length line
+  pub text : take (r .text) out ≡ lastText (r .last) (take (r .held) line)
   pub within : r .text ≤ length out

@@ -1,4 +1,4 @@
--- What is put behind the last read. Only the end of the input ends a line that lacks its line feed: where a read failed, more of that line may have been on
+-- What is put after the last read. Only the end of the input ends a line that lacks its line feed: where a read failed, more of that line may have been on
 -- its way, and an answer to the half of it would be that of another curve.
 use mathlib.Core.List.{List, []}
 use Prim.Native.Nat.{ℕ}

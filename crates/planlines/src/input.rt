@@ -16,9 +16,10 @@ pub struct Stopped {
     pub last: BlockRead,
 }
 
-// What the last read brought, and how many bytes of text are put behind it.
+// What the last read brought, how many bytes of an unended line are held then, and how many bytes of text are put for them.
 pub struct Finished {
     pub last: BlockRead,
+    pub held: usize,
     pub text: usize,
 }
 
@@ -57,7 +58,7 @@ fn answer_blocks(
     }
 }
 
-// Puts what is to be written behind the last read, and returns its length: where the input ended, the answer to the line that its end ends; else nothing.
+// Puts what is to be written after the last read, and returns its length: where the input ended, the answer to the line that its end ends; else nothing.
 fn put_last(
     last: BlockRead,
     line: &[u8],
@@ -77,7 +78,7 @@ fn put_last(
     put_end(line, held, coefficients, planned, bounds, steps, out)
 }
 
-// Answers every line that the input ends. The last may lack its line feed: its answer is put and left to be written.
+// Answers every line of the input. The answer to a last line without a line feed is put into `out`, and the caller writes it.
 pub fn answer_input(
     block: &mut [u8],
     line: &mut [u8],
@@ -88,11 +89,11 @@ pub fn answer_input(
     out: &mut [u8],
 ) -> Finished
     requires { ⌜ TurnRoom (now line) 0 (now coefficients) (now planned) (now bounds) (now steps) (now out) ⌝ }
-    ensures { λ r. ⌜ AnswerInput (now (out .exit)) r ⌝ }
+    ensures { λ r. ⌜ AnswerInput (now (line .exit)) (now (out .exit)) r ⌝ }
 {
     let stopped = answer_blocks(block, line, coefficients, planned, bounds, steps, out);
     let held = stopped.held;
     let last = stopped.last;
     let text = put_last(last, line, held, coefficients, planned, bounds, steps, out);
-    Finished { last, text }
+    Finished { last, held, text }
 }

@@ -1,7 +1,9 @@
 // Standard input, block by block.
 use crate::passing::is_passing;
 use libc::STDIN_FILENO;
-ghost use Rattle.streams.specs.BlockRead.{ReadInto};
+ghost use mathlib.Core.Path.{_≡_};
+ghost use lib.ListN.{length};
+ghost use Rattle.streams.specs.BlockRead.{readOutcome, ReadInto};
 
 // What a read brought: so many bytes; none, since the input has ended; none, since reading failed.
 pub enum BlockRead {
@@ -10,10 +12,13 @@ pub enum BlockRead {
     Failed,
 }
 
-// What a read that did not fail brought: `got` bytes at the start of the block, and with none the input has ended.
-fn brought(got: isize, block: &[u8]) -> BlockRead
-    ensures { λ r. ⌜ ReadInto r (now (block .entry)) ⌝ }
+// What a read into the block brought that answered `got`.
+fn outcome_of(got: isize, block: &[u8]) -> BlockRead
+    ensures { λ r. ⌜ r ≡ readOutcome got (length (now (block .entry))) ⌝ }
 {
+    if got < 0 {
+        return BlockRead::Failed;
+    }
     let count = io::count(got, block);
     if count == 0 {
         return BlockRead::Ended;
@@ -29,11 +34,11 @@ pub fn read_block(block: &mut [u8], failure: &[u8]) -> BlockRead
     while turns > 0 {
         let got = libc::read(STDIN_FILENO, block);
         if got >= 0 {
-            return brought(got, block);
+            return outcome_of(got, block);
         }
         if !is_passing() {
             os::fail(failure);
-            return BlockRead::Failed;
+            return outcome_of(got, block);
         }
         turns -= 1;
     }

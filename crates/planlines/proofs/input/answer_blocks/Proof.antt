@@ -34,9 +34,19 @@ counted k =
     let called = k .before .before .before .before in
     bytes-counted (called .read-block .last .0) (k .read .given .1) (called .read-block .ensures)
 
--- of a block that is answered: where it was read, and where the loop's turn begins
+-- a place behind the answered block; and of that block where its bytes are counted, where they were read, and where the loop's turn begins
+abbrev answered : tie.After-struct-known Inv-loop μ-loop → tie.After-answer-block Inv-loop μ-loop
+answered k =
+    let lent = k .before .before .before .before .before in
+    lent .before .before .before .before .before .before
+
+abbrev known : tie.After-answer-block Inv-loop μ-loop → tie.After-read Inv-loop μ-loop
+known k =
+    let lent = k .before .before .before .before .before .before in
+    lent .before .before .before
+
 abbrev read : tie.After-answer-block Inv-loop μ-loop → tie.After-read-block Inv-loop μ-loop
-read k = k .before .before .before .before .before .before .before .before .before .before .before .before .before
+read k = known k .before .before .before .before
 
 abbrev turn : tie.After-answer-block Inv-loop μ-loop → tie.At-loop Inv-loop μ-loop
 turn k = read k .before .before .before
@@ -123,7 +133,7 @@ same-length-14 : tie.Need-same-length-14 Inv-loop μ-loop
 same-length-14 c = search needs
 
 returns-2 : tie.Need-returns-2 Inv-loop μ-loop
-returns-2 c = answered-within (c .before .before .before .before .before .before .before .before .before .before .before .before)
+returns-2 c = answered-within (answered (c .before))
 
 sub-turns : tie.Need-sub-turns Inv-loop μ-loop
 sub-turns c = search needs
@@ -133,10 +143,10 @@ loop-less c = search needs
 
 loop-again : tie.Need-loop-again Inv-loop μ-loop
 loop-again c =
-    let answered = c .before .before .before .before .before .before .before .before .before .before .before .before in
-    let inv = turn answered .loop .inv in
+    let block = answered (c .before) in
+    let inv = turn block .loop .inv in
     let room = inv .room in
-    let kept = answered .answer-block .kept .1 in
+    let kept = block .answer-block .kept .1 in
     let line-kept = kept .0 in
     let coefficients-kept = kept .1 .1 .0 in
     let planned-kept = kept .1 .1 .1 .0 in
@@ -146,14 +156,14 @@ loop-again c =
     record {
       room = record {
         line-room = line-kept ∙ room .line-room;
-        held-within = omega (arith, answered .answer-block .ensures .within, line-kept);
+        held-within = omega (arith, block .answer-block .ensures .within, line-kept);
         coefficient-room = omega (arith, coefficients-kept, room .coefficient-room);
         planned-room = omega (arith, planned-kept, room .planned-room);
         boundary-room = omega (arith, bounds-kept, room .boundary-room);
         step-room = omega (arith, steps-kept, room .step-room);
         text-room = out-kept ∙ room .text-room;
       };
-      block-long = read answered .read-block .kept .0 ∙ inv .block-long;
+      block-long = read block .read-block .kept .0 ∙ inv .block-long;
       line-long = line-kept ∙ inv .line-long;
       coefficients-long = coefficients-kept ∙ inv .coefficients-long;
       planned-long = planned-kept ∙ inv .planned-long;

@@ -1,5 +1,6 @@
--- `planlines::input::answer_input` meets its contract: what `put_last` puts behind the last read is within its buffer, which kept its length.
+-- `planlines::input::answer_input` meets its contract: what `put_last` puts is within its buffer, which kept its length, and so did that of the line.
 use mathlib.Core.Path.{_∙_}
+use native.Mathlib.Omega.{arith}
 use borrow.Author.Needs.{needs}
 use Rattle.planlines.proofs.LastLaws.{last-put}
 use Rattle.planlines.proofs.input.answer_input.Statement.{statement}
@@ -47,9 +48,10 @@ returns : tie.Need-returns
 returns c =
     let put = c .before .before .before .before .before .before .before .before in
     let stopped = blocks put in
-    let long = put .put-last .kept .1 .1 .1 .1 .1 .1 .1 .0 ∙ stopped .answer-blocks .kept .1 .1 .1 .1 .1 .1 .0 ∙ start stopped .pre .text-room in
+    let kept = stopped .answer-blocks .kept .1 in
+    let long = put .put-last .kept .1 .1 .1 .1 .1 .1 .1 .0 ∙ kept .1 .1 .1 .1 .1 .0 ∙ start stopped .pre .text-room in
     let left = last-put (stopped .answer-blocks .result .last) _ (put .put-last .ensures) long in
-    record { held = _; text = left .0; within = left .1 }
+    record { held-within = omega (arith, stopped .answer-blocks .ensures, kept .0); text = left .0; within = left .1 }
 
 pub answer-input-spec : {M : Type 1} → statement M
 answer-input-spec =

@@ -1,8 +1,9 @@
--- `streams::input::read_block` meets its contract: the buffer keeps its length, and `brought` says where the bytes of a read that did not fail stand. Nothing
+-- `streams::input::read_block` meets its contract: the buffer keeps its length, and `outcome_of` says what a read brought, which is within the block. Nothing
 -- says that a read succeeds, so a count of turns that falls is the measure.
 use mathlib.Core.Path.{_≡_}
 use borrow.Author.Needs.{needs}
 use lib.ListN.{length}
+use Rattle.streams.proofs.OutcomeLaws.{read-into}
 use Rattle.streams.proofs.input.read_block.Statement.{statement}
 use Rattle.streams.proofs.input.read_block.Tie as tie
 
@@ -18,14 +19,14 @@ loop-holds c = search needs
 read-requires : tie.Need-read-requires Inv-loop μ-loop
 read-requires c κs = search needs
 
-brought-requires : tie.Need-brought-requires Inv-loop μ-loop
-brought-requires c κs = search needs
+outcome-of-requires : tie.Need-outcome-of-requires Inv-loop μ-loop
+outcome-of-requires c κs = search needs
 
 same-length : tie.Need-same-length Inv-loop μ-loop
 same-length c = search needs
 
 returns : tie.Need-returns Inv-loop μ-loop
-returns c = search needs
+returns c = read-into _ _ (c .outcome-of .ensures)
 
 is-passing-requires : tie.Need-is-passing-requires Inv-loop μ-loop
 is-passing-requires c κs = search needs
@@ -33,11 +34,14 @@ is-passing-requires c κs = search needs
 fail-requires : tie.Need-fail-requires Inv-loop μ-loop
 fail-requires c κs = search needs
 
+outcome-of-requires-2 : tie.Need-outcome-of-requires-2 Inv-loop μ-loop
+outcome-of-requires-2 c κs = search needs
+
 same-length-2 : tie.Need-same-length-2 Inv-loop μ-loop
 same-length-2 c = search needs
 
 returns-2 : tie.Need-returns-2 Inv-loop μ-loop
-returns-2 c = search needs
+returns-2 c = read-into _ _ (c .outcome-of2 .ensures)
 
 sub-turns : tie.Need-sub-turns Inv-loop μ-loop
 sub-turns c = search needs
@@ -62,11 +66,12 @@ read-block-spec =
     μ-loop
     loop-holds
     read-requires
-    brought-requires
+    outcome-of-requires
     same-length
     returns
     is-passing-requires
     fail-requires
+    outcome-of-requires-2
     same-length-2
     returns-2
     sub-turns
