@@ -10,7 +10,7 @@ use lib.IntN.{ℤ, pos, negsuc, negℤ, _+ℤ_, _*ℤ_, pos-+ℤ-pos, pos-*ℤ-p
 use Rattle.algebra.specs.IsRemainder.{IsRemainder, RemaindersTold}
 use Rattle.algebra.specs.Remainder.{rem}
 use Rattle.algebra.proofs.Integers.{integers}
-use Rattle.algebra.proofs.Remainders.{rem-lt, rem-zero, rem-add, rem-mul}
+use Rattle.algebra.proofs.Remainders.{rem-lt, rem-add, rem-mul}
 use Rattle.algebra.proofs.Solve.{from, _:+_, :-_, _:=_, num}
 
 -- where a + b = s, -a is -s + b

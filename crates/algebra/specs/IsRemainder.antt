@@ -10,13 +10,13 @@ pub record IsRemainder (m : ℕ) (z : ℤ) (r : ℕ) : Type 0 where
   pub quotient : ℤ
   pub whole : z ≡ (quotient *ℤ pos m) +ℤ pos r
 
--- of a whole number z by m
+-- what holds of the remainder of z by m
 pub record RemainderTold (m : ℕ) (z : ℤ) : Type 0 where
   -- `rem m z` is a remainder
   pub is : IsRemainder m z (rem m z)
   -- and there is no other, so these two facts define it
   pub only : (r : ℕ) → IsRemainder m z r → r ≡ rem m z
 
--- for every modulus from 1 up
+-- this holds for every modulus from 1 on
 abbrev pub RemaindersTold : Type 0
 RemaindersTold = (m : ℕ) → 0 < m → (z : ℤ) → RemainderTold m z

@@ -1,5 +1,5 @@
--- Laws of the table: a line of the letters of a setting, with the chain and the bits of these letters, is that of the setting; one line, or the lines of
--- one degree, more are put behind those before.
+-- Laws of the table: a line of the letters of a setting, with the chain and the bits of these letters, is that of the setting; and one more line, or one
+-- more degree's lines, put behind those before.
 use mathlib.Core.Path.{_≡_, refl, sym, ap, _∙_}
 use mathlib.Core.List.{List, [], _++_, append-nil, append-assoc}
 use Prim.Native.Nat.{ℕ, zero, suc, _+_, _-_, _≤_}

@@ -1,5 +1,5 @@
 -- The lines of chains in their order (docs/RULES.md, "Lines of chains"): the degree changes slowest, from 2 to 511; the settings of a degree follow one
--- another as in specs/Letters. What the program writes is `chainsText`.
+-- another as in specs/Letters. `put_chains` puts `chainsText`; that `main` writes it is read in the source, and tested by the recorded output.
 use mathlib.Core.List.{List, [], _++_}
 use Prim.Native.Nat.{ℕ, zero, suc, _*_}
 use Rattle.chains.specs.Letters.{lettersAt}

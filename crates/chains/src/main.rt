@@ -11,11 +11,14 @@ ghost use mathlib.Core.Path.{_≡_};
 ghost use lib.ListN.{length};
 ghost use Rattle.chains.specs.Table.{tableRoom};
 
+// Places for all lines, of at most 80 bytes each.
+const TABLE_ROOM: usize = 489600;
+
 // A buffer for all lines. The contract keeps its length alone, so that no proof looks at half a million zeros.
-fn text_buffer() -> [u8; 489600]
+fn text_buffer() -> [u8; TABLE_ROOM]
     ensures { λ r. ⌜ tableRoom ≡ length r ⌝ }
 {
-    [0; 489600]
+    [0; TABLE_ROOM]
 }
 
 // Writes all lines.

@@ -16,6 +16,6 @@ pub record Detected {A : Type 0} (numbers : Numbers A) (c : List A) (parity : Pa
   pub odd : (parityNumber parity ≡ 2) ↔ (OfParity numbers Odd c × (OfParity numbers Even c → ⊥))
   pub full : (parityNumber parity ≡ 0) ↔ ((OfParity numbers Even c → ⊥) × (OfParity numbers Odd c → ⊥))
 
--- so it is of all coefficients
+-- this holds for any coefficients
 abbrev pub ParitiesDetected : Type 0 → Type 0
 ParitiesDetected A = (numbers : Numbers A) (c : List A) → Detected numbers c (parityOf numbers c)

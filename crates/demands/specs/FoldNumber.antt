@@ -5,7 +5,7 @@ use Rattle.algebra.specs.declared.Basis.the-variants.{Monomial, Chebyshev}
 use Rattle.algebra.specs.declared.Parity.{Parity}
 use Rattle.algebra.specs.declared.Parity.the-variants.{Full, Even, Odd}
 
--- 1 to 4; Full, which no fold is accepted with, has the number of no transform, 0
+-- 1 to 4; for Full, with which no fold is accepted, 0, the number of Identity
 abbrev pub foldNumber : Parity → Basis → ℕ
 foldNumber Full basis = 0
 foldNumber Even Monomial = 1

@@ -65,7 +65,8 @@ pub record PlanChains : Type 1 where
   -- "A program prints, for the zero curves of degree 2 to 511 and every setting without folding, at input scale 30 and coefficient scale 20, one tabbed
   -- line each, equal or not: degree, the letters of basis, parity and strategy, chain, `bsgs_consumed_bits`. Degree changes slowest, then basis M C,
   -- parity F E O, strategy D M." No statement of this crate says it, since the program, `chains`, is a crate above: `chainsText` (chains/specs/Table) is
-  -- what it prints, by the contract of `put_chains`; `ZerosWeighed` (chains/specs/ZerosWeighed) says that the chain of a line is that of the curve's plan.
+  -- its text, which `put_chains` is proved to put; `ZerosWeighed` (chains/specs/ZerosWeighed) says that the chain of a line is that of the curve's plan;
+  -- and the gate compares what is printed with a recorded output.
 
   -- "The call refuses a scale with 10 and then an unrunnable plan with 24, as already known." That it ends so on any arguments is in specs/Total.
   pub chain-order : ChainOrder

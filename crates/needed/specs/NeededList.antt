@@ -1,6 +1,6 @@
 -- The needed powers in a list (docs/RULES.md, "Choosing the split"): going down from the degree, each number is listed if it is a target or a part of
 -- one that is listed already. Promises says that the list holds each needed power once, and nothing else.
-use mathlib.Core.Bool.{Bool, true, false, cond, _&&_, _||_}
+use mathlib.Core.Bool.{Bool, false, cond, _&&_, _||_}
 use mathlib.Core.List.{List, [], _∷_}
 use Prim.Native.Nat.{ℕ, zero, suc}
 use lib.Dec.{ltb, leb, eqb}
@@ -17,7 +17,7 @@ use Rattle.needed.specs.Needed.{babyLimit}
 unfoldable pub isTarget : Parity → (top limit n : ℕ) → Bool
 isTarget parity top limit n = (eqb n top && leb 2 n) || (leb 3 n && (ltb n limit && allows parity n))
 
--- whether m is one of those parts of the split of n that are above 1, or in Chebyshev their distance if that is at least 2
+-- whether m is above 1 and a part of the split of n, or in Chebyshev the distance of the parts
 unfoldable pub isPart : Basis → (n m : ℕ) → Bool
 isPart Monomial n m = ltb 1 m && (eqb m (partsOf n .a) || eqb m (partsOf n .b))
 isPart Chebyshev n m = ltb 1 m && (eqb m (partsOf n .a) || (eqb m (partsOf n .b) || eqb m (partsOf n .distance)))

@@ -1,5 +1,5 @@
--- `chains::table::put_line_at` meets its contract: the letters are those of the setting, both numbers are made of these letters and the degree, and `put_line` puts
--- just these.
+-- `chains::table::put_line_at` meets its contract: the letters are those of the setting, both numbers are made of these letters and the degree, and
+-- `put_line` puts just these.
 use borrow.Author.Needs.{needs}
 use Rattle.texts.proofs.PutLaws.{put-same}
 use Rattle.chains.proofs.TableLaws.{line-is}
