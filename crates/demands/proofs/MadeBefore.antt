@@ -14,8 +14,9 @@ use lib.IntN.{ℤ, pos}
 use lib.ListN.{length}
 use Rattle.algebra.specs.declared.Basis.{Basis}
 use Rattle.algebra.specs.declared.Parity.{Parity}
+use Rattle.number.specs.Options.{_then_}
+use Rattle.number.proofs.Options.{then-some, when-some}
 use Rattle.walk.specs.Kinds.{kindOf}
-use Rattle.walk.specs.Options.{_then_}
 use Rattle.walk.specs.Rules.{exactRules}
 use Rattle.walk.specs.State.{Lists}
 use Rattle.walk.specs.Walk.{walkOf}
@@ -23,7 +24,6 @@ use Rattle.walk.specs.Lent.{lentLists, lentSteps, countsFit, boundsRise, lentWa
 use Rattle.walk.specs.Uses.{usesOf}
 use Rattle.walk.specs.UsesMade.{isAmong, allAmong, madeBy, madeAfter, UsesMade}
 use Rattle.walk.specs.declared.plan.Step.{Step}
-use Rattle.walk.proofs.Options.{then-some, when-some}
 use Rattle.walk.proofs.UsesMade.{walks-use-made}
 use Rattle.demands.specs.MadeBefore.{Usable, constant, input, made, MadeBefore, RunsMadeBefore, PlansMadeBefore}
 use Rattle.demands.proofs.Right.{plans-right}

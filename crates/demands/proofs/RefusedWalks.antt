@@ -10,8 +10,8 @@ use borrow.Author.Tests.{le-ltb, ltb-false}
 use lib.Dec.{ltb}
 use lib.IntN.{ℤ, pos}
 use Rattle.number.specs.Limits.{scaleLimit}
+use Rattle.number.specs.Options.{missing}
 use Rattle.walk.specs.Limits.{modulusLimit}
-use Rattle.walk.specs.Options.{missing}
 use Rattle.walk.specs.Rules.{Rules, exactRules, trialRules}
 use Rattle.walk.specs.Lent.{lentWalk}
 use Rattle.walk.specs.Trial.{trialRefusal}

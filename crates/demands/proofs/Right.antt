@@ -22,6 +22,7 @@ use Rattle.algebra.specs.declared.Parity.{Parity}
 use Rattle.algebra.proofs.FoldLaw.{fold-law}
 use Rattle.algebra.proofs.Integers.{integers}
 use Rattle.algebra.proofs.IsRemainder.{remainders-told}
+use Rattle.number.specs.Options.{_then_, missing}
 use Rattle.number.proofs.Refusal.{when-accepted}
 use Rattle.counts.specs.Choice.{splitFor}
 use Rattle.counts.specs.declared.choice.SplitStrategy.{SplitStrategy}
@@ -34,7 +35,6 @@ use Rattle.lists.proofs.Bounds.{sound-for}
 use Rattle.lists.proofs.ListCall.{front}
 use Rattle.lists.proofs.Lists.{lists-in-order, length-arranged}
 use Rattle.walk.specs.Limits.{modulusLimit}
-use Rattle.walk.specs.Options.{_then_, missing}
 use Rattle.walk.specs.Rules.{exactRules}
 use Rattle.walk.specs.Lent.{stepsFrom, lentSteps, exactWalk}
 use Rattle.walk.specs.Trial.{trialOf}

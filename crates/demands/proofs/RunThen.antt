@@ -5,7 +5,7 @@ use mathlib.Core.List.{List, _++_}
 use mathlib.Core.Option.{Option, some}
 use Rattle.algebra.specs.declared.Basis.{Basis}
 use Rattle.algebra.specs.declared.Parity.{Parity}
-use Rattle.walk.specs.Options.{_then_}
+use Rattle.number.specs.Options.{_then_}
 use Rattle.walk.specs.Rules.{Rules}
 use Rattle.walk.specs.State.{Lists, State}
 use Rattle.walk.specs.Walk.{runOf}

@@ -14,8 +14,9 @@ use Rattle.algebra.specs.Operations.{wholeOps}
 use Rattle.algebra.specs.Value.{value}
 use Rattle.algebra.specs.declared.Basis.{Basis}
 use Rattle.algebra.specs.declared.Parity.{Parity}
+use Rattle.number.specs.Options.{_then_, when}
 use Rattle.number.proofs.BothHold.{and-left, and-right}
-use Rattle.walk.specs.Options.{_then_, when}
+use Rattle.number.proofs.Options.{then-alike, when-some}
 use Rattle.walk.specs.Kinds.{kindOf}
 use Rattle.walk.specs.Rules.{exactRules}
 use Rattle.walk.specs.State.{Lists, Powers, State, withWaiting}
@@ -24,7 +25,6 @@ use Rattle.walk.specs.Walk.{oneLeft, unusedZero, firstState, actOf, stepOf, run
 use Rattle.walk.specs.Lent.{lentSteps, lentLists, boundsRise, lentWalk, exactWalk}
 use Rattle.walk.specs.declared.plan.Head.{Head}
 use Rattle.walk.specs.declared.plan.Step.{Step}
-use Rattle.walk.proofs.Options.{then-alike, when-some}
 use Rattle.plan.specs.PlanHead.{headOf}
 use Rattle.plan.specs.PlanCall.{headFor, numbersFor}
 use Rattle.plan.specs.PlanSizes.{sizesOf}

@@ -25,6 +25,7 @@ use Rattle.number.specs.Split.{partsBy, partsOf, noParts, splitRefusal, splitOf
 use Rattle.number.specs.Tests.{degreeOf, noDegree, tooHigh, unordered, miscounted, outOfRange, tooWide, noRoom}
 use Rattle.number.specs.declared.fold.Folded.{Folded}
 use Rattle.number.specs.declared.split.Parts.{Parts}
+use Rattle.number.proofs.Options.{missing-image, missing-some}
 use Rattle.number.proofs.Refusal.{none-holds, numbered-append, refusals-say, when-refused, when-accepted}
 use Rattle.interpolation.specs.Interpolate.{coefficientsOf}
 use Rattle.interpolation.specs.InterpolateCall.{interpolateRefusal, interpolateAnswer, interpolateBuffer}
@@ -60,7 +61,6 @@ use Rattle.walk.specs.Chain.{answerMade, chainTests, chainRefusal, chainOf}
 use Rattle.walk.specs.HeaviestChain.{GreatestOfAnswer}
 use Rattle.walk.specs.declared.call.Trial.{Trial}
 use Rattle.walk.specs.declared.chain.Chain.{Chain}
-use Rattle.walk.proofs.Options.{missing-image, missing-some}
 use Rattle.walk.proofs.TrialFollows.{trial-follows}
 use Rattle.walk.proofs.Paths.{heaviest-greatest}
 use Rattle.walk.proofs.ChainLaws.{one-made}

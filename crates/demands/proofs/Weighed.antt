@@ -12,8 +12,8 @@ use Rattle.algebra.specs.Value.{value}
 use Rattle.algebra.specs.declared.Basis.{Basis}
 use Rattle.algebra.specs.declared.Parity.{Parity}
 use Rattle.number.specs.Limits.{scaleLimit}
+use Rattle.number.specs.Options.{image}
 use Rattle.counts.specs.declared.choice.SplitStrategy.{SplitStrategy}
-use Rattle.walk.specs.Options.{image}
 use Rattle.walk.specs.Trial.{orZero}
 use Rattle.walk.specs.Values.{Value}
 use Rattle.walk.specs.Paths.{heaviest}

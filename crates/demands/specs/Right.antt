@@ -14,10 +14,10 @@ use Rattle.algebra.specs.IsRemainder.{IsRemainder}
 use Rattle.algebra.specs.Transform.{inputOf, outputOf}
 use Rattle.algebra.specs.declared.Basis.{Basis}
 use Rattle.algebra.specs.declared.Parity.{Parity}
+use Rattle.number.specs.Options.{_then_}
 use Rattle.counts.specs.declared.choice.SplitStrategy.{SplitStrategy}
 use Rattle.lists.specs.Lists.{listsOf}
 use Rattle.walk.specs.Limits.{modulusLimit}
-use Rattle.walk.specs.Options.{_then_}
 use Rattle.walk.specs.Rules.{exactRules}
 use Rattle.walk.specs.Walk.{walkOf}
 use Rattle.walk.specs.Lent.{exactWalk}

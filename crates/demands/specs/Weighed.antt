@@ -9,8 +9,8 @@ use lib.IntN.{ℤ}
 use Rattle.algebra.specs.declared.Basis.{Basis}
 use Rattle.algebra.specs.declared.Parity.{Parity}
 use Rattle.number.specs.Limits.{scaleLimit}
+use Rattle.number.specs.Options.{_then_, image}
 use Rattle.counts.specs.declared.choice.SplitStrategy.{SplitStrategy}
-use Rattle.walk.specs.Options.{_then_, image}
 use Rattle.walk.specs.Walk.{walkOf}
 use Rattle.walk.specs.Trial.{orZero}
 use Rattle.walk.specs.WalksHeld.{numbered}

@@ -4,8 +4,8 @@ use mathlib.Core.Bool.{Bool, true, false}
 use mathlib.Core.Option.{Option, some, none}
 use Prim.Native.Nat.{ℕ}
 use native.Mathlib.Omega.{arith}
-use Rattle.walk.specs.Options.{_then_, when}
-use Rattle.walk.proofs.Options.{same-some}
+use Rattle.number.specs.Options.{_then_, when}
+use Rattle.number.proofs.Options.{same-some}
 
 pub data All {X : Type 0} (P : X → Type 0) : Option X → Type 0 where
   nothing : All P none

@@ -13,8 +13,9 @@ use Rattle.algebra.specs.declared.Basis.{Basis}
 use Rattle.algebra.specs.declared.Basis.the-variants.{Monomial, Chebyshev}
 use Rattle.algebra.specs.declared.Parity.{Parity}
 use Rattle.number.specs.Split.{splitOf}
+use Rattle.number.specs.Options.{_then_, image}
+use Rattle.number.proofs.Options.{then-image, when-image, missing-image}
 use Rattle.walk.specs.Limits.{waitingLimit}
-use Rattle.walk.specs.Options.{_then_, image}
 use Rattle.walk.specs.Kinds.{Kind, make, load, combine, unknown, kindOf}
 use Rattle.walk.specs.Rules.{Rules}
 use Rattle.walk.specs.State.{Powers, Lists, State}
@@ -26,7 +27,6 @@ use Rattle.walk.specs.Lent.{lentSteps, lentLists, countsFit, boundsRise,
 use Rattle.walk.specs.CarryLaw.{TakesRules, powersBy, stateBy, CarryLaw}
 use Rattle.walk.specs.declared.plan.Step.{Step}
 use Rattle.walk.specs.declared.plan.Head.{Head}
-use Rattle.walk.proofs.Options.{then-image, when-image, missing-image}
 
 -- one more value
 push-image : {A B : Type 0} (f : A → B) (waiting : List A) (v : A) → pushOf (map f waiting) (f v) ≡ image (map f) (pushOf waiting v)

@@ -10,7 +10,7 @@ use borrow.Author.Tests.{lt-ltb, le-ltb}
 use lib.IntN.{ℤ, pos}
 use Rattle.number.specs.Limits.{scaleLimit}
 use Rattle.number.specs.Refusal.{unlessRefused}
-use Rattle.walk.specs.Options.{image}
+use Rattle.number.specs.Options.{image}
 use Rattle.walk.specs.Lent.{lentWalk}
 use Rattle.walk.specs.Values.{Value}
 use Rattle.walk.specs.Paths.{heaviest}

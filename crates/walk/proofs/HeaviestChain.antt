@@ -7,7 +7,8 @@ use Prim.Native.Nat.{ℕ, _*_, _≤_}
 use native.Mathlib.Omega.{arith}
 use lib.IntN.{ℤ, pos}
 use Rattle.number.specs.Limits.{scaleLimit}
-use Rattle.walk.specs.Options.{missing}
+use Rattle.number.specs.Options.{missing}
+use Rattle.number.proofs.Options.{missing-none, IsThere, missing-some}
 use Rattle.walk.specs.Rules.{exactRules}
 use Rattle.walk.specs.Lent.{exactWalk}
 use Rattle.walk.specs.Values.{Value}
@@ -15,7 +16,6 @@ use Rattle.walk.specs.MadeRules.{valueMaking, madeRules}
 use Rattle.walk.specs.Chain.{noChain, answerMade, chainOf}
 use Rattle.walk.specs.HeaviestChain.{GreatestOfAnswer, HeaviestChain}
 use Rattle.walk.specs.declared.plan.Head.{Head}
-use Rattle.walk.proofs.Options.{missing-none, IsThere, missing-some}
 use Rattle.walk.proofs.RunsAlike.{runs-alike}
 use Rattle.walk.proofs.Paths.{heaviest-greatest}
 use Rattle.walk.proofs.WeightBound.{weight-bound}

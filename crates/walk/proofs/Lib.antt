@@ -1,4 +1,3 @@
-pub mod Options
 mod Modular
 mod ArithmeticLaws
 mod SignedParts

@@ -11,7 +11,8 @@ use borrow.Author.Tests.{not-true, not-false}
 use lib.ListN.{getD, replicate}
 use Rattle.algebra.specs.declared.Basis.{Basis}
 use Rattle.algebra.specs.declared.Parity.{Parity}
-use Rattle.walk.specs.Options.{_then_, when}
+use Rattle.number.specs.Options.{_then_, when}
+use Rattle.number.proofs.Options.{then-alike, then-assoc}
 use Rattle.walk.specs.Rules.{Rules}
 use Rattle.walk.specs.State.{Powers, Lists, State}
 use Rattle.walk.specs.Make.{firstPowers}
@@ -21,7 +22,6 @@ use Rattle.walk.specs.inside.Arrays.{powersOf, firstNumbers, firstMarks}
 use Rattle.walk.specs.inside.Taken.{stateOf, Taken}
 use Rattle.walk.specs.declared.plan.Step.{Step}
 use Rattle.walk.specs.declared.waiting.Turn.{Turn}
-use Rattle.walk.proofs.Options.{then-alike, then-assoc}
 
 -- steps after steps
 pub run-then : {A : Type 0} (𝓡 : Rules A) (parity : Parity) (basis : Basis) (lists : Lists) (steps later : List Step) (state : State A)

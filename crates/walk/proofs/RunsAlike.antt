@@ -4,13 +4,13 @@ use mathlib.Core.Path.{_≡_, refl, sym, _∙_, ap}
 use mathlib.Core.List.{List}
 use Prim.Native.Nat.{ℕ}
 use lib.IntN.{ℤ}
-use Rattle.walk.specs.Options.{missing}
+use Rattle.number.specs.Options.{missing}
+use Rattle.number.proofs.Options.{missing-image}
 use Rattle.walk.specs.Rules.{Rules}
 use Rattle.walk.specs.Lent.{lentWalk}
 use Rattle.walk.specs.CarryLaw.{TakesRules}
 use Rattle.walk.specs.RunsAlike.{RunsAlike}
 use Rattle.walk.specs.declared.plan.Head.{Head}
-use Rattle.walk.proofs.Options.{missing-image}
 use Rattle.walk.proofs.CarryLaw.{carry-law}
 
 -- the rules over the one value

@@ -19,9 +19,9 @@ use Rattle.algebra.specs.declared.Parity.{Parity}
 use Rattle.algebra.specs.declared.PolynomialInputTransform.{PolynomialInputTransform}
 use Rattle.number.specs.Limits.{planLimit}
 use Rattle.number.specs.Split.{splitOf}
+use Rattle.number.specs.Options.{_then_, missing}
 use Rattle.number.proofs.BothHold.{and-left, and-right}
 use Rattle.walk.specs.Limits.{waitingLimit}
-use Rattle.walk.specs.Options.{_then_, missing}
 use Rattle.walk.specs.Kinds.{Kind, make, load, combine, unknown, kindOf}
 use Rattle.walk.specs.Rules.{Rules}
 use Rattle.walk.specs.State.{Powers, Lists, State}

@@ -8,7 +8,8 @@ use borrow.Author.Tests.{eq-eqb, ne-eqb}
 use lib.IntN.{ℤ}
 use Rattle.algebra.specs.declared.Basis.{Basis}
 use Rattle.algebra.specs.declared.Parity.{Parity}
-use Rattle.walk.specs.Options.{_then_, when}
+use Rattle.number.specs.Options.{_then_, when}
+use Rattle.number.proofs.Options.{lift}
 use Rattle.walk.specs.Kinds.{combine, kindOf}
 use Rattle.walk.specs.Rules.{Rules}
 use Rattle.walk.specs.State.{Powers, Lists, State}
@@ -20,7 +21,6 @@ use Rattle.walk.specs.inside.Arrays.{powersOf}
 use Rattle.walk.specs.inside.Waits.{waitingIn, Waits}
 use Rattle.walk.specs.inside.Taken.{Taken}
 use Rattle.walk.specs.declared.waiting.Turn.{Turn}
-use Rattle.walk.proofs.Options.{lift}
 
 -- a load, by what is found
 module _ (𝓡 : Rules ℕ) (parity : Parity) (powers : Powers ℕ) (lists : Lists) (waiting : List ℕ) (i : ℕ) where

@@ -11,11 +11,11 @@ use Rattle.algebra.specs.Allowed.{allows}
 use Rattle.algebra.specs.declared.Parity.{Parity}
 use Rattle.algebra.specs.declared.PolynomialInputTransform.{PolynomialInputTransform}
 use Rattle.algebra.specs.declared.PolynomialInputTransform.the-variants.{Identity, Square, SquareTimesInput, ChebyshevT2, ChebyshevT2TimesInput}
+use Rattle.number.proofs.Options.{same-some, then-some}
 use Rattle.walk.specs.Rules.{Rules}
 use Rattle.walk.specs.State.{Powers}
 use Rattle.walk.specs.Load.{placedIf, addPlace, sumFrom}
 use Rattle.walk.specs.Uses.{usedIf, placesUsed}
-use Rattle.walk.proofs.Options.{same-some, then-some}
 use Rattle.walk.specs.Values.{Value}
 use Rattle.walk.specs.Paths.{heaviest}
 use Rattle.walk.specs.MadeRules.{valueMaking, placeMade, inputMade, outputMade, madeRules}

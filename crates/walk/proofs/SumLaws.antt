@@ -10,7 +10,7 @@ use lib.ListN.{length, getD, drop, drop-of-length-le}
 use lib.Seq.{drop-cons}
 use Rattle.algebra.specs.Allowed.{allows}
 use Rattle.algebra.specs.declared.Parity.{Parity}
-use Rattle.walk.specs.Options.{_then_}
+use Rattle.number.specs.Options.{_then_}
 use Rattle.walk.specs.Rules.{Rules}
 use Rattle.walk.specs.State.{Powers}
 use Rattle.walk.specs.Load.{addPlace, sumFrom}

@@ -14,7 +14,6 @@ use Rattle.algebra.specs.declared.PolynomialInputTransform.{PolynomialInputTran
 use Rattle.algebra.specs.declared.PolynomialInputTransform.the-variants.{Identity, Square, SquareTimesInput, ChebyshevT2, ChebyshevT2TimesInput}
 use Rattle.number.specs.Refusal.{unlessRefused}
 use Rattle.walk.specs.Limits.{modulusLimit}
-use Rattle.walk.specs.Options.{image}
 use Rattle.walk.specs.Rules.{rulesOver, exactRules, trialRules}
 use Rattle.walk.specs.Lent.{exactWalk}
 use Rattle.walk.specs.Trial.{orZero, noTrial, trialWalk, trialRefusal, trialOf}
@@ -24,6 +23,7 @@ use Rattle.walk.specs.declared.plan.Head.{Head}
 use Rattle.walk.specs.declared.call.Trial.{Trial}
 use Rattle.algebra.proofs.Remainders.{rem-lt}
 use Rattle.algebra.proofs.Homomorphism.{Homomorphism, hom-double, remainder-homomorphism}
+use Rattle.number.specs.Options.{image}
 use Rattle.walk.proofs.CarryLaw.{carry-law}
 
 -- a map that keeps the operations takes the rules over them

@@ -16,8 +16,9 @@ use Rattle.algebra.specs.declared.Basis.the-variants.{Monomial, Chebyshev}
 use Rattle.algebra.specs.declared.Parity.{Parity}
 use Rattle.number.specs.Limits.{planLimit}
 use Rattle.number.specs.Split.{splitOf}
+use Rattle.number.specs.Options.{_then_, missing}
+use Rattle.number.proofs.Options.{then-assoc, missing-then, missing-when}
 use Rattle.walk.specs.Limits.{waitingLimit}
-use Rattle.walk.specs.Options.{_then_, missing}
 use Rattle.walk.specs.Kinds.{Kind, make, load, combine, unknown, kindOf}
 use Rattle.walk.specs.Rules.{Rules}
 use Rattle.walk.specs.State.{Powers, Lists, State}
@@ -29,7 +30,6 @@ use Rattle.walk.specs.Lent.{lentSteps, lentLists, countsFit, boundsRise,
 use Rattle.walk.specs.Uses.{partsUsed, usedIf, placesUsed, listUses, usesBy}
 use Rattle.walk.specs.Unrunnable.{anyHolds, anyMissing, failsAt, endReason, reasonsBy, stops, unrunnable, RefusedForReasons}
 use Rattle.walk.specs.declared.plan.Step.{Step}
-use Rattle.walk.proofs.Options.{then-assoc, missing-then, missing-when}
 
 -- ---- tests
 

@@ -16,7 +16,8 @@ use Rattle.algebra.specs.declared.Basis.{Basis}
 use Rattle.algebra.specs.declared.Basis.the-variants.{Monomial, Chebyshev}
 use Rattle.algebra.specs.declared.Parity.{Parity}
 use Rattle.number.specs.Split.{splitOf}
-use Rattle.walk.specs.Options.{_then_, when, missing, image}
+use Rattle.number.specs.Options.{_then_, when, missing, image}
+use Rattle.number.proofs.Options.{then-image, image-then, when-image, when-fails, then-alike, same-some, then-some, when-some, CameFrom, came-from}
 use Rattle.walk.specs.Kinds.{Kind, make, load, combine, unknown, kindOf}
 use Rattle.walk.specs.Rules.{Rules}
 use Rattle.walk.specs.State.{Powers, Lists, State, withPowers, withWaiting}
@@ -28,7 +29,6 @@ use Rattle.walk.specs.Uses.{partsUsed, usedIf, placesUsed, listUses, use
 use Rattle.walk.specs.UsesMade.{isAmong}
 use Rattle.walk.specs.UnusedPower.{NoneUses, UnusedLeftOut}
 use Rattle.walk.specs.declared.plan.Step.{Step}
-use Rattle.walk.proofs.Options.{then-image, image-then, when-image, when-fails, then-alike, same-some, then-some, when-some, CameFrom, came-from}
 use Rattle.walk.proofs.RunLaws.{run-then}
 use Rattle.walk.proofs.UsesMade.{left-false, right-false}
 

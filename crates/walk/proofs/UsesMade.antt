@@ -12,7 +12,8 @@ use lib.Dec.{eqb}
 use Rattle.algebra.specs.declared.Basis.{Basis}
 use Rattle.algebra.specs.declared.Parity.{Parity}
 use Rattle.number.specs.Split.{splitOf}
-use Rattle.walk.specs.Options.{_then_, missing}
+use Rattle.number.specs.Options.{_then_, missing}
+use Rattle.number.proofs.Options.{same-some, then-some, when-some}
 use Rattle.walk.specs.Kinds.{Kind, make, load, combine, unknown, kindOf}
 use Rattle.walk.specs.Rules.{Rules}
 use Rattle.walk.specs.State.{Powers, Lists, State}
@@ -24,7 +25,6 @@ use Rattle.walk.specs.Uses.{usesOf}
 use Rattle.walk.specs.Unrunnable.{anyHolds, anyMissing, reasonsBy}
 use Rattle.walk.specs.UsesMade.{isAmong, allAmong, madeBy, madeAfter, UsesMade, WalksUseMade}
 use Rattle.walk.specs.declared.plan.Step.{Step}
-use Rattle.walk.proofs.Options.{same-some, then-some, when-some}
 use Rattle.walk.proofs.Unrunnable.{act-missing}
 
 -- the powers that are there are among those made

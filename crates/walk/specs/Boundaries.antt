@@ -6,7 +6,7 @@ use Prim.Native.Nat.{ℕ, zero, suc, _-_}
 use lib.Dec.{leb, ltb}
 use lib.IntN.{ℤ}
 use lib.ListN.{length, take, drop, getD}
-use Rattle.walk.specs.Options.{when}
+use Rattle.number.specs.Options.{when}
 use Rattle.walk.specs.State.{Lists}
 
 -- the boundaries rise strictly from a place, and pass no other

@@ -7,7 +7,7 @@ use lib.IntN.{ℤ}
 use Rattle.algebra.specs.declared.Basis.{Basis}
 use Rattle.algebra.specs.declared.Parity.{Parity}
 use Rattle.algebra.specs.declared.PolynomialInputTransform.{PolynomialInputTransform}
-use Rattle.walk.specs.Options.{image}
+use Rattle.number.specs.Options.{image}
 use Rattle.walk.specs.Rules.{Rules}
 use Rattle.walk.specs.State.{Powers, Lists, State}
 use Rattle.walk.specs.Walk.{runOf}

@@ -5,7 +5,7 @@ use Prim.Native.Nat.{ℕ}
 use lib.IntN.{ℤ, pos}
 use Rattle.number.specs.Refusal.{Test, firstRefusal, unlessRefused}
 use Rattle.number.specs.Tests.{tooWide}
-use Rattle.walk.specs.Options.{image}
+use Rattle.number.specs.Options.{image}
 use Rattle.walk.specs.Lent.{lentWalk}
 use Rattle.walk.specs.Trial.{cannotRun, orZero}
 use Rattle.walk.specs.Values.{Value}

@@ -3,7 +3,7 @@ use mathlib.Core.Bool.{Bool}
 use mathlib.Core.List.{List, [], _∷_}
 use mathlib.Core.Option.{Option, some, none}
 use Prim.Native.Nat.{ℕ}
-use Rattle.walk.specs.Options.{_then_}
+use Rattle.number.specs.Options.{_then_}
 use Rattle.walk.specs.Rules.{Rules}
 use Rattle.walk.specs.State.{Powers}
 

@@ -6,7 +6,7 @@ use Prim.Native.Nat.{ℕ, zero, suc, _+_, _*_, _/_}
 use lib.Dec.{leb}
 use lib.IntN.{ℤ}
 use lib.ListN.{length, take, getD}
-use Rattle.walk.specs.Options.{_then_, when}
+use Rattle.number.specs.Options.{_then_, when}
 use Rattle.walk.specs.Rules.{Rules, exactRules}
 use Rattle.walk.specs.State.{Lists}
 use Rattle.walk.specs.Walk.{walkOf}

@@ -1,5 +1,4 @@
 pub mod Limits
-pub mod Options
 pub mod Kinds
 pub mod Rules
 pub mod State

@@ -9,8 +9,8 @@ use lib.IntN.{ℤ}
 use lib.ListN.{length}
 use Rattle.algebra.specs.Allowed.{allows}
 use Rattle.algebra.specs.declared.Parity.{Parity}
+use Rattle.number.specs.Options.{_then_, when}
 use Rattle.walk.specs.Limits.{waitingLimit}
-use Rattle.walk.specs.Options.{_then_, when}
 use Rattle.walk.specs.Rules.{Rules}
 use Rattle.walk.specs.State.{Powers, Lists}
 

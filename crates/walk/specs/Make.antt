@@ -7,7 +7,7 @@ use Rattle.algebra.specs.declared.Basis.{Basis}
 use Rattle.algebra.specs.declared.Basis.the-variants.{Monomial, Chebyshev}
 use Rattle.number.specs.Limits.{planLimit}
 use Rattle.number.specs.Split.{splitOf}
-use Rattle.walk.specs.Options.{_then_, when, missing}
+use Rattle.number.specs.Options.{_then_, when, missing}
 use Rattle.walk.specs.Rules.{Rules}
 use Rattle.walk.specs.State.{Powers}
 

@@ -3,7 +3,7 @@ use mathlib.Core.Path.{_≡_}
 use mathlib.Core.List.{List}
 use Prim.Native.Nat.{ℕ}
 use lib.IntN.{ℤ}
-use Rattle.walk.specs.Options.{missing}
+use Rattle.number.specs.Options.{missing}
 use Rattle.walk.specs.Rules.{Rules}
 use Rattle.walk.specs.Lent.{lentWalk}
 use Rattle.walk.specs.declared.plan.Head.{Head}

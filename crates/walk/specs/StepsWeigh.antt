@@ -8,7 +8,7 @@ use lib.IntN.{ℤ}
 use Rattle.algebra.specs.declared.Parity.{Parity}
 use Rattle.algebra.specs.declared.PolynomialInputTransform.{PolynomialInputTransform}
 use Rattle.algebra.specs.declared.PolynomialInputTransform.the-variants.{Identity, Square, SquareTimesInput, ChebyshevT2, ChebyshevT2TimesInput}
-use Rattle.walk.specs.Options.{image}
+use Rattle.number.specs.Options.{image}
 use Rattle.walk.specs.Rules.{Rules}
 use Rattle.walk.specs.State.{Powers}
 use Rattle.walk.specs.Load.{sumFrom}

@@ -6,8 +6,8 @@ use Prim.Native.Nat.{ℕ}
 use lib.Dec.{ltb}
 use lib.IntN.{ℤ}
 use Rattle.number.specs.Refusal.{Test, firstRefusal, unlessRefused}
+use Rattle.number.specs.Options.{missing}
 use Rattle.walk.specs.Limits.{modulusLimit}
-use Rattle.walk.specs.Options.{missing}
 use Rattle.walk.specs.Rules.{trialRules}
 use Rattle.walk.specs.Lent.{lentWalk}
 use Rattle.walk.specs.declared.plan.Head.{Head}

@@ -5,8 +5,8 @@ use mathlib.Core.Option.{some, none}
 use Prim.Native.Nat.{ℕ, _≤_, _<_}
 use lib.IntN.{ℤ}
 use Rattle.algebra.specs.Remainder.{rem}
+use Rattle.number.specs.Options.{image}
 use Rattle.walk.specs.Limits.{modulusLimit}
-use Rattle.walk.specs.Options.{image}
 use Rattle.walk.specs.Lent.{exactWalk}
 use Rattle.walk.specs.Trial.{noTrial, trialWalk, trialOf}
 use Rattle.walk.specs.declared.plan.Head.{Head}

@@ -11,8 +11,8 @@ use lib.ListN.{length}
 use Rattle.algebra.specs.declared.Basis.{Basis}
 use Rattle.algebra.specs.declared.Parity.{Parity}
 use Rattle.number.specs.Limits.{planLimit}
+use Rattle.number.specs.Options.{missing}
 use Rattle.walk.specs.Limits.{waitingLimit}
-use Rattle.walk.specs.Options.{missing}
 use Rattle.walk.specs.Kinds.{Kind, make, load, combine, unknown, kindOf}
 use Rattle.walk.specs.Rules.{Rules}
 use Rattle.walk.specs.State.{Powers, Lists, State}

@@ -7,7 +7,7 @@ use Prim.Native.Nat.{ℕ, _<_}
 use lib.Dec.{ltb}
 use lib.IntN.{ℤ}
 use lib.ListN.{length, getD}
-use Rattle.walk.specs.Options.{_then_, when}
+use Rattle.number.specs.Options.{_then_, when}
 use Rattle.walk.specs.Rules.{Rules}
 use Rattle.walk.specs.State.{Lists}
 use Rattle.walk.specs.Walk.{walkOf}

@@ -12,7 +12,7 @@ ghost use mathlib.Core.Path.{_≡_};
 ghost use mathlib.Core.Option.{some};
 ghost use Rattle.number.specs.Limits.{countLimit};
 ghost use Rattle.number.specs.Split.{splitOf};
-ghost use Rattle.walk.specs.Options.{when};
+ghost use Rattle.number.specs.Options.{when};
 ghost use Rattle.walk.specs.Make.{isMakeable, powerFrom, makeOf};
 ghost use Rattle.walk.specs.inside.Arithmetic.{rulesOf, Usable};
 ghost use Rattle.walk.specs.inside.Arrays.{found, powersOf, firstNumbers, firstMarks, FoundPower, FoundMark};

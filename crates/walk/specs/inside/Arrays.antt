@@ -6,7 +6,7 @@ use mathlib.Core.Option.{Option, some, none}
 use Prim.Native.Nat.{ℕ}
 use lib.ListN.{length, getD, set, replicate}
 use Rattle.number.specs.Limits.{countLimit}
-use Rattle.walk.specs.Options.{when}
+use Rattle.number.specs.Options.{when}
 use Rattle.walk.specs.State.{Powers}
 use Rattle.walk.specs.declared.powers.Found.{Found}
 use Rattle.walk.specs.declared.powers.Found.the-variants.{Number, Missing}

@@ -6,7 +6,7 @@ use mathlib.Core.Option.{Option, some}
 use Prim.Native.Nat.{ℕ}
 use lib.IntN.{ℤ}
 use lib.ListN.{length}
-use Rattle.walk.specs.Options.{when}
+use Rattle.number.specs.Options.{when}
 use Rattle.walk.specs.State.{State}
 use Rattle.walk.specs.Boundaries.{rises}
 use Rattle.walk.specs.inside.Arithmetic.{Usable}

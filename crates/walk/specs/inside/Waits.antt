@@ -4,8 +4,8 @@ use mathlib.Core.List.{List, [], _∷_}
 use mathlib.Core.Option.{Option, some}
 use Prim.Native.Nat.{ℕ, zero, suc, _≤_}
 use lib.ListN.{length, getD}
+use Rattle.number.specs.Options.{when}
 use Rattle.walk.specs.Limits.{waitingLimit}
-use Rattle.walk.specs.Options.{when}
 use Rattle.walk.specs.declared.waiting.Waiting.{Waiting}
 use Rattle.walk.specs.declared.waiting.Turn.{Turn}
 

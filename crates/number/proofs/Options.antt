@@ -4,7 +4,7 @@ use mathlib.Core.Bool.{Bool, true, false, not, _||_, _&&_}
 use mathlib.Core.Option.{Option, some, none}
 use Prim.Native.Nat.{ℕ}
 use native.Mathlib.Omega.{arith}
-use Rattle.walk.specs.Options.{_then_, when, missing, image}
+use Rattle.number.specs.Options.{_then_, when, missing, image}
 
 pub then-image : {X X′ Y Y′ : Type 0} (f : X → X′) (h : Y → Y′) (o : Option X) (o′ : Option X′) (g : X → Option Y) (g′ : X′ → Option Y′)
     → o′ ≡ image f o → ((v : X) → g′ (f v) ≡ image h (g v)) → (o′ then g′) ≡ image h (o then g)
@@ -69,6 +69,10 @@ then-some none f r e = let same : _≡_ {A = ℕ} 0 1 = cc in absurd (omega arit
 pub when-some : {X : Type 0} (t : Bool) (o : Option X) (r : X) → when t o ≡ some r → o ≡ some r
 when-some true o r e = e
 when-some false o r e = let same : _≡_ {A = ℕ} 0 1 = cc in absurd (omega arith)
+
+pub when-holds : {X : Type 0} (t : Bool) (o : Option X) (r : X) → when t o ≡ some r → t ≡ true
+when-holds true o r e = refl
+when-holds false o r e = let same : _≡_ {A = ℕ} 0 1 = cc in absurd (omega arith)
 
 -- ---- whether an answer is there
 

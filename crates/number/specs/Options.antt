@@ -1,4 +1,5 @@
--- What may not be there. A step that can't be taken leaves `none`, and so does the walk: that is refusal 24.
+-- What may not be there. A step that can't be taken leaves `none`, and then so does the walk: refusal 24. A cut that can't be undone leaves `none`, and
+-- then so does rebuilding: refusal 34.
 use mathlib.Core.Bool.{Bool, true, false}
 use mathlib.Core.Option.{Option, some, none}
 
