@@ -3,7 +3,7 @@
  * Each function is proved to answer, and to leave in its buffers, what crates/exports/specs says, for every input. docs/RULES.md has the rules
  * in words. Link with target/staticlib/libexports.a, which `rt staticlib exports` writes (x86-64 Linux).
  *
- * "Undefined reference to firrozun_layout_8" at linking says that the library is older or newer than this header, and has other structs or arguments.
+ * "Undefined reference to firrozun_layout_9" at linking says that the library is older or newer than this header, and has other structs or arguments.
  * Build it anew: run `rt staticlib exports` in the repository that this header is from, and link with what it writes.
  *
  * Kinds go by number (FIRROZUN_MONOMIAL and so on). A number that is no kind's is refusal 43, ahead of every other test.
@@ -21,7 +21,7 @@
 #include <stddef.h>
 #include <stdint.h>
 
-#define FIRROZUN_VERSION "0.7.0"
+#define FIRROZUN_VERSION "0.8.0"
 
 #ifdef __cplusplus
 extern "C" {
@@ -29,10 +29,10 @@ extern "C" {
 
 /* ---- the layouts */
 
-/* The number of the layouts, 8, which stands in the name too: it is raised with each change of a struct or of a function's arguments. The pointer
+/* The number of the layouts, 9, which stands in the name too: it is raised with each change of a struct or of a function's arguments. The pointer
  * behind it makes every program that includes this header ask the linker for this name, so that it does not link with a library of other layouts.
  * The attribute retain keeps the pointer with --gc-sections too; gcc has it from 11 on, and clang from 13 on. */
-uint32_t firrozun_layout_8(void);
+uint32_t firrozun_layout_9(void);
 
 #define FIRROZUN_KEPT __attribute__((used))
 #ifdef __has_attribute
@@ -41,7 +41,7 @@ uint32_t firrozun_layout_8(void);
 #define FIRROZUN_KEPT __attribute__((used, retain))
 #endif
 #endif
-FIRROZUN_KEPT static uint32_t (*const firrozun_layout)(void) = firrozun_layout_8;
+FIRROZUN_KEPT static uint32_t (*const firrozun_layout)(void) = firrozun_layout_9;
 #undef FIRROZUN_KEPT
 
 /* ---- kinds */
@@ -99,6 +99,8 @@ FIRROZUN_KEPT static uint32_t (*const firrozun_layout)(void) = firrozun_layout_8
 #define FIRROZUN_REFUSAL_STEP_BUFFER 23        /* the step buffer has fewer than four places for each step */
 #define FIRROZUN_REFUSAL_UNWALKABLE 24         /* the plan that is lent cannot be walked */
 #define FIRROZUN_REFUSAL_BUDGET 31             /* no degree from 1 to 4,095 has bits within the budget */
+#define FIRROZUN_REFUSAL_OTHER_SETTINGS 33     /* base or list lengths are not those of the settings, or lists or boundaries end too early */
+#define FIRROZUN_REFUSAL_NO_POLYNOMIAL 34      /* no whole polynomial has the lists: a doubled coefficient is odd, or a rebuilt one is beyond 64 bits */
 #define FIRROZUN_REFUSAL_UNKNOWN_KIND 43       /* a basis, parity, strategy, transform or fold goes by a number that is none of its kinds' */
 
 /* ---- room that is enough for every plan */
@@ -180,6 +182,11 @@ typedef struct {
     size_t coefficients; /* written to `out` */
     size_t lists;        /* boundaries written to `bounds` */
 } firrozun_listed;
+
+typedef struct {
+    uint8_t refusal;
+    size_t coefficients; /* written to `out`: degree + 1 */
+} firrozun_rebuilt;
 
 /* How many coefficients, lists and steps a plan has: its buffers take `coefficients`, `lists` and 4 * `steps` places. */
 typedef struct {
@@ -295,6 +302,20 @@ firrozun_listed firrozun_decompose_bsgs(uint8_t strategy, uint8_t parity, uint8_
 /* The same of doubles. Refusals 43, 2 (above 4,095), 1, 21, 22. */
 firrozun_listed firrozun_decompose_bsgs_f64(uint8_t strategy, uint8_t parity, uint8_t basis, const double *c, size_t c_len, double *out,
                                             size_t out_len, uint16_t *bounds, size_t bounds_len);
+
+/* Rebuilds the whole coefficients that were cut into lists: it is firrozun_decompose_bsgs the other way around. `lists` has the lists one after another,
+ * and `bounds` the place just past each, as firrozun_decompose_bsgs or firrozun_plan left them; degree and base are those of its answer or of the plan's
+ * head. `out` takes degree + 1 coefficients. Places of `lists` and `bounds` beyond these lists are not read.
+ * Refusals 43, 2 (above 4,095), 1, 33, 34, 21.
+ *
+ * The lists of a folded plan, whose transform is not FIRROZUN_IDENTITY, give the coefficients of the fold, with parity full as in the head. These are
+ * not the polynomial that was folded: they belong to y, which the transform makes from x.
+ *
+ * Lists that were damaged may still be those of another polynomial, which is then the answer: in the monomial basis every number is taken. A degree
+ * that is named too low may be taken, too, because places beyond its lists are not read. Nor is the parity of the coefficients tested: plan what was
+ * rebuilt to test parity and magnitudes. */
+firrozun_rebuilt firrozun_rebuild(uint8_t strategy, uint8_t parity, uint8_t basis, size_t degree, size_t base, const int64_t *lists,
+                                  size_t lists_len, const uint16_t *bounds, size_t bounds_len, int64_t *out, size_t out_len);
 
 /* ---- the sizes of a plan, the plan call, the trial walk and the heaviest chain */
 

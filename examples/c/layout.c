@@ -79,6 +79,10 @@ PLACE(firrozun_listed, base, 16);
 PLACE(firrozun_listed, coefficients, 24);
 PLACE(firrozun_listed, lists, 32);
 
+SIZE(firrozun_rebuilt, 16);
+PLACE(firrozun_rebuilt, refusal, 0);
+PLACE(firrozun_rebuilt, coefficients, 8);
+
 /* ---- a plan, its walk and its chain */
 
 SIZE(firrozun_head_interval, 32);

@@ -9,6 +9,7 @@ use std::panic::{AssertUnwindSafe, catch_unwind, set_hook, take_hook};
 use anyhow::Result;
 
 use crate::layouts::polynomial_evaluation as rust;
+use crate::rebuild;
 pub use rust::{Basis, Parity, SplitStrategy};
 
 pub const BASES: [Basis; 2] = [Basis::Monomial, Basis::Chebyshev];
@@ -415,6 +416,26 @@ impl<W: Write> Recorder<W> {
         self.end(answer, |r, ((a, b), (u, w))| r.numbers(&[a, b, u, w]));
     }
 
+    /// Coefficients rebuilt from lists. No published function answers it: the answer is given.
+    pub fn rebuild(&mut self, call: &rebuild::Call, answer: &rebuild::Rebuilt) {
+        let (basis, parity, strategy) = rebuild::settings(call.kinds).expect("letters");
+        self.begin("rebuild", Form::Bits);
+        self.setting(basis, parity, strategy);
+        self.field(call.degree);
+        self.field(call.base);
+        self.plain(&call.lists);
+        self.plain(&call.bounds);
+        self.field(call.room);
+        let (refusal, c) = match answer {
+            Ok(c) => (0, &c[..]),
+            Err(refusal) => (*refusal, &[][..]),
+        };
+        self.end(Some(()), |r, ()| {
+            r.field(refusal);
+            r.plain(c);
+        });
+    }
+
     /// A line that was written by hand.
     pub fn by_hand(&mut self, line: &str) {
         self.line.clear();
@@ -428,6 +449,12 @@ impl<W: Write> Recorder<W> {
         self.field(basis_letter(basis));
         self.field(parity_letter(parity));
         self.field(strategy_letter(strategy));
+    }
+
+    /// A list of whole numbers of any size.
+    fn plain(&mut self, list: &[impl Display]) {
+        self.field(list.len());
+        list.iter().for_each(|x| self.field(x));
     }
 
     fn lists(&mut self, lists: &[Vec<f64>]) {

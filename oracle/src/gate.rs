@@ -5,7 +5,7 @@ use std::path::Path;
 
 use crate::calls::{BASES, Basis, Form, PARITIES, Parity, STRATEGIES, SplitStrategy};
 use crate::inputs::*;
-use crate::{Rec, budgets, chains, damaged, printed, recording};
+use crate::{Rec, budgets, chains, damaged, printed, rebuilds, recording};
 
 const SEED: u64 = 1;
 const MAX_POINT: i64 = 999_999_999_999_999_999;
@@ -34,6 +34,7 @@ pub fn record(dir: &Path) {
         lists_whole(r);
         lists(r);
         folded(r);
+        rebuilds::record(r, &mut rng(14));
     });
     recording(dir, "plans.tsv", |r| {
         folded_whole(r);

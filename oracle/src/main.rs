@@ -18,6 +18,8 @@ mod large;
 mod layouts;
 mod lines;
 mod printed;
+mod rebuild;
+mod rebuilds;
 mod since;
 mod split;
 mod texts;
@@ -59,6 +61,8 @@ fn main() {
         #[cfg(feature = "both")]
         ["budgets", count, seed] => both::budgets::compare(number(count), number(seed)),
         #[cfg(feature = "both")]
+        ["rebuilds", count, seed] => both::rebuilds::compare(number(count), number(seed)),
+        #[cfg(feature = "both")]
         ["bench", rounds, seed] => bench::run(number(rounds) as usize, number(seed)),
         ["degrees", seed] => {
             since::degrees(number(seed), BufWriter::new(stdout().lock())).expect("lines")
@@ -95,6 +99,7 @@ fn usage() -> ! {
     eprintln!("       oracle chains | oracle walks LINES ANSWERS");
     eprintln!("       oracle both COUNT SEED | oracle heaviest COUNT SEED (with the feature both)");
     eprintln!("       oracle budgets COUNT SEED (with the feature both)");
+    eprintln!("       oracle rebuilds COUNT SEED (with the feature both)");
     eprintln!("       oracle bench ROUNDS SEED (with the feature both)");
     std::process::exit(2)
 }

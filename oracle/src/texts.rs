@@ -306,7 +306,7 @@ impl<'a> Steps<'a> {
 }
 
 /// The greatest power of two that is at most `d`.
-fn top(d: usize) -> usize {
+pub fn top(d: usize) -> usize {
     1 << d.ilog2()
 }
 

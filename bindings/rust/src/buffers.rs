@@ -73,6 +73,33 @@ pub struct Listed {
     pub lists: usize,
 }
 
+/// The lists of a plan, lent to be read: what a list call or a plan call left, and the two numbers of its answer.
+///
+/// ```
+/// use firrozun::buffers::Lists;
+/// use firrozun::{Basis, Parity, Plan, SplitStrategy};
+/// let plan = Plan::new(Basis::Monomial, &[1, 2, 3, 4, 5], Parity::Full, SplitStrategy::MinDepth, false)?;
+/// let lists = Lists {
+///     degree: plan.head().degree,
+///     base: plan.head().base,
+///     coefficients: plan.coefficients(),
+///     boundaries: plan.boundaries(),
+/// };
+/// assert_eq!(lists, Lists { degree: 4, base: 4, coefficients: &[1, 2, 3, 4, 5], boundaries: &[4, 5] });
+/// # Ok::<(), firrozun::Refusal>(())
+/// ```
+#[derive(Clone, Copy, Debug, PartialEq, Eq)]
+pub struct Lists<'a> {
+    /// The degree of what was listed.
+    pub degree: usize,
+    /// The base: a list has at most so many coefficients.
+    pub base: usize,
+    /// The coefficients of the lists, one list after another. Places beyond them aren't read.
+    pub coefficients: &'a [i64],
+    /// For each list the first place after it. Places beyond them aren't read.
+    pub boundaries: &'a [u16],
+}
+
 /// What an interpolation answers.
 ///
 /// ```
@@ -284,6 +311,51 @@ pub fn decompose_bsgs_into<F: Coefficient>(
         coefficients: answer.coefficients,
         lists: answer.lists,
     })
+}
+
+/// Writes the coefficients that were cut into these lists, with these settings, into `out`, and answers how many there are: it is
+/// [`decompose_bsgs_into`] the other way around. [`Plan::polynomial`](crate::Plan::polynomial) is the same of a plan.
+///
+/// The lists of a folded plan give the coefficients of the fold, with the parity `Full` of its head. These are not the polynomial that
+/// was folded: they belong to y, which the head's transform makes from x.
+///
+/// Lists that were damaged may still be those of another polynomial, which is then the answer: in the monomial basis every number is
+/// taken. A degree that is named too low may be taken, too, because places beyond its lists aren't read. Nor is the parity of the
+/// coefficients tested. Plan what was rebuilt to test parity and magnitudes.
+///
+/// Refused: 2, 1, 33, 34, 21, in this order.
+///
+/// ```
+/// use firrozun::buffers::{rebuild_into, Lists};
+/// use firrozun::{Basis, Parity, Refusal, SplitStrategy};
+/// let rebuild = |coefficients: &[i64], out: &mut [i64]| {
+///     let lists = Lists { degree: 5, base: 2, coefficients, boundaries: &[2, 4, 6] };
+///     rebuild_into(SplitStrategy::MinMult, Parity::Full, Basis::Chebyshev, lists, out)
+/// };
+/// let mut out = [0; 8];
+/// assert_eq!(rebuild(&[1, 4, 3, -4, 5, 12], &mut out), Ok(6));
+/// assert_eq!(out, [1, 2, 3, 4, 5, 6, 0, 0]);
+/// // The last number belongs to a doubled coefficient, and those are even.
+/// assert_eq!(rebuild(&[1, 4, 3, -4, 5, 13], &mut out), Err(Refusal::NoPolynomial));
+/// ```
+pub fn rebuild_into(
+    strategy: SplitStrategy,
+    parity: Parity,
+    basis: Basis,
+    lists: Lists<'_>,
+    out: &mut [i64],
+) -> Result<usize, Refusal> {
+    let answer = ffi::rebuild(
+        strategy.number(),
+        parity.number(),
+        basis.number(),
+        (lists.degree, lists.base),
+        lists.coefficients,
+        lists.boundaries,
+        out,
+    );
+    Refusal::test(answer.refusal)?;
+    Ok(answer.coefficients)
 }
 
 /// The sizes of every plan of this degree with these settings, before there are coefficients and an interval.

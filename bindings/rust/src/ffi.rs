@@ -98,6 +98,13 @@ pub struct CListed {
 
 #[repr(C)]
 #[derive(Clone, Copy, Debug, PartialEq)]
+pub struct CRebuilt {
+    pub refusal: u8,
+    pub coefficients: usize,
+}
+
+#[repr(C)]
+#[derive(Clone, Copy, Debug, PartialEq)]
 pub struct CSizes {
     pub refusal: u8,
     pub coefficients: usize,
@@ -154,7 +161,7 @@ pub struct CChain {
 }
 
 extern "C" {
-    fn firrozun_layout_8() -> u32;
+    fn firrozun_layout_9() -> u32;
     fn firrozun_split_degree(n: usize) -> CParts;
     fn firrozun_min_depth_split(degree: usize) -> CSplit;
     fn firrozun_min_mult_split(parity: u8, basis: u8, degree: usize) -> CSplit;
@@ -220,6 +227,19 @@ extern "C" {
         bounds: *mut u16,
         bounds_len: usize,
     ) -> CListed;
+    fn firrozun_rebuild(
+        strategy: u8,
+        parity: u8,
+        basis: u8,
+        degree: usize,
+        base: usize,
+        lists: *const i64,
+        lists_len: usize,
+        bounds: *const u16,
+        bounds_len: usize,
+        out: *mut i64,
+        out_len: usize,
+    ) -> CRebuilt;
     fn firrozun_plan_sizes(strategy: u8, parity: u8, basis: u8, fold: u8, degree: usize) -> CSizes;
     fn firrozun_plan(
         strategy: u8,
@@ -265,7 +285,7 @@ extern "C" {
 /// `crates/exports`. The reference has every program that links this crate ask for the name, so that a library with other layouts
 /// does not link.
 #[used]
-static LAYOUT: unsafe extern "C" fn() -> u32 = firrozun_layout_8;
+static LAYOUT: unsafe extern "C" fn() -> u32 = firrozun_layout_9;
 
 pub fn split_degree(n: usize) -> CParts {
     // SAFETY: the call takes and answers numbers alone, and is proved for every number.
@@ -377,6 +397,33 @@ calls_on!(
     fold_parity_f64 firrozun_fold_parity_f64,
     decompose_bsgs_f64 firrozun_decompose_bsgs_f64
 );
+
+pub fn rebuild(
+    strategy: u8,
+    parity: u8,
+    basis: u8,
+    (degree, base): (usize, usize),
+    lists: &[i64],
+    bounds: &[u16],
+    out: &mut [i64],
+) -> CRebuilt {
+    // SAFETY: pointers and lengths are those of three slices that live through the call; `out` is borrowed alone.
+    unsafe {
+        firrozun_rebuild(
+            strategy,
+            parity,
+            basis,
+            degree,
+            base,
+            lists.as_ptr(),
+            lists.len(),
+            bounds.as_ptr(),
+            bounds.len(),
+            out.as_mut_ptr(),
+            out.len(),
+        )
+    }
+}
 
 /// A plan's settings as the library takes them.
 #[derive(Clone, Copy)]

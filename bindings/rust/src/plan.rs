@@ -1,7 +1,9 @@
 //! A plan with memory of its own, and its steps.
 
-use crate::buffers::{heaviest_chain, plan_into, plan_sizes, trial_walk, Head, PlanBuffers};
-use crate::kinds::{Basis, Parity, SplitStrategy};
+use crate::buffers::{heaviest_chain, plan_into, plan_sizes, rebuild_into, trial_walk};
+use crate::buffers::{Head, Lists, PlanBuffers};
+use crate::kinds::{Basis, Parity, PolynomialInputTransform, SplitStrategy};
+use crate::polynomial::Polynomial;
 use crate::refusal::Refusal;
 
 /// A plan: lists of coefficients, and the steps that make the polynomial's value from them and from x.
@@ -184,6 +186,75 @@ impl Plan {
         })
     }
 
+    /// The polynomial that was planned, rebuilt from the lists: planned with the head's strategy, it gives this plan again.
+    ///
+    /// It is `None` for a folded plan, whose lists are those of another polynomial: [`folded_polynomial`](Self::folded_polynomial) gives
+    /// that one. It is `None`, too, for a plan on an interval that a `Polynomial<i64>` can't have, because an end isn't a whole number of
+    /// 64 bits: [`rebuild_into`] gives the coefficients on every interval. An end above 2^53 comes back as the nearest f64, which the head
+    /// has, and −0 as 0.
+    ///
+    /// ```
+    /// use firrozun::{Basis, Parity, Plan, Polynomial, SplitStrategy};
+    /// let strategy = SplitStrategy::MinMult;
+    /// let curve = Polynomial::new(Basis::Chebyshev, vec![1, 2, 3, 4, 5, 6]).with_interval(0, 4);
+    /// let plan = curve.plan(strategy)?;
+    /// assert_eq!(plan.coefficients(), [1, 4, 3, -4, 5, 12]);
+    /// assert_eq!(plan.polynomial(), Some(curve));
+    ///
+    /// let odd = Polynomial::new(Basis::Chebyshev, vec![0, 1, 0, 2]);
+    /// assert_eq!(odd.plan_folded(strategy)?.polynomial(), None);
+    /// let plan = Plan::on_interval(Basis::Monomial, &[1, 2], Parity::Full, strategy, false, (0.5, 2.5))?;
+    /// assert_eq!(plan.polynomial(), None);
+    /// # Ok::<(), firrozun::Refusal>(())
+    /// ```
+    pub fn polynomial(&self) -> Option<Polynomial<i64>> {
+        if self.is_folded() {
+            return None;
+        }
+        let interval = self.head.interval;
+        let (a, b) = (whole(interval.a)?, whole(interval.b)?);
+        Some(self.rebuilt()?.with_interval(a, b))
+    }
+
+    /// The fold that was planned, rebuilt from the lists of a folded plan, and what is done with its input and result: what
+    /// [`fold_parity`](Polynomial::fold_parity) answers of the polynomial that was folded. It is a polynomial in x², or in 2x² − 1 in the
+    /// Chebyshev basis, and on −1 to 1.
+    ///
+    /// It is `None` for a plan that isn't folded: [`polynomial`](Self::polynomial) is for those.
+    ///
+    /// ```
+    /// use firrozun::{Basis, Polynomial, SplitStrategy};
+    /// let curve = Polynomial::new(Basis::Chebyshev, vec![0, 1, 0, 2]);
+    /// let plan = curve.plan_folded(SplitStrategy::MinMult)?;
+    /// assert_eq!(plan.folded_polynomial(), Some(curve.fold_parity()?));
+    /// assert_eq!(curve.plan(SplitStrategy::MinMult)?.folded_polynomial(), None);
+    /// # Ok::<(), firrozun::Refusal>(())
+    /// ```
+    pub fn folded_polynomial(&self) -> Option<(Polynomial<i64>, PolynomialInputTransform)> {
+        if !self.is_folded() {
+            return None;
+        }
+        Some((self.rebuilt()?, self.head.transform))
+    }
+
+    fn is_folded(&self) -> bool {
+        self.head.transform != PolynomialInputTransform::Identity
+    }
+
+    /// What was planned, be it the polynomial or its fold, on −1 to 1. The lists are as the plan call left them, and so never refused.
+    fn rebuilt(&self) -> Option<Polynomial<i64>> {
+        let head = &self.head;
+        let lists = Lists {
+            degree: head.degree,
+            base: head.base,
+            coefficients: &self.coefficients,
+            boundaries: &self.boundaries,
+        };
+        let mut coeffs = vec![0; self.coefficients.len()];
+        rebuild_into(head.strategy, head.parity, head.basis, lists, &mut coeffs).ok()?;
+        Some(Polynomial::new_with_parity(head.basis, coeffs, head.parity))
+    }
+
     /// Walks the plan at a point, modulo a number: the remainder, from 0 up, of the polynomial's value there.
     ///
     /// Refused: 11 for a modulus below 2 or above 2,147,483,647.
@@ -235,6 +306,12 @@ impl Plan {
             coefficient_scale,
         )
     }
+}
+
+/// The whole number whose nearest f64 is `end`, if there is one.
+fn whole(end: f64) -> Option<i64> {
+    let number = end as i64;
+    (number as f64 == end).then_some(number)
 }
 
 /// The part of list `i` among coefficients that boundaries part.

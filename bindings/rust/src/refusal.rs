@@ -5,8 +5,8 @@ use std::fmt;
 
 /// Why a call gave no answer. A refused call has changed no buffer.
 ///
-/// 1 to 12 are said of the input, 21 to 24 of what is lent, 31 of a budget; they are the numbers of `docs/RULES.md`. The sentence says
-/// what is wrong, and what to do.
+/// 1 to 12 are said of the input, 21 to 24 of what is lent, 31 of a budget, 33 and 34 of lists; they are the numbers of `docs/RULES.md`.
+/// The sentence says what is wrong, and what to do.
 ///
 /// ```
 /// use firrozun::{split_degree, Refusal};
@@ -20,7 +20,8 @@ use std::fmt;
 /// ```
 #[derive(Clone, Copy, Debug, PartialEq, Eq, Hash)]
 pub enum Refusal {
-    /// 1: there is no coefficient or one, for a plan or lists, or the degree is 0 for [`min_depth_split`](crate::min_depth_split).
+    /// 1: there is no coefficient or one, for a plan or lists, or the degree is 0 for [`min_depth_split`](crate::min_depth_split) or
+    /// [`rebuild_into`](crate::buffers::rebuild_into).
     NoDegree,
     /// 2: the degree is above the limit of the call, mostly 4,095.
     Degree,
@@ -54,6 +55,12 @@ pub enum Refusal {
     Unwalkable,
     /// 31: no degree from 1 to 4,095 has bits within the budget of [`largest_degree`](crate::largest_degree).
     Budget,
+    /// 33: for [`rebuild_into`](crate::buffers::rebuild_into), the base or the lengths of the lists aren't those of the settings, or the
+    /// coefficients or the boundaries end too early.
+    OtherSettings,
+    /// 34: no polynomial with whole coefficients of 64 bits has the lists, because a doubled coefficient is odd or a rebuilt one is beyond
+    /// an i64.
+    NoPolynomial,
     /// 43: the number of a kind is unknown. The enums of this crate have no such number, so no safe call answers it.
     UnknownKind,
 }
@@ -63,10 +70,10 @@ impl Refusal {
     ///
     /// ```
     /// use firrozun::Refusal;
-    /// assert_eq!(Refusal::ALL.len(), 18);
+    /// assert_eq!(Refusal::ALL.len(), 20);
     /// assert!(Refusal::ALL.iter().all(|&r| Refusal::from_number(r.number()) == Some(r)));
     /// ```
-    pub const ALL: [Refusal; 18] = [
+    pub const ALL: [Refusal; 20] = [
         Self::NoDegree,
         Self::Degree,
         Self::Magnitude,
@@ -84,10 +91,12 @@ impl Refusal {
         Self::StepBuffer,
         Self::Unwalkable,
         Self::Budget,
+        Self::OtherSettings,
+        Self::NoPolynomial,
         Self::UnknownKind,
     ];
 
-    /// The number: 1 to 12, 21 to 24, 31, or 43.
+    /// The number: 1 to 12, 21 to 24, 31, 33, 34, or 43.
     ///
     /// ```
     /// assert_eq!(firrozun::Refusal::StepBuffer.number(), 23);
@@ -111,6 +120,8 @@ impl Refusal {
             Self::StepBuffer => 23,
             Self::Unwalkable => 24,
             Self::Budget => 31,
+            Self::OtherSettings => 33,
+            Self::NoPolynomial => 34,
             Self::UnknownKind => 43,
         }
     }
@@ -176,6 +187,12 @@ impl Refusal {
             }
             Self::Budget => {
                 "no degree from 1 to 4,095 has bits within the budget; give more bits, or a lower coefficient scale"
+            }
+            Self::OtherSettings => {
+                "base or list lengths are not those of the settings, or lists or boundaries end too early; give all as they were answered"
+            }
+            Self::NoPolynomial => {
+                "no whole polynomial of 64 bits has these lists; take them from an undamaged copy, with the settings that they were cut with"
             }
             Self::UnknownKind => "the number of a basis, parity, strategy, transform or fold is unknown",
         }

@@ -14,7 +14,7 @@ use Rattle.algebra.specs.declared.Parity.{Parity}
 use Rattle.number.specs.Limits.{planLimit}
 use Rattle.number.specs.Tests.{degreeOf}
 use Rattle.number.specs.Refusal.{firstRefusal, unlessRefused}
-use Rattle.number.proofs.Refusal.{first-kept, when-refused, when-accepted}
+use Rattle.number.proofs.Refusal.{first-kept, refusal-of, when-refused, when-accepted}
 use Rattle.counts.specs.declared.choice.SplitStrategy.{SplitStrategy}
 use Rattle.lists.specs.Lists.{joined}
 use Rattle.plan.specs.PlanCall.{inputTests, Accepted, earlyTests, headFor, planRefusal, planAnswer, PlanCall}
@@ -30,7 +30,7 @@ use Rattle.texts.proofs.HeldText.{held-text}
 use Rattle.texts.proofs.PartLaws.{from-first}
 use Rattle.demands.specs.Accepts.{BringsPlan}
 use Rattle.demands.specs.Right.{listsFor, stepsFor}
-use Rattle.demands.proofs.Refusals.{refusal-of, plan-made}
+use Rattle.demands.proofs.Refusals.{plan-made}
 use Rattle.demands.proofs.Right.{plans-right, holds}
 use Rattle.answers.specs.Limits.{coefficientRoom}
 use Rattle.answers.specs.LineInterval.{minusOne, plusOne}

@@ -32,7 +32,7 @@ use Rattle.number.proofs.CutSame.{cuts-same}
 use Rattle.number.proofs.EvaluateLaw.{evaluate-law}
 use Rattle.number.proofs.Exact.{exact}
 use Rattle.number.proofs.FoldSame.{folds-same}
-use Rattle.number.proofs.Refusal.{none-holds, when-accepted}
+use Rattle.number.proofs.Refusal.{none-holds, refusal-of, when-accepted}
 use Rattle.interpolation.proofs.InterpolateLaw.{interpolate-law}
 use Rattle.needed.proofs.Promises.{needed-powers}
 use Rattle.counts.specs.Choice.{splitFor}
@@ -60,7 +60,6 @@ use Rattle.plan.proofs.PlanTests.{inputs-numbered, planned-to-53}
 use Rattle.demands.specs.Accepts.{Covered}
 use Rattle.demands.specs.Equal.{Published, FloatsEqual, plannedFloats, splitCall, ListsPlan, FoldsPlan, PlansEqual}
 use Rattle.demands.proofs.Accepts.{Plannable, covered-accepted, plannable}
-use Rattle.demands.proofs.Refusals.{refusal-of}
 use Rattle.demands.proofs.Right.{from-one}
 
 -- ---- the published rules

@@ -24,4 +24,5 @@ pub mod Demands
 pub mod Sized
 pub mod Weighed
 pub mod HeadInterval
+pub mod RebuiltPlans
 pub mod Requests

@@ -3,14 +3,14 @@
 use mathlib.Core.Path.{_≡_, subst, sym, _∙_}
 use mathlib.Core.Bool.{Bool}
 use mathlib.Core.List.{List}
-use Prim.Native.Nat.{ℕ, zero, suc}
+use Prim.Native.Nat.{ℕ}
 use lib.Ieee.{Float}
 use lib.IntN.{ℤ}
 use lib.ListN.{length}
 use Rattle.algebra.specs.declared.Basis.{Basis}
 use Rattle.algebra.specs.declared.Parity.{Parity}
 use Rattle.number.specs.Interval.{changeOfBasis, Ordered}
-use Rattle.number.specs.Refusal.{Test, firstRefusal, unlessRefused}
+use Rattle.number.specs.Refusal.{Test, firstRefusal}
 use Rattle.number.proofs.Refusal.{first-of-more, first-passed}
 use Rattle.counts.specs.declared.choice.SplitStrategy.{SplitStrategy}
 use Rattle.walk.specs.declared.plan.Head.{Head}
@@ -20,15 +20,6 @@ use Rattle.plan.specs.declared.sizes.PlanSizes.{PlanSizes}
 use Rattle.plan.proofs.HeadCounts.{head-sizes}
 use Rattle.plan.proofs.PlanTests.{early-numbered, early-passed, early-accepted, early-ordered, buffers-fit, fit-passes}
 use Rattle.demands.specs.Accepts.{BringsPlan}
-
--- the refusal that an answer carries
-pub refusal-of : {X : Type 0} (k : ℕ) (accepted refused : X) (read : X → ℕ) → read accepted ≡ 0 → read refused ≡ k
-    → read (unlessRefused k accepted refused) ≡ k
-unfolding unlessRefused
-refusal-of zero accepted refused read none-is some-is = none-is
-refusal-of (suc k) accepted refused read none-is some-is = some-is
-
--- ---- the plan call's
 
 -- a head tells the sizes of its plan, whatever its interval
 pub sizes-told : (strategy : SplitStrategy) (parity : Parity) (basis : Basis) (folded : Bool) (c : List ℤ) (a b : Float)

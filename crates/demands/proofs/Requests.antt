@@ -1,11 +1,14 @@
 -- The requests that have landed are met: each statement by the theorem of its name.
 use mathlib.Core.Path.{refl}
-use Rattle.demands.specs.Requests.{BufferSizes, LastConstant, PlanChains, SplitCases, DegreeForBudget, SplitWithDistance, IntervalInHead, Requests}
+use Rattle.demands.specs.Requests.{BufferSizes, LastConstant, PlanChains, SplitCases, DegreeForBudget, SplitWithDistance, IntervalInHead}
+use Rattle.demands.specs.Requests.{BackFromLists, Requests}
 use Rattle.number.proofs.SplitDistance.{third-is-distance, parts-differ, refused-zero, split-product}
 use Rattle.counts.specs.Choice.{splitFor}
 use Rattle.counts.specs.MinDepth.{minDepth}
 use Rattle.counts.proofs.Promises.{cases-published, chosen}
 use Rattle.counts.proofs.BudgetPromises.{largest-degrees, bits-fall, none-below-scale}
+use Rattle.rebuild.proofs.Promises.{rebuilds-lists, lists-rebuilt, lists-tell}
+use Rattle.rebuild.proofs.StopsAt.{stopped-refused}
 use Rattle.walk.proofs.Paths.{heaviest-greatest}
 use Rattle.walk.proofs.StepsWeigh.{steps-weigh}
 use Rattle.walk.proofs.UnusedPower.{unused-left-out}
@@ -17,6 +20,7 @@ use Rattle.demands.proofs.Estimated.{plans-estimated, cheaper-reported}
 use Rattle.demands.proofs.StoredEarlier.{earlier-right}
 use Rattle.demands.proofs.Weighed.{stored-weighed, plans-weighed, chain-order}
 use Rattle.demands.proofs.HeadInterval.{intervals-told, unordered-refused, plans-alike}
+use Rattle.demands.proofs.RebuiltPlans.{rebuilds-plans, plans-rebuilt, rebuilt-right, plans-tell, rebuild-order}
 
 pub buffer-sizes : BufferSizes
 buffer-sizes = record { plans-sized = plans-sized; sizes-order = sizes-order }
@@ -68,6 +72,19 @@ interval-in-head = record {
   plans-alike = plans-alike;
 }
 
+pub back-from-lists : BackFromLists
+back-from-lists = record {
+  rebuilds-plans = rebuilds-plans;
+  rebuilds-lists = rebuilds-lists;
+  plans-rebuilt = plans-rebuilt;
+  lists-rebuilt = lists-rebuilt;
+  rebuilt-right = rebuilt-right;
+  plans-tell = plans-tell;
+  lists-tell = lists-tell;
+  rebuild-order = rebuild-order;
+  stopped-refused = stopped-refused;
+}
+
 pub requests : Requests
 requests = record {
   buffer-sizes = buffer-sizes;
@@ -77,4 +94,5 @@ requests = record {
   degree-for-budget = degree-for-budget;
   split-with-distance = split-with-distance;
   interval-in-head = interval-in-head;
+  back-from-lists = back-from-lists;
 }

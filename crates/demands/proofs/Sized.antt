@@ -14,7 +14,7 @@ use Rattle.algebra.specs.declared.Parity.{Parity}
 use Rattle.number.specs.Interval.{Ordered}
 use Rattle.number.specs.Refusal.{Test, firstRefusal}
 use Rattle.number.specs.Tests.{degreeOf}
-use Rattle.number.proofs.Refusal.{first-kept, when-accepted}
+use Rattle.number.proofs.Refusal.{first-kept, refusal-of, when-accepted}
 use Rattle.counts.specs.declared.choice.SplitStrategy.{SplitStrategy}
 use Rattle.plan.specs.PlanCall.{plannedParity, settingsTests, coefficientTests, inputTests, Accepted, earlyTests, bufferTests, plannedDegree}
 use Rattle.plan.specs.PlanCall.{headFor, planRefusal}
@@ -24,7 +24,7 @@ use Rattle.plan.specs.declared.sizes.PlanSizes.{PlanSizes}
 use Rattle.plan.proofs.PlanTests.{settings-accepted, planned-length, degree-planned, early-kept, early-accepted, early-ordered, early-most}
 use Rattle.demands.specs.Accepts.{BringsPlan}
 use Rattle.demands.specs.Sized.{PlansSized, SizesOrder}
-use Rattle.demands.proofs.Refusals.{refusal-of, sizes-told, lateTests, late-refusal, plan-made, made-brings}
+use Rattle.demands.proofs.Refusals.{sizes-told, lateTests, late-refusal, plan-made, made-brings}
 use Rattle.demands.proofs.Right.{plans-right}
 use Rattle.demands.proofs.Total.{refusal-is}
 

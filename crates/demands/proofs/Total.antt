@@ -25,8 +25,8 @@ use Rattle.number.specs.Split.{partsBy, partsOf, noParts, splitRefusal, splitOf
 use Rattle.number.specs.Tests.{degreeOf, noDegree, tooHigh, unordered, miscounted, outOfRange, tooWide, noRoom}
 use Rattle.number.specs.declared.fold.Folded.{Folded}
 use Rattle.number.specs.declared.split.Parts.{Parts}
+use Rattle.number.proofs.Refusal.{none-holds, numbered-append, refusals-say, refusal-of, when-refused, when-accepted}
 use Rattle.number.proofs.Options.{missing-image, missing-some}
-use Rattle.number.proofs.Refusal.{none-holds, numbered-append, refusals-say, when-refused, when-accepted}
 use Rattle.interpolation.specs.Interpolate.{coefficientsOf}
 use Rattle.interpolation.specs.InterpolateCall.{interpolateRefusal, interpolateAnswer, interpolateBuffer}
 use Rattle.interpolation.specs.declared.Interpolated.{Interpolated}
@@ -53,6 +53,9 @@ use Rattle.lists.specs.Lists.{listsOf}
 use Rattle.lists.specs.ListCall.{listTests, listRefusal, listAnswer, listCoefficients, listBoundaries}
 use Rattle.lists.specs.declared.call.Listed.{Listed}
 use Rattle.lists.proofs.Lists.{lists-in-order}
+use Rattle.rebuild.specs.RebuildCall.{coefficientsFrom, rebuildTests, rebuildRefusal, rebuildAnswer, rebuildCoefficients}
+use Rattle.rebuild.specs.declared.call.Rebuilt.{Rebuilt}
+use Rattle.rebuild.proofs.RoundTrips.{rebuilt-facts, rebuilt-size, count-is, buffer-is}
 use Rattle.walk.specs.Limits.{modulusLimit}
 use Rattle.walk.specs.Lent.{exactWalk}
 use Rattle.walk.specs.Trial.{trialTests, trialRefusal, trialOf}
@@ -70,12 +73,12 @@ use Rattle.plan.specs.PlanCall.{planAnswer, planCoefficients, planBoundaries, p
 use Rattle.plan.specs.PlanSizes.{degreeToPlan, sizesOf, noSizes, sizesRefusal, sizesCall}
 use Rattle.plan.specs.declared.call.Planned.{Planned}
 use Rattle.plan.specs.declared.sizes.PlanSizes.{PlanSizes}
-use Rattle.demands.specs.Total.{Ends, answers, refuses, ZeroHead, PlansTotal, PlansMade, PlanOrder, FoldsTotal, ListsTotal}
+use Rattle.demands.specs.Total.{Ends, answers, refuses, ZeroHead, PlansTotal, PlansMade, PlanOrder, FoldsTotal, ListsTotal, RebuildsTotal}
 use Rattle.demands.specs.Total.{TrialAnswered, TrialsTotal, ChainsTotal, InterpolationsTotal, NumbersTotal}
 use Rattle.plan.proofs.PlanTests.{settings-numbered, early-numbered}
 use Rattle.demands.proofs.Detected.{parities-detected}
 use Rattle.demands.proofs.FoldNumber.{fold-numbered}
-use Rattle.demands.proofs.Refusals.{refusal-of, lateTests, plan-made, made-brings}
+use Rattle.demands.proofs.Refusals.{lateTests, plan-made, made-brings}
 use Rattle.demands.proofs.Right.{plans-right}
 
 -- ---- a call by its tests
@@ -216,6 +219,26 @@ lists-total A numbers strategy parity basis c out bounds r out′ bounds′ call
       first-buffer = call .coefficients ∙ sym (when-refused k _ out some-test);
       second-buffer = call .boundaries ∙ sym (when-refused k _ bounds some-test);
     })
+
+-- ---- the rebuild call
+
+pub rebuilds-total : RebuildsTotal
+unfolding rebuildRefusal rebuildAnswer rebuildCoefficients coefficientsFrom
+rebuilds-total strategy parity basis degree base lists bounds out r out′ call =
+    let k = rebuildRefusal strategy parity basis degree base lists bounds out in
+    let refusal : r .refusal ≡ k = ap (λ (f : Rebuilt). f .refusal) (call .answer) ∙ refusal-of k _ _ (λ (f : Rebuilt). f .refusal) refl refl in
+    ends (rebuildTests strategy parity basis degree base lists bounds out) (r .refusal)
+    (omega arith, (omega arith, (omega arith, (omega arith, (omega arith, tt))))) refusal
+    (λ accepted. let facts = rebuilt-facts call accepted in
+    record {
+      c = facts .c;
+      rebuilt = facts .c-is;
+      count = count-is call accepted ∙ sym (rebuilt-size call accepted);
+      buffer = buffer-is call accepted;
+    })
+    (λ refused. let some-test : 0 < rebuildRefusal strategy parity basis degree base lists bounds out = rw refusal at refused in
+    let is = call .answer ∙ sym (when-refused k _ _ some-test) in
+    record { coefficients = rw is; buffer = call .coefficients ∙ sym (when-refused k _ out some-test) })
 
 -- ---- the trial walk
 

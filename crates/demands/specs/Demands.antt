@@ -14,8 +14,8 @@ use Rattle.demands.specs.MadeBefore.{PlansMadeBefore, RunsMadeBefore}
 use Rattle.demands.specs.Counted.{PlansReport, TransformCosts}
 use Rattle.demands.specs.PlainStep.{PlansPlain}
 use Rattle.demands.specs.Estimated.{PlansEstimated}
-use Rattle.demands.specs.Total.{PlansTotal, PlansMade, PlanOrder, FoldsTotal, ListsTotal, TrialsTotal, ChainsTotal, InterpolationsTotal}
-use Rattle.demands.specs.Total.{NumbersTotal}
+use Rattle.demands.specs.Total.{PlansTotal, PlansMade, PlanOrder, FoldsTotal, ListsTotal, RebuildsTotal, TrialsTotal, ChainsTotal}
+use Rattle.demands.specs.Total.{InterpolationsTotal, NumbersTotal}
 use Rattle.demands.specs.RefusedWalks.{TrialsRefused, ChainsRefused}
 use Rattle.demands.specs.Detected.{ParitiesDetected}
 use Rattle.demands.specs.Equal.{Published, FloatsEqual, PlansEqual}
@@ -33,6 +33,7 @@ pub record Total : Type 1 where
   -- "No call relies on a test by its caller." The other calls, too, end so on any arguments.
   pub folds-total : (A : Type 0) → FoldsTotal A
   pub lists-total : (A : Type 0) → ListsTotal A
+  pub rebuilds-total : RebuildsTotal
   pub trials-total : TrialsTotal
   pub chains-total : ChainsTotal
   pub interpolations-total : InterpolationsTotal

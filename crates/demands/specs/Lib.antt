@@ -17,4 +17,5 @@ pub mod Starred
 pub mod Sized
 pub mod Weighed
 pub mod HeadInterval
+pub mod RebuiltPlans
 pub mod Requests

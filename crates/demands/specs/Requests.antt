@@ -15,6 +15,8 @@ use Rattle.counts.specs.Promises.{CasesPublished, Chosen}
 use Rattle.counts.specs.BudgetPromises.{LargestDegrees, BitsFall, NoneBelowScale}
 use Rattle.counts.specs.declared.choice.SplitStrategy.{SplitStrategy}
 use Rattle.counts.specs.declared.choice.SplitStrategy.the-variants.{MinDepth}
+use Rattle.rebuild.specs.Promises.{RebuildsLists, ListsRebuilt, ListsTell}
+use Rattle.rebuild.specs.StopsAt.{StoppedRefused}
 use Rattle.walk.specs.Paths.{HeaviestGreatest}
 use Rattle.walk.specs.StepsWeigh.{StepsWeigh}
 use Rattle.walk.specs.UnusedPower.{UnusedLeftOut}
@@ -27,6 +29,7 @@ use Rattle.demands.specs.Estimated.{PlansEstimated, CheaperReported}
 use Rattle.demands.specs.StoredEarlier.{EarlierRight}
 use Rattle.demands.specs.Weighed.{StoredWeighed, PlansWeighed, ChainOrder}
 use Rattle.demands.specs.HeadInterval.{IntervalsTold, UnorderedRefused, PlansAlike}
+use Rattle.demands.specs.RebuiltPlans.{RebuildsPlans, PlansRebuilt, RebuiltRight, PlansTell, RebuildOrder}
 
 -- Q-1. Buffer sizes before the curve is there.
 pub record BufferSizes : Type 0 where
@@ -121,6 +124,24 @@ pub record IntervalInHead : Type 1 where
   -- Lists, boundaries, steps and all else in the head are the same on any interval that is not refused. The sizes of Q-1 take none.
   pub plans-alike : PlansAlike
 
+-- Q-8. Back from lists to the curve.
+pub record BackFromLists : Type 0 where
+  -- "For every polynomial accepted unfolded, rebuilding its lists gives its coefficients again": those of a plan, and those of the list call. The lists
+  -- of a folded plan give the coefficients of the fold.
+  pub rebuilds-plans : RebuildsPlans
+  pub rebuilds-lists : RebuildsLists
+  -- "for every rebuilt polynomial that the planner accepts with the same settings, listing it gives the lists."
+  pub plans-rebuilt : PlansRebuilt
+  pub lists-rebuilt : ListsRebuilt
+  -- So the lists have the value of what was rebuilt, and tell the polynomial.
+  pub rebuilt-right : RebuiltRight
+  pub plans-tell : PlansTell
+  pub lists-tell : ListsTell
+  -- "It refuses with 2 and 1, then with 33 .., then with 34 .., then with 21." That it ends so on any arguments is in specs/Total.
+  pub rebuild-order : RebuildOrder
+  -- "then with 34 when at some cut a doubled coefficient is odd or a rebuilt number is beyond i64": exactly then, and at every cut, inner ones too.
+  pub stopped-refused : StoppedRefused
+
 pub record Requests : Type 1 where
   pub buffer-sizes : BufferSizes
   pub last-constant : LastConstant
@@ -129,3 +150,4 @@ pub record Requests : Type 1 where
   pub degree-for-budget : DegreeForBudget
   pub split-with-distance : SplitWithDistance
   pub interval-in-head : IntervalInHead
+  pub back-from-lists : BackFromLists

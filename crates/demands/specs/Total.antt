@@ -44,6 +44,8 @@ use Rattle.lists.specs.Arrange.{arranged, endsOf}
 use Rattle.lists.specs.Lists.{listsOf}
 use Rattle.lists.specs.ListCall.{listTests, ListCall}
 use Rattle.lists.specs.declared.call.Listed.{Listed}
+use Rattle.rebuild.specs.RebuildCall.{coefficientsFrom, rebuildTests, RebuildCall}
+use Rattle.rebuild.specs.declared.call.Rebuilt.{Rebuilt}
 use Rattle.walk.specs.Lent.{exactWalk}
 use Rattle.walk.specs.Trial.{trialTests, trialOf}
 use Rattle.walk.specs.Chain.{chainTests, chainOf}
@@ -167,6 +169,24 @@ ListsTotal A = (numbers : Numbers A) (strategy : SplitStrategy) (parity : Parity
     (out′ : List A) (bounds′ : List ℕ) → ListCall numbers strategy parity basis c out bounds r out′ bounds′
     → Ends (listTests numbers strategy parity basis c out bounds) (r .refusal)
     (ListAnswered numbers strategy parity basis c out bounds r out′ bounds′) (ListRefused r out out′ bounds bounds′)
+
+-- the rebuild call: the coefficients in the buffer's first places, where every cut can be undone; or zero, and the buffer unchanged
+pub record RebuildAnswered (strategy : SplitStrategy) (parity : Parity) (basis : Basis) (degree base : ℕ) (lists : List ℤ) (bounds : List ℕ)
+    (out out′ : List ℤ) (r : Rebuilt) : Type 0 where
+  pub c : List ℤ
+  pub rebuilt : coefficientsFrom strategy parity basis degree lists ≡ some c
+  pub count : r .coefficients ≡ length c
+  pub buffer : out′ ≡ sets out 0 c
+
+pub record RebuildRefused (r : Rebuilt) (out out′ : List ℤ) : Type 0 where
+  pub coefficients : r .coefficients ≡ 0
+  pub buffer : out′ ≡ out
+
+abbrev pub RebuildsTotal : Type 0
+RebuildsTotal = (strategy : SplitStrategy) (parity : Parity) (basis : Basis) (degree base : ℕ) (lists : List ℤ) (bounds : List ℕ) (out : List ℤ)
+    (r : Rebuilt) (out′ : List ℤ) → RebuildCall strategy parity basis degree base lists bounds out r out′
+    → Ends (rebuildTests strategy parity basis degree base lists bounds out) (r .refusal)
+    (RebuildAnswered strategy parity basis degree base lists bounds out out′ r) (RebuildRefused r out out′)
 
 -- the trial walk, of any head and buffers at any point and modulus: the remainder of an exact value, or zero. It writes in no buffer.
 pub record TrialAnswered (head : Head) (coefficients : List ℤ) (bounds steps : List ℕ) (point : ℤ) (modulus : ℕ) : Type 0 where

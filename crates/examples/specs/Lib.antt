@@ -8,6 +8,7 @@ pub mod Chain
 pub mod LargestDegree
 pub mod Plan
 pub mod HeadInterval
+pub mod Rebuild
 pub mod Lines
 pub mod Texts
 pub mod Answers

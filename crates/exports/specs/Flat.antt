@@ -13,6 +13,7 @@ use Rattle.counts.specs.declared.budget.LargestDegree.{LargestDegree}
 use Rattle.lists.specs.declared.call.Listed.{Listed}
 use Rattle.walk.specs.declared.call.Trial.{Trial}
 use Rattle.walk.specs.declared.chain.Chain.{Chain}
+use Rattle.rebuild.specs.declared.call.Rebuilt.{Rebuilt}
 use Rattle.plan.specs.declared.sizes.PlanSizes.{PlanSizes}
 use Rattle.exports.specs.declared.flat.CParts.{CParts}
 use Rattle.exports.specs.declared.flat.CSplit.{CSplit}
@@ -24,6 +25,7 @@ use Rattle.exports.specs.declared.flat.CFolded.{CFolded}
 use Rattle.exports.specs.declared.flat.CInterval.{CInterval}
 use Rattle.exports.specs.declared.flat.CInterpolated.{CInterpolated}
 use Rattle.exports.specs.declared.flat.CListed.{CListed}
+use Rattle.exports.specs.declared.flat.CRebuilt.{CRebuilt}
 use Rattle.exports.specs.declared.flat.CSizes.{CSizes}
 use Rattle.exports.specs.declared.flat.CTrial.{CTrial}
 use Rattle.exports.specs.declared.flat.CChain.{CChain}
@@ -65,6 +67,9 @@ flatInterpolated r = record {
 
 abbrev pub flatListed : Listed → CListed
 flatListed r = record { refusal = r .refusal; degree = r .degree; base = r .base; coefficients = r .coefficients; lists = r .lists }
+
+abbrev pub flatRebuilt : Rebuilt → CRebuilt
+flatRebuilt r = record { refusal = r .refusal; coefficients = r .coefficients }
 
 abbrev pub flatSizes : PlanSizes → CSizes
 flatSizes r = record { refusal = r .refusal; coefficients = r .coefficients; lists = r .lists; steps = r .steps }

@@ -5,6 +5,7 @@ pub mod Flat
 pub mod Degrees
 pub mod Values
 pub mod Listing
+pub mod Rebuilding
 pub mod Heads
 pub mod HeadsShown
 pub mod Planning

@@ -10,13 +10,14 @@ use firrozun::Listed;
 use firrozun::OpCounts;
 use firrozun::Parts;
 use firrozun::PlanSizes;
+use firrozun::Rebuilt;
 use firrozun::SplitChoice;
 use firrozun::Trial;
 use firrozun::parity_number;
 use firrozun::transform_number;
 ghost use mathlib.Core.Path.{_≡_};
 ghost use Rattle.exports.specs.Flat.{flatParts, flatSplit, flatCounts, flatDepth, flatBits, flatDegree, flatFolded, flatInterval};
-ghost use Rattle.exports.specs.Flat.{flatInterpolated, flatListed, flatSizes, flatTrial, flatChain};
+ghost use Rattle.exports.specs.Flat.{flatInterpolated, flatListed, flatRebuilt, flatSizes, flatTrial, flatChain};
 
 #[repr(C)]
 pub struct CParts {
@@ -100,6 +101,12 @@ pub struct CListed {
     pub base: usize,
     pub coefficients: usize,
     pub lists: usize,
+}
+
+#[repr(C)]
+pub struct CRebuilt {
+    pub refusal: u8,
+    pub coefficients: usize,
 }
 
 #[repr(C)]
@@ -229,6 +236,15 @@ pub fn flat_listed(answer: Listed) -> CListed
         base: answer.base,
         coefficients: answer.coefficients,
         lists: answer.lists,
+    }
+}
+
+pub fn flat_rebuilt(rebuilt: Rebuilt) -> CRebuilt
+    ensures { λ r. ⌜ r ≡ flatRebuilt rebuilt ⌝ }
+{
+    CRebuilt {
+        refusal: rebuilt.refusal,
+        coefficients: rebuilt.coefficients,
     }
 }
 

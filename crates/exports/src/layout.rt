@@ -5,8 +5,8 @@ ghost use mathlib.Core.Path.{_≡_};
 ghost use Rattle.exports.specs.Layout.{layoutNumber};
 
 #[no_mangle]
-pub extern "C" fn firrozun_layout_8() -> u32
+pub extern "C" fn firrozun_layout_9() -> u32
     ensures { λ r. ⌜ r ≡ layoutNumber ⌝ }
 {
-    8
+    9
 }

@@ -6,4 +6,5 @@ pub mod kinds;
 pub mod layout;
 pub mod listing;
 pub mod planning;
+pub mod rebuilding;
 pub mod values;

@@ -37,6 +37,8 @@ pub use plan::PlanSizes;
 pub use plan::Planned;
 pub use plan::plan;
 pub use plan::plan_sizes;
+pub use rebuild::Rebuilt;
+pub use rebuild::rebuild;
 pub use walk::Chain;
 pub use walk::Head;
 pub use walk::Trial;

@@ -6,7 +6,7 @@ pub mod FullTrees
 mod Counting
 mod ListedAgain
 pub mod Shape
-mod ListerCuts
+pub mod ListerCuts
 pub mod ListCall
 pub mod Lists
 pub mod Bounds

@@ -111,10 +111,10 @@ module _ {A : Type 0} (𝓞 : Operations A) where
         front-length : (n : ℕ) → length (reverse (lost n)) ≡ p
         front-length n = length-reverse (lost n) ∙ lost-length n
 
-        low-value : getD (reverse (take p c)) m d ≡ getD c k d
+        pub low-value : getD (reverse (take p c)) m d ≡ getD c k d
         low-value = getD-reverse (take p c) k m d (omega (arith, low-length)) ∙ getD-take p c k d (omega arith)
 
-        high-value : getD (drop (suc p) c) m d ≡ getD c i d
+        pub high-value : getD (drop (suc p) c) m d ≡ getD c i d
         high-value = getD-drop (suc p) c m d ∙ ap (λ (n : ℕ). getD c n d) (omega arith)
 
         -- until then both are as they came
@@ -160,10 +160,10 @@ module _ {A : Type 0} (𝓞 : Operations A) where
 module _ {A : Type 0} (𝓞 : Operations A) (d : A) (p j : ℕ) (c₀ c : List A)
     (inside : p < length c₀) (half : length c₀ ≤ p + p) (started : 0 < j) (before : c ≡ cutTo 𝓞 p c₀ d (j - 1)) where
   -- the pair of this turn, and of every later one, is still as it came
-  pair-low : (n k : ℕ) → j ≤ n → n < length c₀ - p → k + n ≡ p → getD c k d ≡ getD c₀ k d
+  pub pair-low : (n k : ℕ) → j ≤ n → n < length c₀ - p → k + n ≡ p → getD c k d ≡ getD c₀ k d
   pair-low n k later test low = rw before (low-at 𝓞 p c₀ d inside (n - 1) k (p + n) (omega arith) (omega arith) (omega arith) (j - 1) (omega arith))
 
-  pair-high : (n i : ℕ) → j ≤ n → n < length c₀ - p → i ≡ p + n → getD c i d ≡ getD c₀ i d
+  pub pair-high : (n i : ℕ) → j ≤ n → n < length c₀ - p → i ≡ p + n → getD c i d ≡ getD c₀ i d
   pair-high n i later test high = rw before (high-at 𝓞 p c₀ d inside (n - 1) (p - n) i (omega arith) (omega arith) (omega arith) (j - 1) (omega arith))
 
   pub turn-one : j < length c₀ - p → cutOne 𝓞 d c (p - j) (p + j) ≡ cutTo 𝓞 p c₀ d j

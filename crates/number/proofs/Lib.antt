@@ -10,7 +10,7 @@ pub mod Exact
 pub mod Bits
 pub mod SplitParts
 pub mod SplitDistance
-mod Cutting
+pub mod Cutting
 mod Pair
 pub mod CutSame
 mod EverySecond

@@ -57,6 +57,13 @@ pub numbers-append : (most : ℕ) (tests more : List Test) → NumbersTo most te
 numbers-append most [] more first second = second
 numbers-append most (test ∷ tests) more first second = (first .0, numbers-append most tests more (first .1) second)
 
+-- the refusal that an answer carries
+pub refusal-of : {X : Type 0} (k : ℕ) (accepted refused : X) (read : X → ℕ) → read accepted ≡ 0 → read refused ≡ k
+    → read (unlessRefused k accepted refused) ≡ k
+unfolding unlessRefused
+refusal-of zero accepted refused read none-is some-is = none-is
+refusal-of (suc k) accepted refused read none-is some-is = some-is
+
 -- what a refused call answers or leaves, and what an accepted one does
 pub when-refused : {X : Type 0} (k : ℕ) (accepted refused : X) → 0 < k → refused ≡ unlessRefused k accepted refused
 unfolding unlessRefused

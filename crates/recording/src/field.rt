@@ -169,29 +169,33 @@ pub fn read_pattern(line: &[u8], at: usize) -> Number {
     }
 }
 
-// An optional minus and at most 18 decimal digits.
+// An optional minus and decimal digits; a number that is no i64 is not in the form.
 pub fn read_signed(line: &[u8], at: usize) -> Signed {
     let minus = stands(line, at, b"-");
     let n = read_number(line, if minus { after(at) } else { at });
     let size = n.value;
-    if 999999999999999999 < size {
-        return Signed {
-            ok: false,
-            value: 0,
-            next: n.next,
-        };
-    }
     let value = with_sign(size, minus);
     Signed {
-        ok: n.ok,
+        ok: n.ok && size <= largest(minus),
         value: value,
         next: n.next,
     }
 }
 
-fn with_sign(size: u64, minus: bool) -> i64
-    requires { ⌜ size < 10 ^ 18 ⌝ }
-{
+// The largest size of an i64 with this sign.
+fn largest(minus: bool) -> u64 {
+    if minus {
+        9223372036854775808
+    } else {
+        9223372036854775807
+    }
+}
+
+// The number with its sign; one whose size is 2^63 or more is the least i64.
+fn with_sign(size: u64, minus: bool) -> i64 {
+    if 9223372036854775807 < size {
+        return i64::MIN;
+    }
     if minus {
         0 - (size as i64)
     } else {

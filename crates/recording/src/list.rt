@@ -70,6 +70,36 @@ pub fn read_wholes(line: &[u8], at: usize, out: &mut [i64]) -> List {
     }
 }
 
+// A number below 65,536; of a larger one the last 16 bits.
+fn narrow(n: u64) -> u16 {
+    (n % 65536) as u16
+}
+
+// The count and the elements, each below 65,536.
+pub fn read_u16s(line: &[u8], at: usize, out: &mut [u16]) -> List {
+    let n = read_number(line, at);
+    let count = n.value as usize;
+    let mut ok = n.ok && count <= out.len();
+    let mut next = n.next;
+    let mut i = 0;
+    while i < out.len() {
+        if !ok || count <= i {
+            break;
+        }
+        let element = read_number(line, next);
+        let value = element.value;
+        out[i] = narrow(value);
+        ok = element.ok && value < 65536;
+        next = element.next;
+        i += 1;
+    }
+    List {
+        ok: ok,
+        count: count,
+        next: next,
+    }
+}
+
 // Whether the list is ours: as long, and each element with the same bits.
 pub fn match_reals(line: &[u8], at: usize, ours: &[f64]) -> Word {
     let n = read_number(line, at);
@@ -117,6 +147,14 @@ pub fn first_reals(buffer: &[f64], count: usize) -> &[f64] {
 
 // The same of whole numbers.
 pub fn first_wholes(buffer: &[i64], count: usize) -> &[i64] {
+    if buffer.len() < count {
+        return buffer;
+    }
+    &buffer[0..count]
+}
+
+// The same of u16 numbers.
+pub fn first_u16s(buffer: &[u16], count: usize) -> &[u16] {
     if buffer.len() < count {
         return buffer;
     }

@@ -1,11 +1,14 @@
-// Replays recorded decompositions of the Rust: each line of standard input has one call with the Rust's lists, and ours are compared with
-// them. Writes the number of each line that does not agree, and how many do.
+// Replays recorded decompositions and rebuilds: each line of standard input has one call with its recorded answer, and ours is compared
+// with it. Whole lists of the Rust are also rebuilt, and must give the line's coefficients back. Writes the number of each line that does
+// not agree, and how many do.
 mod float;
+mod rebuilt;
 mod settings;
 mod whole;
 
 use float::decompose_agrees;
 use float::decompose_folded_agrees;
+use rebuilt::rebuild_agrees;
 use recording::read_word;
 use whole::decompose_whole_agrees;
 
@@ -22,6 +25,10 @@ fn agrees(line: &[u8]) -> bool {
     let decompose_folded = read_word(line, 0, b"decompose_folded");
     if decompose_folded.ok {
         return decompose_folded_agrees(line, decompose_folded.next);
+    }
+    let rebuild = read_word(line, 0, b"rebuild");
+    if rebuild.ok {
+        return rebuild_agrees(line, rebuild.next);
     }
     false
 }

@@ -1,11 +1,14 @@
-// Replaying decompositions on whole coefficients.
+// Replaying decompositions on whole coefficients, and rebuilding those from the lists.
+use crate::settings::Settings;
 use crate::settings::is_refused;
 use crate::settings::match_head;
 use crate::settings::match_number;
 use crate::settings::read_settings;
 use crate::settings::wide;
+use firrozun::Listed;
 use recording::Word;
 use recording::ends;
+use recording::first_u16s;
 use recording::first_wholes;
 use recording::match_wholes;
 use recording::read_wholes;
@@ -47,7 +50,37 @@ fn match_lists(line: &[u8], at: usize, count: usize, out: &[i64], bounds: &[u16]
     }
 }
 
+// Whether the lists give back the coefficients that the line has at a place.
+fn rebuilds(
+    line: &[u8],
+    at: usize,
+    settings: Settings,
+    ours: Listed,
+    out: &[i64],
+    bounds: &[u16],
+) -> bool {
+    let mut back = [0i64; 4096];
+    let b = settings.basis;
+    let p = settings.parity;
+    let s = settings.strategy;
+    let lists = first_wholes(out, ours.coefficients);
+    let boundaries = first_u16s(bounds, ours.lists);
+    let rebuilt = firrozun::rebuild(
+        s,
+        p,
+        b,
+        ours.degree,
+        ours.base,
+        lists,
+        boundaries,
+        &mut back,
+    );
+    let coeffs = match_wholes(line, at, first_wholes(&back, rebuilt.coefficients));
+    rebuilt.refusal == 0 && coeffs.ok
+}
+
 // decompose_whole  basis  parity  strategy  n  c..  =  degree  base  lists, then each list: n  c..
+// Lists that agree are the Rust's, and the coefficients must come back from them.
 pub fn decompose_whole_agrees(line: &[u8], at: usize) -> bool {
     let mut coeffs = [0i64; 4096];
     let mut out = [0i64; 4096];
@@ -68,5 +101,6 @@ pub fn decompose_whole_agrees(line: &[u8], at: usize) -> bool {
     }
     let head = match_head(line, answer.next, ours);
     let lists = match_lists(line, head.next, ours.lists, &out, &bounds);
-    head.ok && lists.ok && ends(line, lists.next)
+    let same = head.ok && lists.ok && ends(line, lists.next);
+    same && rebuilds(line, settings.next, settings, ours, &out, &bounds)
 }

@@ -5,13 +5,14 @@ use firrozun::PolynomialInputTransform;
 use firrozun::SplitStrategy;
 use firrozun::Trial;
 use firrozun::change_of_basis;
-use recording::List;
 use recording::ends;
+use recording::first_u16s;
 use recording::first_wholes;
 use recording::read_basis;
 use recording::read_number;
 use recording::read_parity;
 use recording::read_signed;
+use recording::read_u16s;
 use recording::read_wholes;
 use recording::read_word;
 
@@ -93,43 +94,6 @@ fn read_asked(line: &[u8], at: usize) -> Asked {
         modulus: modulus.value,
         next: modulus.next,
     }
-}
-
-fn narrow(n: u64) -> u16 {
-    (n % 65536) as u16
-}
-
-// The count and the elements, each below 65,536.
-fn read_u16s(line: &[u8], at: usize, out: &mut [u16]) -> List {
-    let n = read_number(line, at);
-    let count = n.value as usize;
-    let mut ok = n.ok && count <= out.len();
-    let mut next = n.next;
-    let mut i = 0;
-    while i < out.len() {
-        if !ok || count <= i {
-            break;
-        }
-        let element = read_number(line, next);
-        let value = element.value;
-        out[i] = narrow(value);
-        ok = element.ok && value < 65536;
-        next = element.next;
-        i += 1;
-    }
-    List {
-        ok: ok,
-        count: count,
-        next: next,
-    }
-}
-
-// The first places of a buffer; all where there are fewer.
-fn first_u16s(buffer: &[u16], count: usize) -> &[u16] {
-    if buffer.len() < count {
-        return buffer;
-    }
-    &buffer[0..count]
 }
 
 // The walk of the plan in the first places of the buffers.

@@ -3,6 +3,7 @@
 mod budgets;
 mod cases;
 mod clock;
+mod rebuilds;
 
 use crate::calls::{
     BASES, Basis, Parity, STRATEGIES, SplitStrategy, basis_letter, strategy_letter,
@@ -25,6 +26,7 @@ pub fn run(rounds: usize, seed: u64) {
             for strategy in STRATEGIES {
                 cases::lists(&mut b, basis, strategy, degree);
                 cases::plans(&mut b, basis, strategy, degree);
+                rebuilds::rebuilds(&mut b, basis, strategy, degree);
             }
             cases::choice(&b, basis, degree);
             cases::evaluation(&mut b, basis, degree);

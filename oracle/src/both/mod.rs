@@ -7,6 +7,7 @@ mod lent;
 mod ours;
 mod parts;
 mod random;
+pub mod rebuilds;
 mod rules;
 mod smaller;
 mod sweeps;

@@ -7,21 +7,21 @@ use std::thread::{available_parallelism, scope};
 /// How many random cases a part has; each part has a seed of its own.
 pub const PART: u64 = 1_000;
 
-/// Four counts for each row of a table.
-pub type Tally<const ROWS: usize> = [[u64; 4]; ROWS];
+/// Counts for each row of a table, four unless it is said otherwise.
+pub type Tally<const ROWS: usize, const COLUMNS: usize = 4> = [[u64; COLUMNS]; ROWS];
 
 /// Works through the cases of each part; `agrees` counts a case in the tally, unless the two sides differ in it. It answers all
 /// counts, or the first case with a difference: parts are taken in order, and each before that one is worked through, so it is
 /// the same whatever the threads do.
-pub fn compare<C: Send, const ROWS: usize>(
+pub fn compare<C: Send, const ROWS: usize, const COLUMNS: usize>(
     parts: usize,
     cases: impl Fn(usize) -> Vec<C> + Sync,
-    agrees: impl Fn(&C, usize, &mut Tally<ROWS>) -> bool + Sync,
-) -> Result<Tally<ROWS>, C> {
+    agrees: impl Fn(&C, usize, &mut Tally<ROWS, COLUMNS>) -> bool + Sync,
+) -> Result<Tally<ROWS, COLUMNS>, C> {
     let next = AtomicUsize::new(0);
-    let total = Mutex::new([[0; 4]; ROWS]);
+    let total = Mutex::new([[0; COLUMNS]; ROWS]);
     let found: Mutex<Option<(usize, C)>> = Mutex::new(None);
-    let part = |k: usize, tally: &mut Tally<ROWS>| {
+    let part = |k: usize, tally: &mut Tally<ROWS, COLUMNS>| {
         let mut cases = cases(k).into_iter();
         if let Some(case) = cases.find(|case| !agrees(case, k, tally)) {
             let mut found = found.lock().unwrap();
@@ -31,7 +31,7 @@ pub fn compare<C: Send, const ROWS: usize>(
         }
     };
     let work = || {
-        let mut tally = [[0; 4]; ROWS];
+        let mut tally = [[0; COLUMNS]; ROWS];
         loop {
             let k = next.fetch_add(1, Ordering::Relaxed);
             let late = found.lock().unwrap().as_ref().is_some_and(|f| f.0 < k);
@@ -56,9 +56,12 @@ pub fn compare<C: Send, const ROWS: usize>(
 }
 
 /// Prints a table's rows, below its line of headings, and answers the sum of all counts.
-pub fn table<const ROWS: usize>(names: &[&str; ROWS], total: &Tally<ROWS>) -> u64 {
-    println!("|---|---|---|---|---|");
-    let mut all = [0; 4];
+pub fn table<const ROWS: usize, const COLUMNS: usize>(
+    names: &[&str; ROWS],
+    total: &Tally<ROWS, COLUMNS>,
+) -> u64 {
+    println!("|---{}|", "|---".repeat(COLUMNS));
+    let mut all = [0; COLUMNS];
     for (name, row) in names.iter().zip(total) {
         line(name, row);
         (all.iter_mut().zip(row)).for_each(|(a, n)| *a += n);
@@ -67,6 +70,7 @@ pub fn table<const ROWS: usize>(names: &[&str; ROWS], total: &Tally<ROWS>) -> u6
     all.iter().sum()
 }
 
-fn line(name: &str, [a, b, c, d]: &[u64; 4]) {
-    println!("| {name} | {a} | {b} | {c} | {d} |");
+fn line(name: &str, counts: &[u64]) {
+    let counts: Vec<String> = counts.iter().map(u64::to_string).collect();
+    println!("| {name} | {} |", counts.join(" | "));
 }

@@ -53,6 +53,7 @@ fn the_layouts_of_answers_on_coefficients() {
     assert_layout!(CInterval, 40, refusal 0, a 8, b 16, u 24, w 32);
     assert_layout!(CInterpolated, 56, refusal 0, count 8, parity 16, a 24, b 32, u 40, w 48);
     assert_layout!(CListed, 40, refusal 0, degree 8, base 16, coefficients 24, lists 32);
+    assert_layout!(CRebuilt, 16, refusal 0, coefficients 8);
 }
 
 #[test]
@@ -68,7 +69,7 @@ fn the_layouts_of_a_plan() {
 #[test]
 fn the_number_of_the_layouts() {
     // SAFETY: the call takes nothing and answers a number.
-    assert_eq!(unsafe { LAYOUT() }, 8);
+    assert_eq!(unsafe { LAYOUT() }, 9);
 }
 
 /// +0 in the head of a refusal: -0 would be equal to it.
@@ -216,6 +217,47 @@ fn unknown_kinds_in_the_calls_on_coefficients() {
         );
     }
     assert_eq!((out, floats, bounds), ([9; 4], [9.0; 4], [9; 4]));
+}
+
+#[test]
+fn unknown_kinds_in_the_rebuild_call() {
+    let refused = CRebuilt {
+        refusal: 43,
+        coefficients: 0,
+    };
+    let mut out = [9; 4];
+    let mut rebuilt = |strategy, parity, basis, sizes| {
+        rebuild(
+            strategy,
+            parity,
+            basis,
+            sizes,
+            &[1, 2, 3],
+            &[2, 3],
+            &mut out,
+        )
+    };
+    // A degree and a base that are accepted, and such as are refused too: 43 comes first.
+    for sizes in [(2, 2), (4096, 2), (0, 2), (2, 3)] {
+        for n in unknown(2) {
+            assert_eq!(rebuilt(n, 0, 0, sizes), refused);
+            assert_eq!(rebuilt(0, 0, n, sizes), refused);
+        }
+        for n in unknown(3) {
+            assert_eq!(rebuilt(0, n, 0, sizes), refused);
+        }
+    }
+    assert_eq!(rebuilt(0, 0, 0, (2, 2)).refusal, 0);
+    assert_eq!(
+        rebuilt(0, 0, 0, (2, 3)),
+        CRebuilt {
+            refusal: 33,
+            ..refused
+        }
+    );
+    assert_eq!(out, [1, 2, 3, 9]);
+    // Lists that are refused too, and no room for the coefficients.
+    assert_eq!(rebuild(2, 3, 2, (2, 2), &[], &[], &mut []), refused);
 }
 
 #[test]

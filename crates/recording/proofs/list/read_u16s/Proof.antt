@@ -1,11 +1,11 @@
--- `replay_plans::lent::read_u16s` is safe: it writes below the length of the output, which no write changes.
+-- `recording::list::read_u16s` is safe: it writes below the length of the output, which no write changes.
 -- The measure is what is left of the output.
 use mathlib.Core.Path.{_≡_}
 use Prim.Native.Nat.{_-_}
 use lib.ListN.{length}
 use borrow.Author.Needs.{needs}
-use Rattle.replay_plans.proofs.lent.read_u16s.Statement.{statement}
-use Rattle.replay_plans.proofs.lent.read_u16s.Tie as tie
+use Rattle.recording.proofs.list.read_u16s.Statement.{statement}
+use Rattle.recording.proofs.list.read_u16s.Tie as tie
 
 abbrev Inv-loop : tie.InvT-loop
 Inv-loop line at out₀ count ok₀ next₀ i₀ out ok next i = length out ≡ length out₀

@@ -1,0 +1,14 @@
+mod Halves
+mod Machine
+pub mod Every
+pub mod UndoLaws
+mod Undoing
+pub mod RebuildLaws
+mod PartRanges
+mod Fronts
+mod RebuildSteps
+mod EndsSteps
+pub mod RebuildTests
+pub mod StopsAt
+pub mod RoundTrips
+pub mod Promises
