@@ -4,7 +4,9 @@
 mod common;
 
 use common::{BASES, PARITIES, STRATEGIES, TRANSFORMS};
-use firrozun::buffers::{chebyshev_interpolate_into, plan_into, trial_walk, PlanBuffers};
+use firrozun::buffers::{
+    chebyshev_interpolate_into, plan_into, rebuild_into, trial_walk, Lists, PlanBuffers,
+};
 use firrozun::{
     bsgs_consumed_bits, bsgs_eval_depth, bsgs_op_counts, change_of_basis, detect_parity,
     evaluate_coeffs, largest_degree, min_depth_split, min_mult_split, split_degree, Basis,
@@ -248,6 +250,29 @@ fn plan_refused(arguments: &mut Arguments) -> Answer {
     Ok(vec![answer.expect_err("a refusal").number().to_string()])
 }
 
+/// Refusal and coefficients. The places beyond are unchanged, after a refusal all of them.
+fn rebuild(arguments: &mut Arguments) -> Answer {
+    let (basis, parity) = (arguments.basis(), arguments.parity());
+    let strategy = arguments.strategy();
+    let (degree, base) = (arguments.number(), arguments.number());
+    let (coefficients, boundaries) = (arguments.list::<i64>(), arguments.short_list());
+    let lists = Lists {
+        degree,
+        base,
+        coefficients: &coefficients,
+        boundaries: &boundaries,
+    };
+    let mut out = vec![9; arguments.number()];
+    let (refusal, count) = match rebuild_into(strategy, parity, basis, lists, &mut out) {
+        Ok(count) => (0, count),
+        Err(refusal) => (refusal.number(), 0),
+    };
+    assert!(out[count..].iter().all(|&place| place == 9));
+    let mut fields = vec![refusal.to_string()];
+    put(&mut fields, &out[..count]);
+    Ok(fields)
+}
+
 fn walk(arguments: &mut Arguments) -> Answer {
     let head = Head {
         basis: arguments.basis(),
@@ -338,6 +363,7 @@ fn answer(call: &str, arguments: &mut Arguments) -> Answer {
         "decompose_whole" => decompose::<i64>(a),
         "decompose_folded" => decompose_folded(a),
         "decompose_folded_whole" => decompose_folded_whole(a),
+        "rebuild" => rebuild(a),
         "plan_value" => plan_value(a),
         "plan_interval" => plan_interval(a),
         "plan_refused" => plan_refused(a),
@@ -377,7 +403,7 @@ fn counts() {
 
 #[test]
 fn lists() {
-    assert!(replay("replay_lists") > 2500);
+    assert!(replay("replay_lists") > 3100);
 }
 
 #[test]
