@@ -1,5 +1,5 @@
--- Request Q-8, "Back from lists to the curve": an unfolded plan is rebuilt to the polynomial that it was made of, and what was rebuilt is planned to the
--- same lists.
+-- Request Q-8, "Back from lists to the curve": the lists of a plan are rebuilt to the polynomial that was planned, or to its fold, and what was rebuilt is
+-- planned to the same lists.
 use mathlib.Core.Path.{_≡_}
 use mathlib.Core.Bool.{Bool, false}
 use mathlib.Core.List.{List, [], _∷_, _++_}
@@ -43,7 +43,7 @@ PlansRebuilt = (strategy : SplitStrategy) (parity : Parity) (basis : Basis) (deg
     → ListsAgain degree base lists bounds out ends (listedIn (r .head)) out′ ends′
 
 -- What was rebuilt has the value that the lists have: if the planner accepts it, the lists and boundaries from which it was rebuilt, lent as they stand
--- with the steps and the head of its plan, are walked to its value at every whole number, and so is every trial walk of them.
+-- with the steps and the head of its plan, are walked to its value at every whole number, and their trial walks answer its remainders.
 abbrev pub RebuiltRight : Type 0
 RebuiltRight = (strategy : SplitStrategy) (parity : Parity) (basis : Basis) (degree base : ℕ) (lists : List ℤ) (bounds : List ℕ) (c : List ℤ)
     (s : Rebuilt) (c′ : List ℤ) → RebuildCall strategy parity basis degree base lists bounds c s c′ → s .refusal ≡ 0

@@ -171,6 +171,12 @@ module _ {A : Type 0} (𝓞 : Operations A) (d : A) (p j : ℕ) (c₀ c : List A
       let next : suc (j - 1) ≡ j = omega arith in
       rw before (cut-more 𝓞 p c₀ d inside (j - 1) (p - j) (p + j) (omega arith) (omega arith) (omega arith) ∙ ap (cutTo 𝓞 p c₀ d) next)
 
+  -- the two stores of a turn leave that
+  pub turn-stored : j < length c₀ - p → {y x : A} → y ≡ 𝓞 .sub (getD c (p - j) d) (getD c (p + j) d) → x ≡ double 𝓞 (getD c (p + j) d)
+      → set (set c (p - j) y) (p + j) x ≡ cutTo 𝓞 p c₀ d j
+  unfolding cutOne
+  turn-stored test less more = rw (less, more) (turn-one test)
+
   pub turn-two : j + 1 < length c₀ - p → cutTwo 𝓞 d c (p - j) (p + j) ≡ cutTo 𝓞 p c₀ d (j + 2 - 1)
   unfolding cutTwo
   turn-two test =

@@ -12,9 +12,8 @@ use lib.Seq.{drop-cons, length-take-le}
 use Rattle.algebra.specs.Operations.{Operations}
 use Rattle.algebra.specs.Cut.{differences, doubled, lowered, cutAt}
 use Rattle.algebra.specs.declared.Basis.the-variants.{Chebyshev}
-use Rattle.number.specs.inside.Pair.{cutOne}
 use Rattle.number.proofs.BothHold.{and-right}
-use Rattle.number.proofs.Cutting.{cutTo, low-value, high-value, pair-low, pair-high, turn-one}
+use Rattle.number.proofs.Cutting.{cutTo, low-value, high-value, pair-low, pair-high, turn-stored}
 use Rattle.number.specs.Options.{when}
 use Rattle.rebuild.specs.Undo.{half, isEven, fitsI64, every, sums, halved, raised, beforeCut, canUndo, undone}
 use Rattle.rebuild.proofs.Every.{every-append, every-reverse, every-take, every-drop, halved-fits}
@@ -140,10 +139,11 @@ module _ (p j : ℕ) (c₀ c : List ℤ) (inside : p < length c₀) (within : le
   -- and what the turn writes is one turn more
   pub turn-written : (y x : ℤ) → y ≡ getD c₀ (p - j) (pos 0) +ℤ half (getD c₀ (p + j) (pos 0)) → x ≡ half (getD c₀ (p + j) (pos 0))
       → set (set c (p - j) y) (p + j) x ≡ cutTo undoing p c₀ (pos 0) (j + 1 - 1)
-  unfolding cutOne
   turn-written y x low high =
       let next : j ≡ j + 1 - 1 = omega arith in
-      rw (low, high, ← turn-low, ← turn-high) (turn-one undoing (pos 0) p j c₀ c inside within started before test ∙ ap (cutTo undoing p c₀ (pos 0)) next)
+      turn-stored undoing (pos 0) p j c₀ c inside within started before test
+      (low ∙ ap₂ (λ (r q : ℤ). r +ℤ half q) (sym turn-low) (sym turn-high)) (high ∙ ap half (sym turn-high))
+      ∙ ap (cutTo undoing p c₀ (pos 0)) next
 
 -- ---- the ways out of the loop
 

@@ -21,13 +21,13 @@ use Rattle.number.specs.Options.{missing}
 use Rattle.rebuild.specs.Rebuild.{rebuilt}
 use Rattle.rebuild.specs.declared.call.Rebuilt.{Rebuilt}
 
--- the second list begins with the first
+-- whether the second list begins with the first
 unfoldable pub begins : List ℕ → List ℕ → Bool
 begins [] bounds = true
 begins (e ∷ ends) [] = false
 begins (e ∷ ends) (b ∷ bounds) = eqb e b && begins ends bounds
 
--- what is there, or no number
+-- the list that is there, or the empty one
 abbrev pub orEmpty : Option (List ℤ) → List ℤ
 orEmpty (some c) = c
 orEmpty none = []
@@ -41,7 +41,7 @@ unfoldable pub coefficientsFrom : SplitStrategy → Parity → Basis → (degree
 coefficientsFrom strategy parity basis degree lists = rebuilt basis (planTree strategy parity basis degree) (take (suc degree) lists)
 
 module _ (strategy : SplitStrategy) (parity : Parity) (basis : Basis) (degree base : ℕ) (lists : List ℤ) (bounds : List ℕ) where
-  -- base and list lengths are those of the settings, and neither the boundaries nor the lists end too early. Places beyond aren't read.
+  -- whether base and list lengths are those of the settings, and neither the boundaries nor the lists end too early. Places beyond aren't read.
   unfoldable pub matchesSettings : Bool
   matchesSettings =
       eqb base (2 ^ splitFor strategy parity basis degree)
