@@ -1,5 +1,5 @@
--- `rebuild::undo::undo_chebyshev` meets its contract. The turns so far are a cut over other operations, and the tests that are left decide whether
--- the cut can be undone.
+-- `rebuild::undo::undo_chebyshev` meets its contract. The turns so far are a cut over other operations: low gains half of what high has, and high is
+-- halved. Halves and numbers that stay fit as they came, so that the tests of the turns that are left decide whether the cut can be undone.
 use mathlib.Core.Path.{_≡_, ap, ap₂, sym, _∙_}
 use mathlib.Core.Bool.{true}
 use mathlib.Core.List.{List}
