@@ -110,11 +110,18 @@ unfolding rebuildRefusal matchesSettings begins coefficientsFrom rebuilt undone 
     splitFor minDepth topPower bitLen digits
 above-highest = refl
 
--- the lists 4, 2, 2 of degree 7: at the inner cut 2^63 − 1 and half of 2 are 2^63, which the outer cut would halve to 2^62. It is refused all the same.
-pub inner-cut : refusal 7 4 (pos 0 ∷ pos 0 ∷ pos 0 ∷ pos 0 ∷ pos 0 ∷ pos 9223372036854775807 ∷ pos 0 ∷ pos 2 ∷ []) (4 ∷ 6 ∷ 8 ∷ []) ≡ 34
+-- the lists 4, 2, 2 of degree 7: at the inner cut 2^63 − 2 and half of 4 are 2^63, which is beyond i64. The outer cut would halve it to 2^62, and every
+-- number would be even and fit in the end; it is refused all the same.
+pub inner-cut : refusal 7 4 (pos 0 ∷ pos 0 ∷ pos 0 ∷ pos 0 ∷ pos 0 ∷ pos 9223372036854775806 ∷ pos 0 ∷ pos 4 ∷ []) (4 ∷ 6 ∷ 8 ∷ []) ≡ 34
 unfolding rebuildRefusal matchesSettings begins coefficientsFrom rebuilt undone canUndo beforeCut raised halved sums every endsOf treeOf treeIn listedAgain
     splitFor minDepth topPower bitLen digits
 inner-cut = refl
+
+-- with 2^63 − 4 the inner cut gives 2^63 − 2, and only the four places of room are refused
+pub inner-cut-fits : refusal 7 4 (pos 0 ∷ pos 0 ∷ pos 0 ∷ pos 0 ∷ pos 0 ∷ pos 9223372036854775804 ∷ pos 0 ∷ pos 4 ∷ []) (4 ∷ 6 ∷ 8 ∷ []) ≡ 21
+unfolding rebuildRefusal matchesSettings begins coefficientsFrom rebuilt undone canUndo beforeCut raised halved sums every endsOf treeOf treeIn listedAgain
+    splitFor minDepth topPower bitLen digits
+inner-cut-fits = refl
 
 -- no room for the coefficients: 21, the last of the tests. In the Monomial basis nothing is halved.
 pub no-room : rebuildRefusal MinDepth Full Monomial 3 2 (pos 1 ∷ pos 2 ∷ pos 3 ∷ pos 5 ∷ []) (2 ∷ 4 ∷ []) (pos 0 ∷ pos 0 ∷ pos 0 ∷ []) ≡ 21
