@@ -63,6 +63,8 @@ fn main() {
         #[cfg(feature = "both")]
         ["rebuilds", count, seed] => both::rebuilds::compare(number(count), number(seed)),
         #[cfg(feature = "both")]
+        ["sums", count, seed] => both::sums::compare(number(count), number(seed)),
+        #[cfg(feature = "both")]
         ["bench", rounds, seed] => bench::run(number(rounds) as usize, number(seed)),
         ["degrees", seed] => {
             since::degrees(number(seed), BufWriter::new(stdout().lock())).expect("lines")
@@ -100,6 +102,7 @@ fn usage() -> ! {
     eprintln!("       oracle both COUNT SEED | oracle heaviest COUNT SEED (with the feature both)");
     eprintln!("       oracle budgets COUNT SEED (with the feature both)");
     eprintln!("       oracle rebuilds COUNT SEED (with the feature both)");
+    eprintln!("       oracle sums COUNT SEED (with the feature both)");
     eprintln!("       oracle bench ROUNDS SEED (with the feature both)");
     std::process::exit(2)
 }

@@ -1,10 +1,11 @@
--- A map that keeps the operations keeps what is built of them: powers, sums and values. The remainder by m is such a map.
+-- A map that keeps the operations keeps what is built of them: powers, sums, values and the R_k of a fold. The remainder by m is such a map.
 -- By recursion on what is built; no law of a ring is used.
 use mathlib.Core.Path.{_≡_, refl, sym, _∙_, ap, ap₂}
 use mathlib.Core.List.{List, map}
 use Prim.Native.Nat.{ℕ, zero, suc, _<_}
 use lib.ListN.{length, getD, List·getD-map, length-map}
 use Rattle.algebra.specs.Operations.{Operations, double, wholeOps}
+use Rattle.algebra.specs.Fold.{times2T1, coeffR}
 use Rattle.algebra.specs.Power.{pow, cheb, power}
 use Rattle.algebra.specs.Remainder.{rem, remainders}
 use Rattle.algebra.specs.Value.{sum, dot, value}
@@ -62,6 +63,24 @@ module _ {A B : Type 0} {𝓞 : Operations A} {𝓟 : Operations B} {φ : A → 
   -- the value of a polynomial
   pub hom-value : (basis : Basis) (x : A) (c : List A) → φ (value 𝓞 basis x c) ≡ value 𝓟 basis (φ x) (map φ c)
   hom-value basis x c = hom-dot (power 𝓞 basis x) (power 𝓟 basis (φ x)) (hom-power basis x) c
+
+  -- 2T_1 times a row
+  hom-times2T1 : (r : ℕ → A) (s : ℕ → B) → ((i : ℕ) → φ (r i) ≡ s i) → (i : ℕ) → φ (times2T1 𝓞 r i) ≡ times2T1 𝓟 s i
+  hom-times2T1 r s e zero = H .add _ _ ∙ ap₂ (𝓟 .add) (H .zero) (e 1)
+  hom-times2T1 r s e (suc zero) =
+      H .add _ _ ∙ ap₂ (𝓟 .add) (H .add _ _ ∙ ap₂ (𝓟 .add) (H .zero) (hom-double (r 0) ∙ ap (double 𝓟) (e 0))) (e 2)
+  hom-times2T1 r s e (suc (suc i)) =
+      H .add _ _ ∙ ap₂ (𝓟 .add) (H .add _ _ ∙ ap₂ (𝓟 .add) (H .zero) (e (suc i))) (e (suc (suc (suc i))))
+
+  -- coefficient i of R_k
+  pub hom-coeffR : (k i : ℕ) → φ (coeffR 𝓞 k i) ≡ coeffR 𝓟 k i
+  unfolding coeffR
+  hom-coeffR zero zero = H .one
+  hom-coeffR zero (suc i) = H .zero
+  hom-coeffR (suc zero) zero = H .neg _ ∙ ap (𝓟 .neg) (H .one)
+  hom-coeffR (suc zero) (suc zero) = H .add _ _ ∙ ap₂ (𝓟 .add) (H .one) (H .one)
+  hom-coeffR (suc zero) (suc (suc i)) = H .zero
+  hom-coeffR (suc (suc k)) i = H .sub _ _ ∙ ap₂ (𝓟 .sub) (hom-times2T1 _ _ (hom-coeffR (suc k)) i) (hom-coeffR k i)
 
 -- the remainder by m
 pub remainder-homomorphism : (m : ℕ) → 0 < m → Homomorphism wholeOps (remainders m) (rem m)

@@ -3,6 +3,8 @@ pub mod RingLaws
 pub mod Normal
 pub mod Solve
 pub mod Lists
+pub mod Each
+pub mod Maps
 pub mod Filling
 pub mod Sums
 pub mod Powers
@@ -11,13 +13,16 @@ pub mod ProductLaw
 pub mod Parities
 pub mod CutPlaces
 pub mod CutLaw
+pub mod CutKept
 pub mod CutParity
 pub mod OddCoefficients
 pub mod OddChebyshev
 pub mod FoldPlaces
 pub mod FoldLaw
+pub mod FoldKept
 pub mod Remainders
 pub mod Homomorphism
+pub mod PolynomialSum
 pub mod IsRemainder
 pub mod RemainderLaw
 pub mod EnumNumbers

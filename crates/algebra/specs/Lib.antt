@@ -6,12 +6,17 @@ pub mod Value
 pub mod Allowed
 pub mod Distance
 pub mod ProductLaw
+pub mod Each
 pub mod Cut
 pub mod CutLaw
+pub mod CutKept
 pub mod CutParity
 pub mod Fold
 pub mod Transform
 pub mod FoldLaw
+pub mod FoldKept
+pub mod PolynomialSum
+pub mod PolynomialSumLaw
 pub mod Remainder
 pub mod IsRemainder
 pub mod RemainderLaw

@@ -13,10 +13,11 @@ use lib.ListN.{length, getD, length-append}
 use Rattle.algebra.specs.Magnitude.{sumAbs}
 use Rattle.algebra.specs.declared.Basis.{Basis}
 use Rattle.algebra.specs.declared.Parity.{Parity}
+use Rattle.algebra.proofs.Each.{each-left, each-right}
 use Rattle.number.specs.Limits.{countLimit, sumLimit}
-use Rattle.number.specs.Exact.{AllTo53}
+use Rattle.number.specs.Exact.{To53, AllTo53}
 use Rattle.number.proofs.Bits.{power-range}
-use Rattle.number.proofs.Within.{within-each, within-at, within-left, within-right}
+use Rattle.number.proofs.Within.{within-each, within-at}
 use Rattle.counts.specs.Choice.{splitFor}
 use Rattle.counts.specs.declared.choice.SplitStrategy.{SplitStrategy}
 use Rattle.counts.proofs.DepthLaws.{depth-bounds}
@@ -61,9 +62,9 @@ list-lines : (lists : List (List ℤ)) → AllTo53 (joined lists)
 unfolding joined
 list-lines [] small = omega arith
 list-lines (list ∷ lists) small =
-    let here = within-left (2 ^ 53) list (joined lists) small in
+    let here = each-left To53 list (joined lists) small in
     let line = line-lengths .lists list (within-each (2 ^ 63) list (λ i. omega (arith, within-at (2 ^ 53) list here i))) in
-    let rest = list-lines lists (within-right (2 ^ 53) list (joined lists) small) in
+    let rest = list-lines lists (each-right To53 list (joined lists) small) in
     omega (arith, length-append (listLine list) (joined (map listLine lists)), length-append list (joined lists))
 
 -- of steps whose numbers are at most 4,096

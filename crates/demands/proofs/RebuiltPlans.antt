@@ -1,6 +1,6 @@
 -- Rebuilding and planning take back each other (request Q-8). What a plan call leaves in its buffers, folded or not, stands there as the round trips want
 -- it; and the lists of what was rebuilt are the lent ones, so a plan that is walked with these is the plan of the rebuilt polynomial.
-use mathlib.Core.Path.{_≡_, refl, ap, ap₂, sym, _∙_}
+use mathlib.Core.Path.{_≡_, refl, ap, sym, _∙_}
 use mathlib.Core.Bool.{Bool, false}
 use mathlib.Core.List.{List, _++_}
 use Prim.Native.Nat.{ℕ, suc, _^_}
@@ -17,12 +17,12 @@ use Rattle.counts.specs.declared.choice.SplitStrategy.{SplitStrategy}
 use Rattle.lists.specs.Tree.{planTree}
 use Rattle.lists.specs.Arrange.{leavesOf}
 use Rattle.lists.specs.declared.call.Listed.{Listed}
+use Rattle.lists.proofs.Standing.{Stands, whole}
 use Rattle.rebuild.specs.RebuildCall.{RebuildCall}
 use Rattle.rebuild.specs.declared.call.Rebuilt.{Rebuilt}
-use Rattle.rebuild.proofs.RoundTrips.{Stands, whole, gives-again, same-lists, lists-again, listed-front, ended-front}
+use Rattle.rebuild.proofs.RoundTrips.{gives-again, same-lists, lists-again, listed-front, ended-front}
 use Rattle.plan.specs.PlanHead.{headOf}
 use Rattle.plan.specs.PlanCall.{plannedCoefficients, plannedParity, headFor, planRefusal, planAnswer, planCoefficients, planBoundaries, PlanCall}
-use Rattle.plan.specs.PlanSizes.{sizesOf}
 use Rattle.plan.specs.declared.call.Planned.{Planned}
 use Rattle.plan.proofs.PlanTests.{passed, planned-to-53}
 use Rattle.demands.specs.Accepts.{BringsPlan}

@@ -1,12 +1,16 @@
 -- The requests that have landed are met: each statement by the theorem of its name.
 use mathlib.Core.Path.{refl}
+use mathlib.Core.Bool.{true, false}
 use Rattle.demands.specs.Requests.{BufferSizes, LastConstant, PlanChains, SplitCases, DegreeForBudget, SplitWithDistance, IntervalInHead}
-use Rattle.demands.specs.Requests.{BackFromLists, Requests}
+use Rattle.demands.specs.Requests.{BackFromLists, CurvesAdded, Requests}
+use Rattle.algebra.proofs.PolynomialSum.{polynomial-sum-law}
 use Rattle.number.proofs.SplitDistance.{third-is-distance, parts-differ, refused-zero, split-product}
 use Rattle.counts.specs.Choice.{splitFor}
 use Rattle.counts.specs.MinDepth.{minDepth}
 use Rattle.counts.proofs.Promises.{cases-published, chosen}
 use Rattle.counts.proofs.BudgetPromises.{largest-degrees, bits-fall, none-below-scale}
+use Rattle.lists.proofs.ArrangedKept.{arranged-kept}
+use Rattle.lists.proofs.ListSums.{lists-add, lists-multiply}
 use Rattle.rebuild.proofs.Promises.{rebuilds-lists, lists-rebuilt, lists-tell}
 use Rattle.rebuild.proofs.StopsAt.{stopped-refused}
 use Rattle.walk.proofs.Paths.{heaviest-greatest}
@@ -21,6 +25,7 @@ use Rattle.demands.proofs.StoredEarlier.{earlier-right}
 use Rattle.demands.proofs.Weighed.{stored-weighed, plans-weighed, chain-order}
 use Rattle.demands.proofs.HeadInterval.{intervals-told, unordered-refused, plans-alike}
 use Rattle.demands.proofs.RebuiltPlans.{rebuilds-plans, plans-rebuilt, rebuilt-right, plans-tell, rebuild-order}
+use Rattle.demands.proofs.AddedPlans.{lengths-shape, plans-add, added-right, plans-multiply, multiplied-right}
 
 pub buffer-sizes : BufferSizes
 buffer-sizes = record { plans-sized = plans-sized; sizes-order = sizes-order }
@@ -85,6 +90,21 @@ back-from-lists = record {
   stopped-refused = stopped-refused;
 }
 
+pub curves-added : CurvesAdded
+curves-added = record {
+  plans-add = plans-add false;
+  plans-multiply = plans-multiply false;
+  lists-add = lists-add;
+  lists-multiply = lists-multiply;
+  polynomial-sum-law = λ 𝓡. polynomial-sum-law 𝓡;
+  folded-plans-add = plans-add true;
+  folded-plans-multiply = plans-multiply true;
+  added-right = added-right;
+  multiplied-right = multiplied-right;
+  lengths-shape = lengths-shape;
+  arranged-kept = arranged-kept;
+}
+
 pub requests : Requests
 requests = record {
   buffer-sizes = buffer-sizes;
@@ -95,4 +115,5 @@ requests = record {
   split-with-distance = split-with-distance;
   interval-in-head = interval-in-head;
   back-from-lists = back-from-lists;
+  curves-added = curves-added;
 }

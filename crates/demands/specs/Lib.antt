@@ -18,4 +18,6 @@ pub mod Sized
 pub mod Weighed
 pub mod HeadInterval
 pub mod RebuiltPlans
+pub mod MadePlan
+pub mod AddedPlans
 pub mod Requests

@@ -1,9 +1,11 @@
 -- The requests of document 02 that have landed, in its words, each sentence over the statements that say it. docs/REQUESTS.md has a note on each, and
 -- proofs/Requests proves them all.
 use mathlib.Core.Path.{_≡_}
+use mathlib.Core.Bool.{Bool, true, false}
 use mathlib.Core.List.{[], _∷_, map}
 use Prim.Native.Nat.{ℕ}
 use Rattle.algebra.specs.Ring.{Ring}
+use Rattle.algebra.specs.PolynomialSumLaw.{PolynomialSumLaw}
 use Rattle.algebra.specs.declared.Basis.{Basis}
 use Rattle.algebra.specs.declared.Parity.{Parity}
 use Rattle.number.specs.Bits.{bitLen}
@@ -15,6 +17,8 @@ use Rattle.counts.specs.Promises.{CasesPublished, Chosen}
 use Rattle.counts.specs.BudgetPromises.{LargestDegrees, BitsFall, NoneBelowScale}
 use Rattle.counts.specs.declared.choice.SplitStrategy.{SplitStrategy}
 use Rattle.counts.specs.declared.choice.SplitStrategy.the-variants.{MinDepth}
+use Rattle.lists.specs.ArrangedKept.{ArrangedKept}
+use Rattle.lists.specs.ListSums.{ListsAdd, ListsMultiply}
 use Rattle.rebuild.specs.Promises.{RebuildsLists, ListsRebuilt, ListsTell}
 use Rattle.rebuild.specs.StopsAt.{StoppedRefused}
 use Rattle.walk.specs.Paths.{HeaviestGreatest}
@@ -30,6 +34,7 @@ use Rattle.demands.specs.StoredEarlier.{EarlierRight}
 use Rattle.demands.specs.Weighed.{StoredWeighed, PlansWeighed, ChainOrder}
 use Rattle.demands.specs.HeadInterval.{IntervalsTold, UnorderedRefused, PlansAlike}
 use Rattle.demands.specs.RebuiltPlans.{RebuildsPlans, PlansRebuilt, RebuiltRight, PlansTell, RebuildOrder}
+use Rattle.demands.specs.AddedPlans.{LengthsShape, PlansAdd, AddedRight, PlansMultiply, MultipliedRight}
 
 -- Q-1. Buffer sizes before the curve is there.
 pub record BufferSizes : Type 0 where
@@ -142,6 +147,28 @@ pub record BackFromLists : Type 0 where
   -- "then with 34 when at some cut a doubled coefficient is odd or a rebuilt number is beyond i64": exactly then, and at every cut, inner ones too.
   pub stopped-refused : StoppedRefused
 
+-- Q-9. Adding two curves.
+pub record CurvesAdded : Type 1 where
+  -- "Let two whole polynomials have the same length, basis, parity and strategy, and let both and their sum be accepted unfolded. Then the lists of the
+  -- sum are the sums of the lists, place by place, with equal boundaries and steps." So are the heads, on the same interval.
+  pub plans-add : PlansAdd false
+  -- "The same holds for a curve multiplied by a whole number, where the multiple is accepted too."
+  pub plans-multiply : PlansMultiply false
+  -- "This is to be shown of the planning that exists." The list call does so too.
+  pub lists-add : ListsAdd
+  pub lists-multiply : ListsMultiply
+  -- The sum and the multiple are those of the values, at every point.
+  pub polynomial-sum-law : {A : Type 0} (𝓡 : Ring A) → PolynomialSumLaw 𝓡
+  -- Beyond the request. Plans that are made with folding add and multiply too.
+  pub folded-plans-add : PlansAdd true
+  pub folded-plans-multiply : PlansMultiply true
+  -- A sum or multiple that would be accepted needs no further call: added or multiplied lists are walked to its value with what else a plan has.
+  pub added-right : (folded : Bool) → AddedRight folded
+  pub multiplied-right : (folded : Bool) → MultipliedRight folded
+  -- All this comes of two laws. Boundaries, steps and head go by the length alone, and a map that keeps every cut keeps the lists.
+  pub lengths-shape : LengthsShape
+  pub arranged-kept : (A B : Type 0) → ArrangedKept A B
+
 pub record Requests : Type 1 where
   pub buffer-sizes : BufferSizes
   pub last-constant : LastConstant
@@ -151,3 +178,4 @@ pub record Requests : Type 1 where
   pub split-with-distance : SplitWithDistance
   pub interval-in-head : IntervalInHead
   pub back-from-lists : BackFromLists
+  pub curves-added : CurvesAdded

@@ -9,6 +9,7 @@ pub mod LargestDegree
 pub mod Plan
 pub mod HeadInterval
 pub mod Rebuild
+pub mod Sums
 pub mod Lines
 pub mod Texts
 pub mod Answers

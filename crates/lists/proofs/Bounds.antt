@@ -20,31 +20,34 @@ use Rattle.algebra.proofs.FoldPlaces.{length-everySecond, length-sumRFrom, fold
 use Rattle.algebra.proofs.FoldMagnitudes.{abs-addR, sumAbs-everySecond}
 use Rattle.algebra.proofs.Magnitudes.{sumAbs-drop}
 use Rattle.number.specs.Limits.{planLimit, sumLimit}
-use Rattle.number.specs.Exact.{AllTo53}
+use Rattle.number.specs.Exact.{To53, AllTo53}
 use Rattle.number.specs.inside.Room.{SumByLengthTo53}
 use Rattle.number.specs.Tests.{degreeOf}
-use Rattle.number.proofs.Within.{within-append, within-sum}
+use Rattle.number.proofs.Within.{within-sum}
 use Rattle.lists.specs.Tree.{Tree, leaf, cut, treeOf}
-use Rattle.lists.specs.Arrange.{arranged}
+use Rattle.lists.specs.ArrangedKept.{EachMade}
 use Rattle.lists.specs.TreeFacts.{Sound}
 use Rattle.lists.specs.Promises.{listedAs}
+use Rattle.lists.proofs.ArrangedKept.{each-arranged}
 use Rattle.lists.proofs.Arranging.{low-size, high-size}
 use Rattle.lists.proofs.SumByLength.{sum-by-length-start, sum-by-length-sum, sum-by-length-low, sum-by-length-high}
 use Rattle.lists.proofs.TreeFacts.{trees-sound}
 
 -- ---- through the cuts
 
-arranged-to-53 : (basis : Basis) (base : ℕ) (tree : Tree) (c : List ℤ) → Sound base tree (length c) → SumByLengthTo53 c
-    → AllTo53 (arranged wholeOps basis tree c)
-unfolding arranged
-arranged-to-53 basis base leaf c sound room = within-sum (2 ^ 53) c (sum-by-length-sum c room)
-arranged-to-53 basis base (cut p low high) c sound room =
+-- so is every number on the way, where the cuts stay within it
+pub made-to-53 : (basis : Basis) (base : ℕ) (tree : Tree) (c : List ℤ) → Sound base tree (length c) → SumByLengthTo53 c
+    → EachMade To53 wholeOps basis tree c
+made-to-53 basis base leaf c sound room = within-sum (2 ^ 53) c (sum-by-length-sum c room)
+made-to-53 basis base (cut p low high) c sound room =
     let c₁ = cutAt wholeOps basis p c in
     let under : p < length c = sound .under in
-    within-append (2 ^ 53) (arranged wholeOps basis low (take p c₁)) (arranged wholeOps basis high (drop p c₁))
-    (arranged-to-53 basis base low (take p c₁) (rw (low-size wholeOps basis p c under) (sound .low)) (sum-by-length-low basis p c (omega arith) room))
-    (arranged-to-53 basis base high (drop p c₁) (rw (high-size wholeOps basis p c under) (sound .high))
-    (sum-by-length-high basis p c (omega arith) (sound .half) room))
+    record {
+      given = within-sum (2 ^ 53) c (sum-by-length-sum c room);
+      low = made-to-53 basis base low (take p c₁) (rw (low-size wholeOps basis p c under) (sound .low)) (sum-by-length-low basis p c (omega arith) room);
+      high = made-to-53 basis base high (drop p c₁) (rw (high-size wholeOps basis p c under) (sound .high))
+          (sum-by-length-high basis p c (omega arith) (sound .half) room);
+    }
 
 -- every plan tree is sound for the coefficients that it lists
 pub sound-for : {A : Type 0} (leading : Bool) (whole split : ℕ) (c : List A) → 0 < length c → degreeOf c ≤ planLimit → 1 ≤ split
@@ -56,7 +59,8 @@ sound-for leading whole split c nonempty few from =
 pub listed-to-53 : (leading : Bool) (basis : Basis) (whole split : ℕ) (c : List ℤ) → SumByLengthTo53 c → 0 < length c → degreeOf c ≤ planLimit
     → 1 ≤ split → AllTo53 (listedAs wholeOps leading basis whole split c)
 listed-to-53 leading basis whole split c room nonempty few from =
-    arranged-to-53 basis (2 ^ split) (treeOf leading whole (degreeOf c) split) c (sound-for leading whole split c nonempty few from) room
+    let tree = treeOf leading whole (degreeOf c) split in
+    each-arranged To53 wholeOps basis tree c (made-to-53 basis (2 ^ split) tree c (sound-for leading whole split c nonempty few from) room)
 
 -- ---- before the first cut
 

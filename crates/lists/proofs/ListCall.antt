@@ -40,6 +40,10 @@ whole-listable leading split c bounds degree small long = record {
 pub front : {A : Type 0} (xs out : List A) → length xs ≤ length out → sets out 0 xs ≡ xs ++ drop (length xs) out
 front xs out fits = let all : 0 + length xs ≡ length xs = omega arith in sets-eq xs out 0 (omega arith) ∙ ap (λ (k : ℕ). xs ++ drop k out) all
 
+-- and taken again
+pub front-take : {A : Type 0} (xs out : List A) (n : ℕ) → length xs ≡ n → n ≤ length out → take n (sets out 0 xs) ≡ xs
+front-take xs out n size fits = ap (take n) (front xs out (omega arith)) ∙ take-at xs (drop (length xs) out) n size
+
 -- the shape's fields
 shape-answer : (refusal n split lists : ℕ)
     → shapeOf refusal n split lists .answer

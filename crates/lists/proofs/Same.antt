@@ -1,63 +1,48 @@
--- The f64 call writes equal numbers: `num` carries whole numbers up to 2^53 to f64 and keeps doubling and subtraction, and all numbers at a cut
--- are within 2^53. So each cut, the whole arrangement and both buffers are carried over; answer and boundaries see no coefficient at all.
-use mathlib.Core.Path.{_≡_, refl, ap, ap₂, _∙_}
+-- The f64 call writes equal numbers: up to 2^53 the f64 of a whole number is a map that keeps every cut, and all numbers at a cut are within 2^53. So
+-- the whole arrangement is kept, and with it both buffers; answer and boundaries see no coefficient at all.
+use mathlib.Core.Path.{_≡_, refl, ap, _∙_}
 use mathlib.Core.Bool.{Bool, true}
-use mathlib.Core.List.{List, _++_, map, map-append}
-use Prim.Native.Nat.{ℕ, zero, suc, _+_, _^_, _≤_, _<_}
+use mathlib.Core.List.{List, map}
+use Prim.Native.Nat.{ℕ, zero, suc, _^_, _≤_, _<_}
 use native.Mathlib.Omega.{arith}
 use borrow.Author.Tests.{leb-true}
+use lib.Ieee.{Float}
 use lib.IntN.{ℤ}
-use lib.ListN.{length, take, drop, length-map}
+use lib.ListN.{length, length-map}
 use lib.Seq.{sets}
 use Rattle.algebra.specs.Operations.{wholeOps}
-use Rattle.algebra.specs.Cut.{cutAt}
 use Rattle.algebra.specs.Magnitude.{sumAbs}
 use Rattle.algebra.specs.declared.Basis.{Basis}
 use Rattle.algebra.specs.declared.Parity.{Parity}
+use Rattle.algebra.proofs.Maps.{map-sets}
 use Rattle.number.specs.Limits.{planLimit, sumLimit}
 use Rattle.number.specs.Numbers.{wholeNumbers, floatOps, floatNumbers}
-use Rattle.number.specs.Exact.{num}
+use Rattle.number.specs.Exact.{num, To53}
 use Rattle.number.specs.Refusal.{unlessRefused}
 use Rattle.number.specs.inside.Room.{SumByLengthTo53}
 use Rattle.number.specs.Tests.{degreeOf}
-use Rattle.number.proofs.CutSame.{cuts-same}
-use Rattle.number.proofs.Within.{within-sum}
-use Rattle.number.proofs.Maps.{map-take, map-drop, map-sets}
+use Rattle.number.proofs.CutSame.{num-keeps}
 use Rattle.counts.specs.Choice.{splitFor}
 use Rattle.counts.specs.declared.choice.SplitStrategy.{SplitStrategy}
 use Rattle.counts.proofs.ChoiceLaws.{split-range}
-use Rattle.lists.specs.Tree.{Tree, leaf, cut, treeOf, relists, planTree}
+use Rattle.lists.specs.Tree.{Tree, treeOf, relists, planTree}
 use Rattle.lists.specs.Arrange.{arranged}
-use Rattle.lists.specs.TreeFacts.{Sound}
 use Rattle.lists.specs.ListCall.{listRefusal, listAnswer, listCoefficients, listBoundaries}
 use Rattle.lists.specs.Promises.{listedAs, CallsSame}
-use Rattle.lists.proofs.Arranging.{low-size, high-size}
-use Rattle.lists.proofs.SumByLength.{sum-by-length-start, sum-by-length-sum, sum-by-length-to-52, sum-by-length-low, sum-by-length-high}
+use Rattle.lists.proofs.ArrangedKept.{arranged-kept}
+use Rattle.lists.proofs.SumByLength.{sum-by-length-start}
 use Rattle.lists.proofs.ListCall.{list-passed}
-use Rattle.lists.proofs.Bounds.{sound-for}
+use Rattle.lists.proofs.Bounds.{made-to-53, sound-for}
 
--- ---- a tree
-
-same-tree : (basis : Basis) (base : ℕ) (tree : Tree) (c : List ℤ) → Sound base tree (length c) → SumByLengthTo53 c
-    → arranged floatOps basis tree (map num c) ≡ map num (arranged wholeOps basis tree c)
-unfolding arranged
-same-tree basis base leaf c sound room = refl
-same-tree basis base (cut p low high) c sound room =
-    let c₁ = cutAt wholeOps basis p c in
-    let under : p < length c = sound .under in
-    let same = cuts-same basis p c in
-    let written = same .within (sum-by-length-to-52 c (omega (arith, sound .half)) room) in
-    rw (same .written (within-sum (2 ^ 53) c (sum-by-length-sum c room)) written, map-take num p c₁, map-drop num p c₁, map-append)
-    (ap₂ _++_
-    (same-tree basis base low (take p c₁) (rw (low-size wholeOps basis p c under) (sound .low)) (sum-by-length-low basis p c (omega arith) room))
-    (same-tree basis base high (drop p c₁) (rw (high-size wholeOps basis p c under) (sound .high))
-    (sum-by-length-high basis p c (omega arith) (sound .half) room)))
+-- ---- a listing
 
 -- the lister alone, on any coefficients whose magnitudes sum to a number that times their count is at most 2^53
 pub arranged-same : (leading : Bool) (basis : Basis) (whole split : ℕ) (c : List ℤ) → SumByLengthTo53 c → 0 < length c → degreeOf c ≤ planLimit
     → 1 ≤ split → arranged floatOps basis (treeOf leading whole (degreeOf c) split) (map num c) ≡ map num (listedAs wholeOps leading basis whole split c)
 arranged-same leading basis whole split c room nonempty few from =
-    same-tree basis (2 ^ split) (treeOf leading whole (degreeOf c) split) c (sound-for leading whole split c nonempty few from) room
+    let tree = treeOf leading whole (degreeOf c) split in
+    arranged-kept ℤ Float To53 wholeOps floatOps num num-keeps basis tree c
+    (made-to-53 basis (2 ^ split) tree c (sound-for leading whole split c nonempty few from) room)
 
 -- ---- the calls
 

@@ -4,5 +4,8 @@ pub mod Arrange
 pub mod TreeFacts
 pub mod Lists
 pub mod ListCall
+pub mod ArrangedKept
+pub mod ArrangedSums
+pub mod ListSums
 pub mod Promises
 pub mod inside

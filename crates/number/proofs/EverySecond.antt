@@ -1,6 +1,6 @@
 -- Every second element of a list: one more of them, those left after i, and the one at place i, each from any place on.
 use mathlib.Core.Path.{_≡_, refl, sym, ap, _∙_}
-use mathlib.Core.List.{List, [], _∷_, map}
+use mathlib.Core.List.{List, [], _∷_}
 use Prim.Native.Nat.{ℕ, zero, suc, _+_, _*_, _/_, _<_, _≤_}
 use native.Mathlib.Omega.{arith}
 use lib.ListN.{length, getD, drop, drop-of-length-le, length-drop}
@@ -51,10 +51,3 @@ module _ {A : Type 0} where
   -- how many there are from the second on
   pub length-odd-places : (c : List A) → length (everySecond (drop 1 c)) ≡ length c / 2
   length-odd-places c = omega (arith, length-everySecond (drop 1 c), length-drop 1 c)
-
--- of a map
-pub map-everySecond : {A B : Type 0} (f : A → B) (c : List A) → everySecond (map f c) ≡ map f (everySecond c)
-unfolding everySecond
-map-everySecond f [] = refl
-map-everySecond f (a ∷ []) = refl
-map-everySecond f (a ∷ b ∷ c) = ap (f a ∷_) (map-everySecond f c)

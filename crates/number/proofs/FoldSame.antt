@@ -16,14 +16,14 @@ use lib.Ieee.Exact.{HasValue}
 use lib.Ieee.Fits.{down-pos}
 use Rattle.algebra.specs.Allowed.{allows}
 use Rattle.algebra.specs.Operations.{wholeOps}
-use Rattle.algebra.specs.Fold.{everySecond, sumRFrom, fold}
+use Rattle.algebra.specs.Fold.{everySecond, fold}
 use Rattle.algebra.specs.Magnitude.{sumAbs}
 use Rattle.algebra.specs.declared.Basis.{Basis}
-use Rattle.algebra.specs.declared.Basis.the-variants.{Monomial, Chebyshev}
 use Rattle.algebra.specs.declared.Parity.{Parity}
-use Rattle.algebra.specs.declared.Parity.the-variants.{Full, Even, Odd}
 use Rattle.algebra.proofs.Magnitudes.{sumAbs-drop}
+use Rattle.algebra.proofs.FoldKept.{fold-by-sums}
 use Rattle.algebra.proofs.FoldMagnitudes.{sumAbs-everySecond, fold-magnitude}
+use Rattle.algebra.proofs.Maps.{map-sets}
 use Rattle.number.specs.Numbers.{wholeNumbers, floatOps, floatNumbers}
 use Rattle.number.specs.Limits.{sumLimit}
 use Rattle.number.specs.Parity.{hasParityFrom}
@@ -32,8 +32,6 @@ use Rattle.number.specs.Refusal.{unlessRefused}
 use Rattle.number.specs.FoldCall.{foldRefusal, foldAnswer, foldBuffer}
 use Rattle.number.specs.FoldSame.{FoldsSame}
 use Rattle.number.proofs.Within.{within-each}
-use Rattle.number.proofs.Maps.{map-drop, map-sets}
-use Rattle.number.proofs.EverySecond.{map-everySecond}
 use Rattle.number.proofs.WholeFloats.{of-int, abs-signed}
 use Rattle.number.proofs.Rows.{rows-num}
 
@@ -43,16 +41,9 @@ odds-small c h = omega (arith, sumAbs-everySecond (drop 1 c), sumAbs-drop 1 c)
 
 -- ---- equal numbers
 
-odds-num : (c : List ℤ) → everySecond (drop 1 (map num c)) ≡ map num (everySecond (drop 1 c))
-odds-num c = ap everySecond (map-drop num 1 c) ∙ map-everySecond num (drop 1 c)
-
 fold-num : (parity : Parity) (basis : Basis) (c : List ℤ) → sumAbs c ≤ 2 ^ 30 → fold floatOps parity basis (map num c) ≡ map num (fold wholeOps parity basis c)
-unfolding fold
-fold-num Full basis c h = refl
-fold-num Even basis c h = map-everySecond num c
-fold-num Odd Monomial c h = odds-num c
-fold-num Odd Chebyshev c h =
-    ap (sumRFrom floatOps 0) (odds-num c) ∙ rows-num 0 (everySecond (drop 1 c)) (omega (arith, odds-small c h))
+fold-num parity basis c h =
+    fold-by-sums wholeOps floatOps num parity basis c (rows-num 0 (everySecond (drop 1 c)) (omega (arith, odds-small c h)))
 
 -- ---- the same refusals
 

@@ -3,7 +3,6 @@ pub mod Literals
 pub mod Signed
 mod SignLaws
 pub mod Refusal
-pub mod Maps
 pub mod Within
 mod WholeFloats
 pub mod Exact

@@ -1,10 +1,9 @@
--- Lists whose numbers have magnitude at most n: from the number at each place and back, from the sum of the magnitudes, their parts, two
--- joined, and a reversed one. By recursion on the list.
-use mathlib.Core.List.{List, [], _∷_, _++_, reverse, reverse-cons, reverse-reverse}
+-- Lists whose numbers have magnitude at most n: from the number at each place and back, and from the sum of the magnitudes. By recursion on the list.
+use mathlib.Core.List.{List, [], _∷_}
 use Prim.Native.Nat.{ℕ, zero, suc, _≤_}
 use native.Mathlib.Omega.{arith}
 use lib.IntN.{ℤ, pos, natAbs}
-use lib.ListN.{getD, take, drop}
+use lib.ListN.{getD}
 use Rattle.algebra.specs.Magnitude.{sumAbs}
 use Rattle.number.specs.Exact.{Within}
 
@@ -25,33 +24,3 @@ module _ (n : ℕ) where
   unfolding sumAbs
   within-sum [] h = tt
   within-sum (x ∷ c) h = (omega arith, within-sum c (omega arith))
-
-  pub within-take : (p : ℕ) (c : List ℤ) → Within n c → Within n (take p c)
-  within-take zero c h = tt
-  within-take (suc p) [] h = tt
-  within-take (suc p) (x ∷ c) h = (h .0, within-take p c (h .1))
-
-  pub within-drop : (p : ℕ) (c : List ℤ) → Within n c → Within n (drop p c)
-  within-drop zero c h = h
-  within-drop (suc p) [] h = tt
-  within-drop (suc p) (x ∷ c) h = within-drop p c (h .1)
-
-  pub within-append : (c d : List ℤ) → Within n c → Within n d → Within n (c ++ d)
-  within-append [] d g h = h
-  within-append (x ∷ c) d g h = (g .0, within-append c d (g .1) h)
-
-  -- and back from two joined
-  pub within-left : (c d : List ℤ) → Within n (c ++ d) → Within n c
-  within-left [] d h = tt
-  within-left (x ∷ c) d h = (h .0, within-left c d (h .1))
-
-  pub within-right : (c d : List ℤ) → Within n (c ++ d) → Within n d
-  within-right [] d h = h
-  within-right (x ∷ c) d h = within-right c d (h .1)
-
-  pub within-reverse : (c : List ℤ) → Within n c → Within n (reverse c)
-  within-reverse [] h = tt
-  within-reverse (x ∷ c) h = rw (reverse-cons x) (within-append (reverse c) (x ∷ []) (within-reverse c (h .1)) (h .0, tt))
-
-  pub within-reversed : (c : List ℤ) → Within n (reverse c) → Within n c
-  within-reversed c h = rw (reverse-reverse c) at (within-reverse (reverse c) h)

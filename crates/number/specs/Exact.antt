@@ -1,10 +1,11 @@
 -- Whole numbers as f64 (docs/RULES.md, "Exactness of f64").
 use mathlib.Core.Path.{_≡_}
 use mathlib.Core.Bool.{Bool, true, false}
-use mathlib.Core.List.{List, [], _∷_}
+use mathlib.Core.List.{List}
 use Prim.Native.Nat.{ℕ, _*_, _≤_, _<_, _^_}
 use lib.IntN.{ℤ, pos, negℤ, natAbs, _+ℤ_, _-ℤ_, _*ℤ_}
 use lib.Ieee.{Float, nan, inf, fin, binary64, up, down, ofInt, toSigned}
+use Rattle.algebra.specs.Each.{Each}
 use Rattle.algebra.specs.Operations.{double}
 use Rattle.number.specs.Numbers.{floatOps}
 
@@ -29,8 +30,7 @@ To53 z = natAbs z ≤ 2 ^ 53
 
 -- every number of a list, of magnitude at most n
 abbrev pub Within : ℕ → List ℤ → Type 0
-Within n [] = Unit {0}
-Within n (x ∷ xs) = (natAbs x ≤ n) × Within n xs
+Within n c = Each (λ (z : ℤ). natAbs z ≤ n) c
 
 -- every number of a list, at most 2^53
 abbrev pub AllTo53 : List ℤ → Type 0

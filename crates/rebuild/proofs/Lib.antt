@@ -5,7 +5,6 @@ pub mod UndoLaws
 mod Undoing
 pub mod RebuildLaws
 mod PartRanges
-mod Fronts
 mod RebuildSteps
 mod EndsSteps
 pub mod RebuildTests

@@ -14,27 +14,20 @@ use lib.Seq.{sets, length-sets, length-take-le}
 use Rattle.algebra.specs.Operations.{wholeOps}
 use Rattle.algebra.specs.declared.Basis.{Basis}
 use Rattle.algebra.specs.declared.Parity.{Parity}
-use Rattle.number.specs.Limits.{planLimit}
 use Rattle.number.specs.Tests.{degreeOf}
-use Rattle.number.specs.inside.Between.{Between}
-use Rattle.number.specs.inside.Room.{SumByLengthTo53}
 use Rattle.number.proofs.BothHold.{and-left, and-right}
 use Rattle.counts.specs.Choice.{splitFor}
 use Rattle.counts.specs.declared.choice.SplitStrategy.{SplitStrategy}
-use Rattle.counts.proofs.ChoiceLaws.{split-range}
-use Rattle.lists.specs.Tree.{Tree, relists, planTree}
+use Rattle.lists.specs.Tree.{Tree, planTree}
 use Rattle.lists.specs.Arrange.{arranged, leavesOf, endsOf}
-use Rattle.lists.specs.TreeFacts.{Sound}
 use Rattle.lists.specs.declared.call.Listed.{Listed}
 use Rattle.lists.proofs.Arranging.{length-ends}
-use Rattle.lists.proofs.ListCall.{front}
-use Rattle.lists.proofs.Lists.{length-arranged}
-use Rattle.lists.proofs.TreeFacts.{trees-sound}
+use Rattle.lists.proofs.ListCall.{front, front-take}
+use Rattle.lists.proofs.Standing.{plan-sound, Stands, whole, sound, arranged-length, lists-are}
 use Rattle.rebuild.specs.Rebuild.{rebuilt}
 use Rattle.rebuild.specs.RebuildCall.{begins, rebuildAnswer, rebuildCoefficients, RebuildCall}
 use Rattle.rebuild.specs.Promises.{GivesAgain, ListsAgain}
 use Rattle.rebuild.specs.declared.call.Rebuilt.{Rebuilt}
-use Rattle.rebuild.proofs.Fronts.{front-take}
 use Rattle.rebuild.proofs.RebuildLaws.{rebuilt-arranged, length-rebuilt, arranged-rebuilt}
 use Rattle.rebuild.proofs.RebuildTests.{Passed, passed-of, passed-answer, passed-buffer}
 
@@ -52,24 +45,7 @@ begins-take (e ∷ es) [] is = absurd (false≢true is)
 begins-take (e ∷ es) (b ∷ bs) is =
     ap₂ _∷_ (sym (eqb-true e b (and-left (eqb e b) (begins es bs) is))) (begins-take es bs (and-right (eqb e b) (begins es bs) is))
 
--- ---- the tree of the settings is sound
-
-plan-sound : (strategy : SplitStrategy) (parity : Parity) (basis : Basis) (degree : ℕ) → Between 1 degree planLimit
-    → Sound (2 ^ splitFor strategy parity basis degree) (planTree strategy parity basis degree) (suc degree)
-plan-sound strategy parity basis degree degrees =
-    trees-sound (relists strategy) degree degree (splitFor strategy parity basis degree) (degrees .to)
-    (split-range strategy parity basis degree degrees .from)
-
--- ---- a polynomial whose cuts stay within 2^53, and whose lists and boundaries stand at the front of buffers
-
-pub record Stands (strategy : SplitStrategy) (parity : Parity) (basis : Basis) (c lists : List ℤ) (bounds : List ℕ) (lists′ : List ℤ)
-    (bounds′ : List ℕ) : Type 0 where
-  pub degrees : Between 1 (degreeOf c) planLimit
-  pub doubles : SumByLengthTo53 c
-  pub room : length c ≤ length lists
-  pub boundaries : leavesOf (planTree strategy parity basis (degreeOf c)) ≤ length bounds
-  pub listed : lists′ ≡ sets lists 0 (arranged wholeOps basis (planTree strategy parity basis (degreeOf c)) c)
-  pub ended : bounds′ ≡ sets bounds 0 (endsOf (planTree strategy parity basis (degreeOf c)) 0 (length c))
+-- ---- a polynomial whose lists stand at the front of buffers
 
 module _ {strategy : SplitStrategy} {parity : Parity} {basis : Basis} {c lists : List ℤ} {bounds : List ℕ} {lists′ : List ℤ} {bounds′ : List ℕ}
     (stands : Stands strategy parity basis c lists bounds lists′ bounds′) where
@@ -79,20 +55,8 @@ module _ {strategy : SplitStrategy} {parity : Parity} {basis : Basis} {c lists :
   abbrev base : ℕ
   base = 2 ^ splitFor strategy parity basis (degreeOf c)
 
-  pub whole : suc (degreeOf c) ≡ length c
-  whole = omega (arith, stands .degrees .from)
-
-  sound : Sound base tree (length c)
-  sound = rw whole at (plan-sound strategy parity basis (degreeOf c) (stands .degrees))
-
-  arranged-length : length (arranged wholeOps basis tree c) ≡ length c
-  arranged-length = length-arranged wholeOps basis base tree c sound
-
-  pub lists-are : take (length c) lists′ ≡ arranged wholeOps basis tree c
-  lists-are = ap (take (length c)) (stands .listed) ∙ front-take (arranged wholeOps basis tree c) lists (length c) arranged-length (stands .room)
-
   again : rebuilt basis tree (arranged wholeOps basis tree c) ≡ some c
-  again = rebuilt-arranged basis base tree c sound (stands .doubles)
+  again = rebuilt-arranged basis base tree c (sound stands) (stands .doubles)
 
   ends-length : length (endsOf tree 0 (length c)) ≤ length bounds
   ends-length = omega (arith, length-ends tree 0 (length c), stands .boundaries)
@@ -103,12 +67,12 @@ module _ {strategy : SplitStrategy} {parity : Parity} {basis : Basis} {c lists :
     degrees = stands .degrees;
     settings = record {
       base-is = refl;
-      ends-are = rw (whole, stands .ended, front (endsOf tree 0 (length c)) bounds ends-length) (begins-with (endsOf tree 0 (length c)) _);
-      places = rw (stands .listed) (omega (arith, length-sets lists 0 (arranged wholeOps basis tree c), whole, stands .room));
+      ends-are = rw (whole stands, stands .ended, front (endsOf tree 0 (length c)) bounds ends-length) (begins-with (endsOf tree 0 (length c)) _);
+      places = rw (stands .listed) (omega (arith, length-sets lists 0 (arranged wholeOps basis tree c), whole stands, stands .room));
     };
     c = c;
-    c-is = ap (λ (n : ℕ). rebuilt basis tree (take n lists′)) whole ∙ ap (rebuilt basis tree) lists-are ∙ again;
-    room-is = omega (arith, whole);
+    c-is = ap (λ (n : ℕ). rebuilt basis tree (take n lists′)) (whole stands) ∙ ap (rebuilt basis tree) (lists-are stands) ∙ again;
+    room-is = omega (arith, whole stands);
   }
 
   -- and gives the coefficients again
@@ -122,7 +86,7 @@ module _ {strategy : SplitStrategy} {parity : Parity} {basis : Basis} {c lists :
             call .answer
             ∙ ap₂ (λ (d k : ℕ). rebuildAnswer strategy parity basis d k lists′ bounds′ out) degree-is base-is
             ∙ passed-answer strategy parity basis (degreeOf c) base lists′ bounds′ out facts
-            ∙ ap (λ (n : ℕ). record { refusal = 0; coefficients = n }) whole;
+            ∙ ap (λ (n : ℕ). record { refusal = 0; coefficients = n }) (whole stands);
         coefficients =
             call .coefficients
             ∙ ap₂ (λ (d k : ℕ). rebuildCoefficients strategy parity basis d k lists′ bounds′ out) degree-is base-is

@@ -10,6 +10,8 @@ mod random;
 pub mod rebuilds;
 mod rules;
 mod smaller;
+mod summands;
+pub mod sums;
 mod sweeps;
 mod theirs;
 

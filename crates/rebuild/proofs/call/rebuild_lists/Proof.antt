@@ -4,8 +4,8 @@ use native.Mathlib.Omega.{arith}
 use borrow.Author.Needs.{needs}
 use lib.ListN.{length, take}
 use lib.Seq.{take-at}
+use Rattle.lists.proofs.ListCall.{front-take}
 use Rattle.rebuild.specs.inside.Rebuilding.{coefficientsAt}
-use Rattle.rebuild.proofs.Fronts.{front-take}
 use Rattle.rebuild.proofs.call.rebuild_lists.Statement.{statement}
 use Rattle.rebuild.proofs.call.rebuild_lists.Tie as tie
 

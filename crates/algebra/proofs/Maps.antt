@@ -1,9 +1,10 @@
--- A map over a first part, a last part, a reversed list and a list written to: it may be made before or after.
+-- A map may be made before or after: taking a first part, a last part or every second element, reversing a list, and writing to it.
 use mathlib.Core.Path.{_≡_, refl, sym, ap, _∙_}
 use mathlib.Core.List.{List, [], _∷_, _++_, map, map-append, reverse, reverse-cons}
 use Prim.Native.Nat.{ℕ, zero, suc}
 use lib.ListN.{take, drop, set}
 use lib.Seq.{sets}
+use Rattle.algebra.specs.Fold.{everySecond}
 
 module _ {A B : Type 0} (f : A → B) where
   pub map-take : (n : ℕ) (c : List A) → take n (map f c) ≡ map f (take n c)
@@ -20,6 +21,12 @@ module _ {A B : Type 0} (f : A → B) where
   map-reverse [] = refl
   map-reverse (a ∷ c) =
       rw (reverse-cons (f a), reverse-cons a) (ap (_++ (f a ∷ [])) (map-reverse c) ∙ sym (map-append f (reverse c) (a ∷ [])))
+
+  pub map-everySecond : (c : List A) → everySecond (map f c) ≡ map f (everySecond c)
+  unfolding everySecond
+  map-everySecond [] = refl
+  map-everySecond (a ∷ []) = refl
+  map-everySecond (a ∷ b ∷ c) = ap (f a ∷_) (map-everySecond c)
 
   pub map-set : (c : List A) (i : ℕ) (v : A) → set (map f c) i (f v) ≡ map f (set c i v)
   map-set [] i v = refl
