@@ -1,5 +1,5 @@
--- Every number written has magnitude at most 2^53: the sum of the magnitudes times the number of coefficients is at most 2^53 from the start, and
--- no cut makes it more.
+-- Every number written has magnitude at most 2^53, and so has every number on the way: the sum of the magnitudes times the number of coefficients is at most
+-- 2^53 from the start, and no cut makes it more.
 use mathlib.Core.Path.{_≡_}
 use mathlib.Core.Bool.{Bool}
 use mathlib.Core.List.{List, [], _∷_}
@@ -35,7 +35,7 @@ use Rattle.lists.proofs.TreeFacts.{trees-sound}
 
 -- ---- through the cuts
 
--- so is every number on the way, where the cuts stay within it
+-- every number made on the way is at most 2^53
 pub made-to-53 : (basis : Basis) (base : ℕ) (tree : Tree) (c : List ℤ) → Sound base tree (length c) → SumByLengthTo53 c
     → EachMade To53 wholeOps basis tree c
 made-to-53 basis base leaf c sound room = within-sum (2 ^ 53) c (sum-by-length-sum c room)
