@@ -68,7 +68,7 @@ PlansMultiply folded = (strategy : SplitStrategy) (parity : Parity) (basis : Bas
     (plan : MadePlan strategy parity basis folded c) (multiple : MadePlan strategy parity basis folded (multipleOf wholeOps k c))
     → PlansMultiplied k plan multiple
 
--- nor does a multiple that would be accepted
+-- so a multiple that would be accepted needs no call either
 abbrev pub MultipliedRight : (folded : Bool) → Type 0
 MultipliedRight folded = (strategy : SplitStrategy) (parity : Parity) (basis : Basis) (k : ℤ) (c : List ℤ)
     (plan : MadePlan strategy parity basis folded c) → Accepted folded parity (multipleOf wholeOps k c)

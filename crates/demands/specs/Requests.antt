@@ -150,7 +150,7 @@ pub record BackFromLists : Type 0 where
 -- Q-9. Adding two curves.
 pub record CurvesAdded : Type 1 where
   -- "Let two whole polynomials have the same length, basis, parity and strategy, and let both and their sum be accepted unfolded. Then the lists of the
-  -- sum are the sums of the lists, place by place, with equal boundaries and steps." So are the heads, on the same interval.
+  -- sum are the sums of the lists, place by place, with equal boundaries and steps." The heads are equal, too, on the same interval.
   pub plans-add : PlansAdd false
   -- "The same holds for a curve multiplied by a whole number, where the multiple is accepted too."
   pub plans-multiply : PlansMultiply false
@@ -165,7 +165,7 @@ pub record CurvesAdded : Type 1 where
   -- A sum or multiple that would be accepted needs no further call: added or multiplied lists are walked to its value with what else a plan has.
   pub added-right : (folded : Bool) → AddedRight folded
   pub multiplied-right : (folded : Bool) → MultipliedRight folded
-  -- All this comes of two laws. Boundaries, steps and head go by the length alone, and a map that keeps every cut keeps the lists.
+  -- Two laws give all this: boundaries, steps and head go by the length alone, and a map that keeps every cut keeps the lists.
   pub lengths-shape : LengthsShape
   pub arranged-kept : (A B : Type 0) → ArrangedKept A B
 
