@@ -23,6 +23,7 @@ pub mod FoldKept
 pub mod Remainders
 pub mod Homomorphism
 pub mod PolynomialSum
+pub mod PolynomialSumLaw
 pub mod IsRemainder
 pub mod RemainderLaw
 pub mod EnumNumbers

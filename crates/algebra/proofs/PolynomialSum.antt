@@ -3,7 +3,7 @@
 -- multiply by a number is such a map by itself.
 use mathlib.Core.Path.{_≡_, refl, ap, ap₂, sym, _∙_}
 use mathlib.Core.List.{List, [], _∷_, map, zipWith}
-use Prim.Native.Nat.{ℕ, suc}
+use Prim.Native.Nat.{suc}
 use native.Mathlib.Omega.{arith}
 use lib.ListN.{length}
 use Rattle.algebra.specs.Operations.{Operations}
@@ -12,16 +12,12 @@ use Rattle.algebra.specs.CutKept.{KeepsCuts}
 use Rattle.algebra.specs.Fold.{coeffR, fold}
 use Rattle.algebra.specs.FoldKept.{KeepsFolds}
 use Rattle.algebra.specs.PolynomialSum.{sumOf, multipleOf}
-use Rattle.algebra.specs.PolynomialSumLaw.{PolynomialSumLaw}
-use Rattle.algebra.specs.Power.{power}
-use Rattle.algebra.specs.Value.{dot}
 use Rattle.algebra.specs.declared.Basis.{Basis}
 use Rattle.algebra.specs.declared.Parity.{Parity}
 use Rattle.algebra.proofs.FoldKept.{fold-kept}
 use Rattle.algebra.proofs.Homomorphism.{Homomorphism, hom-coeffR}
 use Rattle.algebra.proofs.RingLaws as R
 use Rattle.algebra.proofs.Solve.{_:=_, num, _:+_, _:-_, _:*_, ring}
-use Rattle.algebra.proofs.Sums.{dot-nil, dot-cons}
 
 -- what holds of every number
 abbrev pub Any : {A : Type 0} → A → Type 0
@@ -156,33 +152,10 @@ module _ {A : Type 0} (𝓡 : Ring A) where
       → fold ops parity basis (multipleOf ops k c) ≡ multipleOf ops k (fold ops parity basis c)
   fold-multiple parity basis k c = fold-kept A A ops ops (k ⊗_) (multiple-folds k) parity basis c
 
-  -- ---- length and value
+  -- ---- the length
 
   pub length-sum : (c d : List A) → length c ≡ length d → length (sumOf ops c d) ≡ length c
   unfolding zipWith
   length-sum [] d same = refl
   length-sum (a ∷ c) [] same = absurd (omega arith)
   length-sum (a ∷ c) (b ∷ d) same = ap suc (length-sum c d (omega arith))
-
-  dot-sum : (b : ℕ → A) (c d : List A) → length c ≡ length d → dot ops b (sumOf ops c d) ≡ dot ops b c ⊕ dot ops b d
-  unfolding zipWith
-  dot-sum b [] [] same = rw (dot-nil ops b) (sym (𝓡 .add-zero 𝟘))
-  dot-sum b [] (y ∷ d) same = absurd (omega arith)
-  dot-sum b (x ∷ c) [] same = absurd (omega arith)
-  dot-sum b (x ∷ c) (y ∷ d) same =
-      let rest : ℕ → A = λ j. b (suc j) in
-      rw (dot-cons 𝓡 b (x ⊕ y) (zipWith _⊕_ c d), dot-cons 𝓡 b x c, dot-cons 𝓡 b y d, dot-sum rest c d (omega arith))
-      (ring 𝓡 (x ∷ y ∷ b 0 ∷ dot ops rest c ∷ dot ops rest d ∷ []) (λ x y p s t. (x :+ y) :* p :+ (s :+ t) := x :* p :+ s :+ (y :* p :+ t)) refl)
-
-  dot-multiple : (b : ℕ → A) (k : A) (c : List A) → dot ops b (multipleOf ops k c) ≡ k ⊗ dot ops b c
-  dot-multiple b k [] = rw (dot-nil ops b) (sym (R.mul-zero 𝓡 k))
-  dot-multiple b k (x ∷ c) =
-      let rest : ℕ → A = λ j. b (suc j) in
-      rw (dot-cons 𝓡 b (k ⊗ x) (map (k ⊗_) c), dot-cons 𝓡 b x c, dot-multiple rest k c)
-      (ring 𝓡 (k ∷ x ∷ b 0 ∷ dot ops rest c ∷ []) (λ k x p s. k :* x :* p :+ k :* s := k :* (x :* p :+ s)) refl)
-
-  pub polynomial-sum-law : PolynomialSumLaw 𝓡
-  polynomial-sum-law = record {
-    sum-value = λ basis x. dot-sum (power ops basis x);
-    multiple-value = λ basis x. dot-multiple (power ops basis x);
-  }

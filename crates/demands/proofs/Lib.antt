@@ -25,6 +25,6 @@ pub mod Sized
 pub mod Weighed
 pub mod HeadInterval
 pub mod RebuiltPlans
-mod MadePlan
+pub mod MadePlan
 pub mod AddedPlans
 pub mod Requests

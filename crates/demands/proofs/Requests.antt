@@ -3,7 +3,7 @@ use mathlib.Core.Path.{refl}
 use mathlib.Core.Bool.{true, false}
 use Rattle.demands.specs.Requests.{BufferSizes, LastConstant, PlanChains, SplitCases, DegreeForBudget, SplitWithDistance, IntervalInHead}
 use Rattle.demands.specs.Requests.{BackFromLists, CurvesAdded, Requests}
-use Rattle.algebra.proofs.PolynomialSum.{polynomial-sum-law}
+use Rattle.algebra.proofs.PolynomialSumLaw.{polynomial-sum-law}
 use Rattle.number.proofs.SplitDistance.{third-is-distance, parts-differ, refused-zero, split-product}
 use Rattle.counts.specs.Choice.{splitFor}
 use Rattle.counts.specs.MinDepth.{minDepth}
@@ -25,6 +25,7 @@ use Rattle.demands.proofs.StoredEarlier.{earlier-right}
 use Rattle.demands.proofs.Weighed.{stored-weighed, plans-weighed, chain-order}
 use Rattle.demands.proofs.HeadInterval.{intervals-told, unordered-refused, plans-alike}
 use Rattle.demands.proofs.RebuiltPlans.{rebuilds-plans, plans-rebuilt, rebuilt-right, plans-tell, rebuild-order}
+use Rattle.demands.proofs.MadePlan.{plans-if-accepted}
 use Rattle.demands.proofs.AddedPlans.{lengths-shape, plans-add, added-right, plans-multiply, multiplied-right}
 
 pub buffer-sizes : BufferSizes
@@ -94,6 +95,7 @@ pub curves-added : CurvesAdded
 curves-added = record {
   plans-add = plans-add false;
   plans-multiply = plans-multiply false;
+  plans-if-accepted = plans-if-accepted;
   lists-add = lists-add;
   lists-multiply = lists-multiply;
   polynomial-sum-law = λ 𝓡. polynomial-sum-law 𝓡;

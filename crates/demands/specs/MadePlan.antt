@@ -9,8 +9,9 @@ use lib.ListN.{take}
 use Rattle.algebra.specs.declared.Basis.{Basis}
 use Rattle.algebra.specs.declared.Parity.{Parity}
 use Rattle.counts.specs.declared.choice.SplitStrategy.{SplitStrategy}
-use Rattle.plan.specs.PlanCall.{PlanCall}
+use Rattle.plan.specs.PlanCall.{Accepted, PlanCall}
 use Rattle.plan.specs.declared.call.Planned.{Planned}
+use Rattle.demands.specs.Accepts.{BringsPlan}
 
 -- a call with these settings that accepted c: the interval and the buffers that it was lent, its answer, and what it left in the buffers
 pub record MadePlan (strategy : SplitStrategy) (parity : Parity) (basis : Basis) (folded : Bool) (c : List ℤ) : Type 0 where
@@ -36,3 +37,13 @@ module _ {strategy : SplitStrategy} {parity : Parity} {basis : Basis} {folded : 
 
   abbrev pub stepsIn : List ℕ
   stepsIn = take (4 * plan .answer .head .steps) (plan .steps′)
+
+-- a plan is made of what is accepted, on every interval with its bounds in order and in all buffers that are long enough; and of nothing else
+pub record MadeIfAccepted (strategy : SplitStrategy) (parity : Parity) (basis : Basis) (folded : Bool) (c : List ℤ) : Type 0 where
+  pub made : (a b : Float) (out : List ℤ) (bounds steps : List ℕ) → BringsPlan strategy parity basis folded c a b out bounds steps
+      → MadePlan strategy parity basis folded c
+  pub accepted : MadePlan strategy parity basis folded c → Accepted folded parity c
+
+abbrev pub PlansIfAccepted : Type 0
+PlansIfAccepted = (strategy : SplitStrategy) (parity : Parity) (basis : Basis) (folded : Bool) (c : List ℤ)
+    → MadeIfAccepted strategy parity basis folded c

@@ -34,6 +34,7 @@ use Rattle.demands.specs.StoredEarlier.{EarlierRight}
 use Rattle.demands.specs.Weighed.{StoredWeighed, PlansWeighed, ChainOrder}
 use Rattle.demands.specs.HeadInterval.{IntervalsTold, UnorderedRefused, PlansAlike}
 use Rattle.demands.specs.RebuiltPlans.{RebuildsPlans, PlansRebuilt, RebuiltRight, PlansTell, RebuildOrder}
+use Rattle.demands.specs.MadePlan.{PlansIfAccepted}
 use Rattle.demands.specs.AddedPlans.{LengthsShape, PlansAdd, AddedRight, PlansMultiply, MultipliedRight}
 
 -- Q-1. Buffer sizes before the curve is there.
@@ -154,6 +155,8 @@ pub record CurvesAdded : Type 1 where
   pub plans-add : PlansAdd false
   -- "The same holds for a curve multiplied by a whole number, where the multiple is accepted too."
   pub plans-multiply : PlansMultiply false
+  -- Accepted is said by calls that made a plan: there are such calls of what is accepted, and of nothing else.
+  pub plans-if-accepted : PlansIfAccepted
   -- "This is to be shown of the planning that exists." The list call does so too.
   pub lists-add : ListsAdd
   pub lists-multiply : ListsMultiply
