@@ -130,11 +130,11 @@ plans-multiply folded strategy parity basis k c plan multiple = record {
 -- ---- without a call
 
 -- head, lists, boundaries and steps of a polynomial's plan are walked to its value, wherever they come from
-walks-by : (strategy : SplitStrategy) (parity : Parity) (basis : Basis) (folded : Bool) (c : List ℤ) (a b : Float) {head : Head} {lists : List ℤ}
+plan-walks : (strategy : SplitStrategy) (parity : Parity) (basis : Basis) (folded : Bool) (c : List ℤ) (a b : Float) {head : Head} {lists : List ℤ}
     {bounds steps : List ℕ} → Accepted folded parity c → head ≡ headFor strategy parity basis folded c a b
     → lists ≡ coefficientsFor strategy parity basis folded c → bounds ≡ boundariesFor strategy parity basis folded c
     → steps ≡ numbersFor strategy parity basis folded c → (x : ℤ) → WalksRight head lists bounds steps basis c x
-walks-by strategy parity basis folded c a b {head} {lists} {bounds} {steps} accepted head-is lists-are bounds-are steps-are x =
+plan-walks strategy parity basis folded c a b {head} {lists} {bounds} {steps} accepted head-is lists-are bounds-are steps-are x =
     rw head-is
     (stored-right strategy parity basis folded c a b lists bounds steps x accepted record {
       more-coefficients = [];
@@ -151,7 +151,7 @@ module _ {strategy : SplitStrategy} {parity : Parity} {basis : Basis} {folded : 
   walks-beside : {lists : List ℤ} → Accepted folded parity d → lists ≡ coefficientsFor strategy parity basis folded d
       → (x : ℤ) → WalksRight (plan .answer .head) lists (boundariesIn plan) (stepsIn plan) basis d x
   walks-beside {lists} accepted lists-are =
-      walks-by strategy parity basis folded d (plan .lower) (plan .upper) accepted
+      plan-walks strategy parity basis folded d (plan .lower) (plan .upper) accepted
       (made-head plan ∙ heads-same strategy parity basis folded c d same (plan .lower) (plan .upper)) lists-are
       (made-boundaries plan ∙ boundaries-same strategy parity basis folded c d same)
       (made-steps plan ∙ steps-same strategy parity basis folded c d same)
