@@ -11,7 +11,7 @@ fn plan(curve: &[i64]) -> Result<Plan, Refusal> {
 /// The value at 2, modulo a million, of lists with the rest of a plan.
 fn value(plan: &Plan, lists: &[i64]) -> Result<u64, Refusal> {
     let (bounds, steps) = (plan.boundaries(), plan.step_numbers());
-    trial_walk(&plan.head(), lists, bounds, steps, 2, 1_000_000)
+    trial_walk(plan.head(), lists, bounds, steps, 2, 1_000_000)
 }
 
 fn main() -> Result<(), Refusal> {
