@@ -328,8 +328,8 @@ firrozun_sizes firrozun_plan_sizes(uint8_t strategy, uint8_t parity, uint8_t bas
  * firrozun_decompose_bsgs leaves them, and in `steps` four numbers for each step. The interval goes into the head alone; lists and steps are the same
  * on every interval. firrozun_plan_sizes tells how many places the buffers need; FIRROZUN_COEFFICIENT_ROOM, FIRROZUN_BOUNDARY_ROOM and
  * FIRROZUN_STEP_ROOM are always enough.
- * Plans add: of two polynomials with one length and the same settings, the lists of the sum are the sums of the lists, place by place, and boundaries
- * and steps are equal, if both and the sum are planned. So do multiples by a whole number.
+ * Plans add: if two polynomials have one length and the same settings, and both and their sum are accepted, then the lists of the sum are the sums of the
+ * lists, place by place, with equal boundaries and steps. The same holds for a polynomial times a whole number.
  * Refusals 43, 2 (above 4,095), 1, with folding 5, 6, then 4, 3, 7, 21, 22, 23. */
 firrozun_planned firrozun_plan(uint8_t strategy, uint8_t parity, uint8_t basis, uint8_t fold, const int64_t *c, size_t c_len, double a, double b,
                                int64_t *out, size_t out_len, uint16_t *bounds, size_t bounds_len, uint16_t *steps, size_t steps_len);

@@ -17,15 +17,15 @@ use Rattle.algebra.proofs.Integers.{integers}
 use Rattle.algebra.proofs.PolynomialSum.{length-sum, fold-sum, fold-multiple}
 use Rattle.number.specs.Interval.{changeOfBasis}
 use Rattle.counts.specs.declared.choice.SplitStrategy.{SplitStrategy}
-use Rattle.lists.specs.Tree.{Tree, planTree}
-use Rattle.lists.specs.Arrange.{arranged, endsOf}
-use Rattle.lists.proofs.ArrangedSums.{arranged-sums}
+use Rattle.lists.specs.Tree.{planTree}
+use Rattle.lists.specs.Arrange.{endsOf}
+use Rattle.lists.proofs.ArrangedSums.{listed, listed-sum, listed-multiple}
 use Rattle.walk.specs.IntervalUnread.{SameButInterval, withInterval}
 use Rattle.walk.specs.WalksHeld.{flat}
 use Rattle.walk.specs.declared.plan.Head.{Head}
 use Rattle.plan.specs.PlanSteps.{planSteps}
 use Rattle.plan.specs.PlanHead.{headOf}
-use Rattle.plan.specs.PlanCall.{plannedCoefficients, plannedParity, plannedTransform, Accepted, planned, tree}
+use Rattle.plan.specs.PlanCall.{plannedCoefficients, plannedParity, plannedTransform, Accepted, planned}
 use Rattle.plan.specs.PlanCall.{coefficientsFor, boundariesFor, numbersFor, headFor}
 use Rattle.demands.specs.AddedPlans.{LengthsShape, PlansAdd, AddedRight, PlansMultiply, MultipliedRight}
 use Rattle.demands.specs.MadePlan.{MadePlan, boundariesIn, stepsIn}
@@ -62,11 +62,8 @@ module _ (strategy : SplitStrategy) (parity : Parity) (basis : Basis) (folded : 
     size : length (planned strategy parity basis folded c) ≡ length (planned strategy parity basis folded d)
     size = planned-length folded parity basis c d same
 
-    trees-same : tree strategy parity basis folded c ≡ tree strategy parity basis folded d
-    trees-same = ap (λ (n : ℕ). planTree strategy (plannedParity folded parity) basis (n - 1)) size
-
     boundaries-same : boundariesFor strategy parity basis folded c ≡ boundariesFor strategy parity basis folded d
-    boundaries-same = ap₂ (λ (t : Tree) (n : ℕ). endsOf t 0 n) trees-same size
+    boundaries-same = ap (λ (n : ℕ). endsOf (planTree strategy (plannedParity folded parity) basis (n - 1)) 0 n) size
 
     steps-same : numbersFor strategy parity basis folded c ≡ numbersFor strategy parity basis folded d
     steps-same = ap (λ (n : ℕ). flat (planSteps strategy (plannedParity folded parity) basis (n - 1))) size
@@ -85,16 +82,14 @@ module _ (strategy : SplitStrategy) (parity : Parity) (basis : Basis) (folded : 
       → coefficientsFor strategy parity basis folded (sumOf wholeOps c d)
       ≡ sumOf wholeOps (coefficientsFor strategy parity basis folded c) (coefficientsFor strategy parity basis folded d)
   lists-sum c d same =
-      ap₂ (arranged wholeOps basis) (trees-same (sumOf wholeOps c d) c (length-sum integers c d same)) (planned-sum folded parity basis c d same)
-      ∙ arranged-sums integers .sums basis (tree strategy parity basis folded c) _ _ (size c d same)
-      ∙ ap (λ (t : Tree). sumOf wholeOps (coefficientsFor strategy parity basis folded c) (arranged wholeOps basis t (planned strategy parity basis folded d)))
-      (trees-same c d same)
+      ap (listed strategy (plannedParity folded parity) basis) (planned-sum folded parity basis c d same)
+      ∙ listed-sum strategy (plannedParity folded parity) basis _ _ (size c d same)
 
   lists-multiple : (k : ℤ) (c : List ℤ)
       → coefficientsFor strategy parity basis folded (multipleOf wholeOps k c) ≡ multipleOf wholeOps k (coefficientsFor strategy parity basis folded c)
   lists-multiple k c =
-      ap₂ (arranged wholeOps basis) (trees-same (multipleOf wholeOps k c) c (length-multiple k c)) (planned-multiple folded parity basis k c)
-      ∙ arranged-sums integers .multiples basis (tree strategy parity basis folded c) k (planned strategy parity basis folded c)
+      ap (listed strategy (plannedParity folded parity) basis) (planned-multiple folded parity basis k c)
+      ∙ listed-multiple strategy (plannedParity folded parity) basis k (planned strategy parity basis folded c)
 
 -- ---- the call
 

@@ -22,48 +22,36 @@ use Rattle.rebuild.specs.RebuildCall.{RebuildCall}
 use Rattle.rebuild.specs.declared.call.Rebuilt.{Rebuilt}
 use Rattle.rebuild.proofs.RoundTrips.{gives-again, same-lists, lists-again, listed-front, ended-front}
 use Rattle.plan.specs.PlanHead.{headOf}
-use Rattle.plan.specs.PlanCall.{plannedCoefficients, plannedParity, headFor, planRefusal, planAnswer, planCoefficients, planBoundaries, PlanCall}
+use Rattle.plan.specs.PlanCall.{plannedCoefficients, plannedParity, planCoefficients, planBoundaries, PlanCall}
 use Rattle.plan.specs.declared.call.Planned.{Planned}
 use Rattle.plan.proofs.PlanTests.{passed, planned-to-53}
-use Rattle.demands.specs.Accepts.{BringsPlan}
 use Rattle.demands.specs.RebuiltPlans.{RebuildsPlans, listedIn, PlansRebuilt, RebuiltRight, PlansTell, RebuildOrder}
 use Rattle.demands.proofs.Accepts.{plannable}
-use Rattle.demands.proofs.Refusals.{made-brings, head-fits}
+use Rattle.demands.proofs.MadePlan.{call-passes, call-brings, call-head}
+use Rattle.demands.proofs.Refusals.{head-fits}
 use Rattle.demands.proofs.Right.{stored-right}
-use Rattle.demands.proofs.Total.{refusal-is}
 
 module _ {strategy : SplitStrategy} {parity : Parity} {basis : Basis} {folded : Bool} {c : List ℤ} {a b : Float} {lists : List ℤ}
     {bounds steps : List ℕ} {r : Planned} {lists′ : List ℤ} {bounds′ steps′ : List ℕ}
     (call : PlanCall strategy parity basis folded c a b lists bounds steps r lists′ bounds′ steps′) (made : r .refusal ≡ 0) where
-  none : planRefusal strategy parity basis folded c a b lists bounds steps ≡ 0
-  none = sym (refusal-is strategy parity basis folded c a b lists bounds steps r lists′ bounds′ steps′ call) ∙ made
-
-  brings : BringsPlan strategy parity basis folded c a b lists bounds steps
-  brings = made-brings strategy parity basis folded c a b lists bounds steps none
-
   -- what is planned
   abbrev planned : List ℤ
   planned = plannedCoefficients folded parity basis c
-
-  -- the head tells settings, degree and base
-  head-is : r .head ≡ headFor strategy parity basis folded c a b
-  unfolding planAnswer
-  head-is = ap (λ (p : Planned). p .head) (call .answer ∙ sym (when-accepted _ _ none))
 
   -- its lists stand in the buffers
   stands : Stands strategy (plannedParity folded parity) basis planned lists bounds lists′ bounds′
   unfolding planCoefficients planBoundaries headOf
   stands =
-      let facts = plannable folded parity basis c (brings .accepted) in
-      let given = passed folded parity c (brings .accepted) in
-      let long = head-fits strategy parity basis folded c a b lists bounds steps brings in
+      let facts = plannable folded parity basis c (call-brings call made .accepted) in
+      let given = passed folded parity c (call-brings call made .accepted) in
+      let long = head-fits strategy parity basis folded c a b lists bounds steps (call-brings call made) in
       record {
         degrees = record { from = omega (arith, facts .several); to = facts .few };
         doubles = planned-to-53 folded parity basis c (given .sum-limit) (given .settings .degrees .to);
         room = omega (arith, long .coefficients, facts .several);
         boundaries = long .boundaries;
-        listed = call .coefficients ∙ sym (when-accepted _ _ none);
-        ended = call .boundaries ∙ sym (when-accepted _ _ none);
+        listed = call .coefficients ∙ sym (when-accepted _ _ (call-passes call made));
+        ended = call .boundaries ∙ sym (when-accepted _ _ (call-passes call made));
       }
 
   listed-is : listedIn (r .head)
@@ -75,7 +63,7 @@ module _ {strategy : SplitStrategy} {parity : Parity} {basis : Basis} {folded : 
         lists = leavesOf (planTree strategy (plannedParity folded parity) basis (degreeOf planned));
       }
   unfolding headOf
-  listed-is = ap listedIn head-is ∙ rw (whole stands)
+  listed-is = ap listedIn (call-head call made) ∙ rw (whole stands)
 
   -- and a rebuild call with what the head says is one with the settings
   with-settings : {out : List ℤ} {s : Rebuilt} {out′ : List ℤ}
@@ -83,7 +71,7 @@ module _ {strategy : SplitStrategy} {parity : Parity} {basis : Basis} {folded : 
       → RebuildCall strategy (plannedParity folded parity) basis (degreeOf planned)
       (2 ^ splitFor strategy (plannedParity folded parity) basis (degreeOf planned)) lists′ bounds′ out s out′
   unfolding headOf
-  with-settings rebuilding = rw head-is at rebuilding
+  with-settings rebuilding = rw (call-head call made) at rebuilding
 
 pub rebuilds-plans : RebuildsPlans
 rebuilds-plans strategy parity basis folded c a b lists bounds steps r lists′ bounds′ steps′ call made out s out′ rebuilding room =

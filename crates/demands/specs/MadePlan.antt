@@ -38,12 +38,23 @@ module _ {strategy : SplitStrategy} {parity : Parity} {basis : Basis} {folded : 
   abbrev pub stepsIn : List ℕ
   stepsIn = take (4 * plan .answer .head .steps) (plan .steps′)
 
--- a plan is made of what is accepted, on every interval with its bounds in order and in all buffers that are long enough; and of nothing else
+-- one that was made on this interval and in these buffers
+pub record MadeWith (strategy : SplitStrategy) (parity : Parity) (basis : Basis) (folded : Bool) (c : List ℤ) (a b : Float) (out : List ℤ)
+    (bounds steps : List ℕ) : Type 0 where
+  pub plan : MadePlan strategy parity basis folded c
+  pub lower-is : plan .lower ≡ a
+  pub upper-is : plan .upper ≡ b
+  pub out-is : plan .out ≡ out
+  pub bounds-are : plan .bounds ≡ bounds
+  pub steps-are : plan .steps ≡ steps
+
+-- what is accepted has one on every interval with its bounds in order and in all buffers that are long enough; and nothing else has one
 pub record MadeIfAccepted (strategy : SplitStrategy) (parity : Parity) (basis : Basis) (folded : Bool) (c : List ℤ) : Type 0 where
   pub made : (a b : Float) (out : List ℤ) (bounds steps : List ℕ) → BringsPlan strategy parity basis folded c a b out bounds steps
-      → MadePlan strategy parity basis folded c
+      → MadeWith strategy parity basis folded c a b out bounds steps
   pub accepted : MadePlan strategy parity basis folded c → Accepted folded parity c
 
+-- for every polynomial and all settings
 abbrev pub PlansIfAccepted : Type 0
 PlansIfAccepted = (strategy : SplitStrategy) (parity : Parity) (basis : Basis) (folded : Bool) (c : List ℤ)
     → MadeIfAccepted strategy parity basis folded c

@@ -155,17 +155,17 @@ pub record CurvesAdded : Type 1 where
   pub plans-add : PlansAdd false
   -- "The same holds for a curve multiplied by a whole number, where the multiple is accepted too."
   pub plans-multiply : PlansMultiply false
-  -- Accepted is said by calls that made a plan: there are such calls of what is accepted, and of nothing else.
+  -- These speak of calls that made a plan. Such calls exist for what is accepted, and for nothing else.
   pub plans-if-accepted : PlansIfAccepted
-  -- "This is to be shown of the planning that exists." The list call does so too.
+  -- "This is to be shown of the planning that exists." The same holds for the list call.
   pub lists-add : ListsAdd
   pub lists-multiply : ListsMultiply
-  -- The sum and the multiple are those of the values, at every point.
+  -- At every point the sum has the sum of the values, and the multiple has the multiple.
   pub polynomial-sum-law : {A : Type 0} (𝓡 : Ring A) → PolynomialSumLaw 𝓡
-  -- Beyond the request. Plans that are made with folding add and multiply too.
+  -- Beyond the request: the same holds for plans that are made with folding.
   pub folded-plans-add : PlansAdd true
   pub folded-plans-multiply : PlansMultiply true
-  -- A sum or multiple that would be accepted needs no further call: added or multiplied lists are walked to its value with what else a plan has.
+  -- A sum or multiple that would be accepted needs no further call: added or multiplied lists, with the rest of a plan, are walked to its value.
   pub added-right : (folded : Bool) → AddedRight folded
   pub multiplied-right : (folded : Bool) → MultipliedRight folded
   -- Two laws give all this: boundaries, steps and head go by the length alone, and a map that keeps every cut keeps the lists.

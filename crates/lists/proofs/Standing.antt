@@ -5,15 +5,13 @@ use mathlib.Core.List.{List}
 use Prim.Native.Nat.{ℕ, suc, _-_, _≤_, _^_}
 use native.Mathlib.Omega.{arith}
 use borrow.Author.Tests.{leb-true}
-use lib.IntN.{ℤ, _*ℤ_}
-use lib.ListN.{length, take, length-map}
+use lib.IntN.{ℤ}
+use lib.ListN.{length, take}
 use lib.Seq.{sets}
 use Rattle.algebra.specs.Operations.{wholeOps}
 use Rattle.algebra.specs.PolynomialSum.{sumOf, multipleOf}
 use Rattle.algebra.specs.declared.Basis.{Basis}
 use Rattle.algebra.specs.declared.Parity.{Parity}
-use Rattle.algebra.proofs.Integers.{integers}
-use Rattle.algebra.proofs.PolynomialSum.{length-sum}
 use Rattle.number.specs.Limits.{planLimit}
 use Rattle.number.specs.Numbers.{wholeNumbers}
 use Rattle.number.specs.Tests.{degreeOf}
@@ -28,7 +26,7 @@ use Rattle.lists.specs.Arrange.{arranged, leavesOf, endsOf}
 use Rattle.lists.specs.ListCall.{listRefusal, listAnswer, listCoefficients, listBoundaries, ListCall}
 use Rattle.lists.specs.TreeFacts.{Sound}
 use Rattle.lists.specs.declared.call.Listed.{Listed}
-use Rattle.lists.proofs.ArrangedSums.{arranged-sums}
+use Rattle.lists.proofs.ArrangedSums.{listed-sum, listed-multiple}
 use Rattle.lists.proofs.Arranging.{length-ends}
 use Rattle.lists.proofs.ListCall.{list-passed, front-take}
 use Rattle.lists.proofs.Lists.{length-arranged}
@@ -116,34 +114,24 @@ module _ {strategy : SplitStrategy} {parity : Parity} {basis : Basis} {c lists :
 
 -- ---- polynomials of one length
 
-module _ {strategy : SplitStrategy} {parity : Parity} {basis : Basis} {c d out : List ℤ} {ends : List ℕ} {out′ : List ℤ} {ends′ : List ℕ}
+-- have the same boundaries
+pub ends-same : {strategy : SplitStrategy} {parity : Parity} {basis : Basis} {c d out : List ℤ} {ends : List ℕ} {out′ : List ℤ} {ends′ : List ℕ}
     {room : List ℤ} {marks : List ℕ} {room′ : List ℤ} {marks′ : List ℕ} (first : Stands strategy parity basis c out ends out′ ends′)
-    (second : Stands strategy parity basis d room marks room′ marks′) (same : length c ≡ length d) where
-  -- have one tree
-  trees-same : tree first ≡ tree second
-  trees-same = ap (λ (n : ℕ). planTree strategy parity basis (n - 1)) same
+    (second : Stands strategy parity basis d room marks room′ marks′) → length c ≡ length d
+    → take (leavesOf (tree first)) ends′ ≡ take (leavesOf (tree second)) marks′
+ends-same {strategy} {parity} {basis} first second same =
+    ends-are first ∙ ap (λ (n : ℕ). endsOf (planTree strategy parity basis (n - 1)) 0 n) same ∙ sym (ends-are second)
 
-  -- and the same boundaries
-  pub ends-same : take (leavesOf (tree first)) ends′ ≡ take (leavesOf (tree second)) marks′
-  ends-same = ends-are first ∙ ap₂ (λ (t : Tree) (n : ℕ). endsOf t 0 n) trees-same same ∙ sym (ends-are second)
-
-  -- the tree of one arranges the other to its lists
-  pub lists-by : arranged wholeOps basis (tree first) d ≡ take (length d) room′
-  lists-by = ap (λ (t : Tree). arranged wholeOps basis t d) trees-same ∙ sym (lists-are second)
-
+-- what stands of a sum, and of a multiple
 module _ {strategy : SplitStrategy} {parity : Parity} {basis : Basis} {c out : List ℤ} {ends : List ℕ} {out′ : List ℤ} {ends′ : List ℕ}
     (first : Stands strategy parity basis c out ends out′ ends′) {more : List ℤ} {bounds : List ℕ} {more′ : List ℤ} {bounds′ : List ℕ} where
   pub stands-add : {d room : List ℤ} {marks : List ℕ} {room′ : List ℤ} {marks′ : List ℕ} → Stands strategy parity basis d room marks room′ marks′
       → length c ≡ length d → Stands strategy parity basis (sumOf wholeOps c d) more bounds more′ bounds′
       → take (length (sumOf wholeOps c d)) more′ ≡ sumOf wholeOps (take (length c) out′) (take (length d) room′)
-  stands-add {d} {room} {marks} {room′} {marks′} second same sum =
-      sym (lists-by first sum (sym (length-sum integers c d same)))
-      ∙ arranged-sums integers .sums basis (tree first) c d same
-      ∙ ap₂ (sumOf wholeOps) (sym (lists-are first)) (lists-by first second same)
+  stands-add {d} second same sum =
+      lists-are sum ∙ listed-sum strategy parity basis c d same ∙ ap₂ (sumOf wholeOps) (sym (lists-are first)) (sym (lists-are second))
 
   pub stands-multiply : (k : ℤ) → Stands strategy parity basis (multipleOf wholeOps k c) more bounds more′ bounds′
       → take (length (multipleOf wholeOps k c)) more′ ≡ multipleOf wholeOps k (take (length c) out′)
   stands-multiply k multiple =
-      sym (lists-by first multiple (sym (length-map c (λ (a : ℤ). k *ℤ a))))
-      ∙ arranged-sums integers .multiples basis (tree first) k c
-      ∙ ap (multipleOf wholeOps k) (sym (lists-are first))
+      lists-are multiple ∙ listed-multiple strategy parity basis k c ∙ ap (multipleOf wholeOps k) (sym (lists-are first))

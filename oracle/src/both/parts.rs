@@ -70,6 +70,13 @@ pub fn table<const ROWS: usize, const COLUMNS: usize>(
     all.iter().sum()
 }
 
+/// The first column in which no row has a count, if there is one: the comparison has then missed what it was made for.
+pub fn empty_column<const ROWS: usize, const COLUMNS: usize>(
+    total: &Tally<ROWS, COLUMNS>,
+) -> Option<usize> {
+    (0..COLUMNS).find(|&column| total.iter().all(|row| row[column] == 0))
+}
+
 fn line(name: &str, counts: &[u64]) {
     let counts: Vec<String> = counts.iter().map(u64::to_string).collect();
     println!("| {name} | {} |", counts.join(" | "));

@@ -261,8 +261,7 @@ fn summary(total: &Tally, seed: u64) {
     println!("| rebuilt | accepted | refused by 1 | by 2 | by 21 | by 33 | by 34 | by 43 |");
     let names: [&str; ROWS] = std::array::from_fn(row_name);
     let calls = parts::table(&names, total);
-    let met = |column: usize| total.iter().any(|row| row[column] > 0);
-    if let Some(column) = (0..REFUSALS.len()).find(|&column| !met(column)) {
+    if let Some(column) = parts::empty_column(total) {
         println!("seed {seed}: no call had refusal {}", REFUSALS[column]);
         exit(1)
     }

@@ -499,8 +499,7 @@ fn say(what: &str, c: &[i64]) {
 fn summary(total: &Tally, seed: u64) {
     println!("| sums and multiples | {} |", COLUMNS.join(" | "));
     let cases = parts::table(&ROWS, total);
-    let met = |column: usize| total.iter().any(|row| row[column] > 0);
-    if let Some(column) = (0..COLUMNS.len()).find(|&column| !met(column)) {
+    if let Some(column) = parts::empty_column(total) {
         println!("seed {seed}: none was {}", COLUMNS[column]);
         exit(1)
     }
