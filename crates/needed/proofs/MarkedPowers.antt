@@ -49,7 +49,7 @@ in-marked i (true ∷ marks) m member =
     (List·Memᴰ·cases-cons member)
 in-marked i (false ∷ marks) m member = let rest = in-marked (suc i) marks m member in (suc (rest .0), omega (arith, rest .1), rest .2)
 
-listed-marked : (marks : List Bool) (n : ℕ) → List·Memᴰ n (markedFrom 0 marks) ↔ Marked marks n
+pub listed-marked : (marks : List Bool) (n : ℕ) → List·Memᴰ n (markedFrom 0 marks) ↔ Marked marks n
 listed-marked marks n = (forth, back)
   where
     forth : List·Memᴰ n (markedFrom 0 marks) → Marked marks n
@@ -68,7 +68,7 @@ rising-more n i [] before rising = single
 rising-more n i (true ∷ marks) before rising = next before rising
 rising-more n i (false ∷ marks) before rising = rising-more n (suc i) marks (omega arith) rising
 
-marked-rising : (i : ℕ) (marks : List Bool) → Rising (markedFrom i marks)
+pub marked-rising : (i : ℕ) (marks : List Bool) → Rising (markedFrom i marks)
 unfolding markedFrom
 marked-rising i [] = empty
 marked-rising i (true ∷ marks) = rising-more i (suc i) marks (omega arith) (marked-rising (suc i) marks)

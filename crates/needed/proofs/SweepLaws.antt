@@ -75,14 +75,23 @@ sweep-closes basis zero marks closed = λ n m above. closed n m (omega arith)
 sweep-closes basis (suc zero) marks closed = closed
 sweep-closes basis (suc (suc n)) marks closed = sweep-closes basis (suc n) (sweepAt basis (suc (suc n)) marks) (place-closes basis n marks closed)
 
--- swept from the last place or above, the marks are the least set: all of it, and nothing else
-pub sweep-least : (basis : Basis) (n : ℕ) (marks : List Bool) → length marks ≤ suc n → (m : ℕ)
+-- swept from a place above which they are closed, the marks are the least set: all of it, and nothing else
+pub sweep-closed : (basis : Basis) (n : ℕ) (marks : List Bool) → ClosedAbove basis n marks → (m : ℕ)
     → Marked (sweepFrom basis n marks) m ↔ Needed basis (Marked marks) m
-sweep-least basis n marks whole m = (sweep-sound basis (Marked marks) n marks (λ i marked. target marked) m, complete m)
+sweep-closed basis n marks above m = (sweep-sound basis (Marked marks) n marks (λ i marked. target marked) m, complete m)
   where
     closed : ClosedAbove basis 1 (sweepFrom basis n marks)
-    closed = sweep-closes basis n marks (λ i j above marked is-part. let inside = marked-below marks i marked in absurd (omega arith))
+    closed = sweep-closes basis n marks above
 
     complete : (i : ℕ) → Needed basis (Marked marks) i → Marked (sweepFrom basis n marks) i
     complete i (target marked) = sweep-keeps basis n marks i marked
     complete i (part {n = whole-part} above needed is-part) = closed whole-part i above (complete whole-part needed) is-part
+
+-- so they are swept from the last mark or above
+pub sweep-marks : (basis : Basis) (n : ℕ) (marks : List Bool) → ((i : ℕ) → Marked marks i → i ≤ n) → (m : ℕ)
+    → Marked (sweepFrom basis n marks) m ↔ Needed basis (Marked marks) m
+sweep-marks basis n marks last m = sweep-closed basis n marks (λ i j above marked is-part. let most = last i marked in absurd (omega arith)) m
+
+pub sweep-least : (basis : Basis) (n : ℕ) (marks : List Bool) → length marks ≤ suc n → (m : ℕ)
+    → Marked (sweepFrom basis n marks) m ↔ Needed basis (Marked marks) m
+sweep-least basis n marks whole m = sweep-marks basis n marks (λ i marked. let inside = marked-below marks i marked in omega arith) m

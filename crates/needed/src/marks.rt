@@ -21,7 +21,7 @@ use number::top_power;
 pub const MARKS: usize = PLAN_LIMIT + 1;
 
 // Below it the allowed powers are needed: the base, or the degree + 1.
-fn baby_limit(degree: usize, split: usize) -> usize
+pub fn baby_limit(degree: usize, split: usize) -> usize
     requires { ⌜ Planned degree split ⌝ }
     ensures { λ r. ⌜ r ≡ babyLimit degree split ⌝ }
 {
@@ -40,7 +40,7 @@ fn greatest_target(degree: usize, split: usize) -> usize
 }
 
 // Whether power n is needed at once: the top power, or an allowed power from 3 below the limit.
-fn is_target(parity: Parity, top: usize, limit: usize, n: usize) -> bool
+pub fn is_target(parity: Parity, top: usize, limit: usize, n: usize) -> bool
     ensures { λ r. ⌜ r ≡ isTarget parity top limit n ⌝ }
 {
     if n == top {
@@ -68,7 +68,7 @@ fn mark_targets(parity: Parity, top: usize, limit: usize, last: usize, marks: &m
 }
 
 // A mark at n, if n is above 1.
-fn mark(n: usize, marks: &mut [bool; MARKS])
+pub fn mark(n: usize, marks: &mut [bool; MARKS])
     requires { ⌜ n < countLimit ⌝ }
     ensures { λ _. ⌜ now (marks .exit) ≡ markAt n (now (marks .entry)) ⌝ }
 {
@@ -92,7 +92,7 @@ fn mark_parts(basis: Basis, n: usize, marks: &mut [bool; MARKS])
 }
 
 // All that the marked powers need, swept from the last place down.
-fn sweep(basis: Basis, last: usize, marks: &mut [bool; MARKS])
+pub fn sweep(basis: Basis, last: usize, marks: &mut [bool; MARKS])
     requires { ⌜ last < countLimit ⌝ }
     ensures { λ _. ⌜ now (marks .exit) ≡ sweepFrom basis last (now (marks .entry)) ⌝ }
 {
@@ -120,7 +120,7 @@ pub fn needed_marks(parity: Parity, basis: Basis, degree: usize, split: usize) -
 }
 
 // How many of the first places are marked.
-fn count_marks(marks: [bool; MARKS], places: usize) -> usize
+pub fn count_marks(marks: [bool; MARKS], places: usize) -> usize
     requires { ⌜ places ≤ countLimit ⌝ }
     ensures { λ r. ⌜ r ≡ countMarks (take places marks) ⌝ }
 {

@@ -97,7 +97,7 @@ module _ (strategy : SplitStrategy) (parity : Parity) (basis : Basis) (folded : 
 
   module _ (accepted : Accepted folded parity c) (ordered : Ordered a b) where
     -- then those of the buffers decide
-    late : refusal ≡ bufferRefusal head (length out) (length bounds) (length steps)
+    late : refusal ≡ bufferRefusal (head .coefficients) (head .lists) (head .steps) (length out) (length bounds) (length steps)
     unfolding planRefusal bufferRefusal
     late =
         let later = bufferTests (head .coefficients) (head .lists) (head .steps) (length out) (length bounds) (length steps) in
@@ -109,11 +109,11 @@ module _ (strategy : SplitStrategy) (parity : Parity) (basis : Basis) (folded : 
       head-same : h ≡ head
       head-same = h-is ∙ rw (interval-is, count-is ∙ sym (planned-length folded parity basis c))
 
-      module _ {k : ℕ} (k-is : k ≡ bufferRefusal h (length out) (length bounds) (length steps)) where
+      module _ {k : ℕ} (k-is : k ≡ bufferRefusal (h .coefficients) (h .lists) (h .steps) (length out) (length bounds) (length steps)) where
         refusal-is : refusal ≡ k
         refusal-is =
             late
-            ∙ ap (λ (x : Head). bufferRefusal x (length out) (length bounds) (length steps)) (sym head-same)
+            ∙ ap (λ (x : Head). bufferRefusal (x .coefficients) (x .lists) (x .steps) (length out) (length bounds) (length steps)) (sym head-same)
             ∙ sym k-is
 
         -- a test of the buffers holds

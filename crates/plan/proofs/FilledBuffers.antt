@@ -11,9 +11,7 @@ use lib.Seq.{sets, take-at, drop-at}
 use Rattle.algebra.specs.Operations.{wholeOps}
 use Rattle.algebra.specs.declared.Basis.{Basis}
 use Rattle.algebra.specs.declared.Parity.{Parity}
-use Rattle.number.specs.Limits.{planLimit}
 use Rattle.number.specs.Tests.{degreeOf}
-use Rattle.number.specs.inside.Between.{Between}
 use Rattle.number.specs.inside.Room.{SumByLengthTo53}
 use Rattle.needed.specs.NeededList.{neededList, neededCount}
 use Rattle.needed.specs.inside.Planned.{Planned}
@@ -23,13 +21,13 @@ use Rattle.lists.specs.Tree.{Tree, treeOf, relists, planTree}
 use Rattle.lists.specs.Arrange.{leavesOf}
 use Rattle.lists.specs.inside.Listing.{Listable, InPlace}
 use Rattle.lists.proofs.Arranging.{some-leaves, leaves-most, sets-append}
-use Rattle.lists.proofs.ListCall.{whole-listable, front}
+use Rattle.lists.proofs.ListCall.{front}
 use Rattle.walk.specs.WalksHeld.{flat}
 use Rattle.walk.proofs.FlatSteps.{flat-append, flat-length}
 use Rattle.plan.specs.PlanSteps.{makeStep, powerSteps, treeSteps, listSteps, lastPlain, stepsAt}
-use Rattle.plan.specs.PlanCall.{plannedCoefficients, plannedParity, coefficientsFor, boundariesFor, numbersFor}
+use Rattle.plan.specs.PlanCall.{plannedCoefficients, plannedParity, coefficientsFor, numbersFor}
 use Rattle.plan.specs.inside.Writing.{PowersPut, TreeFits, TreePut, StepsFit}
-use Rattle.plan.specs.inside.Filling.{PlanFits}
+use Rattle.plan.specs.inside.Filling.{ListsFit, ListsPut, PlanFits}
 use Rattle.plan.specs.declared.outline.Outline.{Outline}
 use Rattle.plan.specs.declared.tree.Place.{Place}
 use Rattle.plan.proofs.StepCounts.{steps-counted}
@@ -85,47 +83,61 @@ module _ {leading plain : Bool} {parity : Parity} {basis : Basis} {degree split 
         ∙ sets-append b (flat makes) (flat others) 0 (4 * step) place
         ∙ ap (sets b 0) (sym (flat-append makes others))
 
--- ---- coefficients and boundaries
+-- ---- all that a plan is
 
 module _ {strategy : SplitStrategy} {parity : Parity} {basis : Basis} {folded : Bool} {count : ℕ} {outline : Outline}
     {c out : List ℤ} {bounds steps : List ℕ} (fits : PlanFits strategy parity basis folded count outline c out bounds steps) where
+  outline-split : outline .split ≡ splitFor strategy (plannedParity folded parity) basis (count - 1)
+  outline-split = ap (λ (o : Outline). o .split) (fits .outline-is)
+
+  outline-plain : outline .plain ≡ lastPlain (count - 1) (planTree strategy (plannedParity folded parity) basis (count - 1))
+  outline-plain = ap (λ (o : Outline). o .plain) (fits .outline-is)
+
+  outline-tree : {leading : Bool} → leading ≡ relists strategy
+      → treeOf leading (count - 1) (count - 1) (outline .split) ≡ planTree strategy (plannedParity folded parity) basis (count - 1)
+  outline-tree leading-is = ap₂ (λ (s : ℕ) (l : Bool). treeOf l (count - 1) (count - 1) s) outline-split leading-is
+
+  pub lists-fit : ListsFit strategy parity basis folded count (outline .split) 0 c out bounds
+  lists-fit = record {
+    coefficients-fit = fits .coefficients-fit;
+    input-limit = fits .input-limit;
+    count-is = fits .count-is;
+    split-is = outline-split;
+    degrees = fits .degrees;
+    room = fits .room;
+    boundary-room = omega (arith, fits .boundary-room);
+  }
+
+  pub steps-fit : {leading : Bool} {planned : Parity} → leading ≡ relists strategy → planned ≡ plannedParity folded parity
+      → StepsFit leading (outline .plain) planned basis (count - 1) (outline .split) steps
+  steps-fit leading-is planned-is = record {
+    planned = planned-at strategy (plannedParity folded parity) basis (count - 1) (fits .degrees) outline-split;
+    plain-is = outline-plain ∙ ap (lastPlain (count - 1)) (sym (outline-tree leading-is));
+    places = rw (planned-is, leading-is, outline-split) (fits .step-room);
+  }
+
+  pub numbers-are : {leading : Bool} {planned : Parity} {steps′ : List ℕ} → leading ≡ relists strategy → planned ≡ plannedParity folded parity
+      → steps′ ≡ sets steps 0 (flat (stepsAt leading planned basis (count - 1) (outline .split)))
+      → steps′ ≡ sets steps 0 (numbersFor strategy parity basis folded c)
+  numbers-are leading-is planned-is is = is ∙ rw (outline-split, leading-is, planned-is, fits .count-is)
+
+-- ---- coefficients and boundaries
+
+module _ {strategy : SplitStrategy} {parity : Parity} {basis : Basis} {folded : Bool} {count split list : ℕ} {c out : List ℤ} {bounds : List ℕ}
+    (fits : ListsFit strategy parity basis folded count split list c out bounds) where
   abbrev q : List ℤ
   q = plannedCoefficients folded parity basis c
 
   abbrev whole-tree : Tree
   whole-tree = planTree strategy (plannedParity folded parity) basis (degreeOf q)
 
-  abbrev split : ℕ
-  split = outline .split
-
-  split-is : split ≡ splitFor strategy (plannedParity folded parity) basis (count - 1)
-  split-is = ap (λ (o : Outline). o .split) (fits .outline-is)
-
-  plain-is : outline .plain ≡ lastPlain (count - 1) (planTree strategy (plannedParity folded parity) basis (count - 1))
-  plain-is = ap (λ (o : Outline). o .plain) (fits .outline-is)
-
   ranges : Planned (count - 1) split
-  ranges = planned-at strategy (plannedParity folded parity) basis (count - 1) (fits .degrees) split-is
+  ranges = planned-at strategy (plannedParity folded parity) basis (count - 1) (fits .degrees) (fits .split-is)
 
   tree-is : {leading : Bool} → leading ≡ relists strategy
       → treeOf leading (count - 1) (count - 1) split ≡ planTree strategy (plannedParity folded parity) basis (count - 1)
-  tree-is leading-is = ap₂ (λ (s : ℕ) (l : Bool). treeOf l (count - 1) (count - 1) s) (split-is) leading-is
+  tree-is leading-is = ap₂ (λ (s : ℕ) (l : Bool). treeOf l (count - 1) (count - 1) s) (fits .split-is) leading-is
 
-  -- the steps
-  pub steps-fit : {leading : Bool} {planned : Parity} → leading ≡ relists strategy → planned ≡ plannedParity folded parity
-      → StepsFit leading (outline .plain) planned basis (count - 1) split steps
-  steps-fit leading-is planned-is = record {
-    planned = ranges;
-    plain-is = plain-is ∙ ap (lastPlain (count - 1)) (sym (tree-is leading-is));
-    places = rw (planned-is, leading-is, split-is) (fits .step-room);
-  }
-
-  pub numbers-are : {leading : Bool} {planned : Parity} {steps′ : List ℕ} → leading ≡ relists strategy → planned ≡ plannedParity folded parity
-      → steps′ ≡ sets steps 0 (flat (stepsAt leading planned basis (count - 1) split))
-      → steps′ ≡ sets steps 0 (numbersFor strategy parity basis folded c)
-  numbers-are leading-is planned-is is = is ∙ rw (split-is, leading-is, planned-is, fits .count-is)
-
-  -- the lists
   module _ {copied : List ℤ} {leading : Bool} (copy : copied ≡ sets out 0 q) (leading-is : leading ≡ relists strategy) where
     copy-is : copied ≡ q ++ drop count out
     copy-is = copy ∙ front q out (omega (arith, fits .room, fits .count-is)) ∙ ap (λ (k : ℕ). q ++ drop k out) (sym (fits .count-is))
@@ -136,34 +148,45 @@ module _ {strategy : SplitStrategy} {parity : Parity} {basis : Basis} {folded : 
     rest-is : drop count copied ≡ drop count out
     rest-is = ap (drop count) copy-is ∙ drop-at q (drop count out) count (sym (fits .count-is))
 
-    pub listable : Listable leading (count - 1) split 0 0 (take count copied) bounds
+    tree-here : treeOf leading (count - 1) (degreeOf q) split ≡ whole-tree
+    tree-here =
+        ap (λ (n : ℕ). treeOf leading (count - 1) (n - 1) split) (sym (fits .count-is))
+        ∙ tree-is leading-is
+        ∙ ap (λ (n : ℕ). planTree strategy (plannedParity folded parity) basis (n - 1)) (fits .count-is)
+
+    pub listable : Listable leading (count - 1) split 0 list (take count copied) bounds
     listable =
         let range = ranges in
-        let room : leavesOf (treeOf leading (degreeOf q) (degreeOf q) split) ≤ length bounds =
-        rw (← fits .count-is, tree-is leading-is) (fits .boundary-room) in
-        let degrees : Between 1 (degreeOf q) planLimit =
-        record { from = omega (arith, range .degrees .from, fits .count-is); to = omega (arith, range .degrees .to, fits .count-is) } in
-        rw (part-is, fits .count-is) (whole-listable leading split q bounds degrees (range .splits .to) room)
+        let size = fits .count-is in
+        let leaves : leavesOf (treeOf leading (count - 1) (degreeOf q) split)
+        ≡ leavesOf (planTree strategy (plannedParity folded parity) basis (count - 1)) =
+        ap (λ (n : ℕ). leavesOf (treeOf leading (count - 1) (n - 1) split)) (sym size) ∙ ap leavesOf (tree-is leading-is) in
+        rw part-is (record {
+          nonempty = omega (arith, range .degrees .from);
+          ends-fit = omega (arith, range .degrees .from, range .degrees .to);
+          ranges = record {
+            positive = omega (arith, range .degrees .from);
+            whole-limit = range .degrees .to;
+            part-limit = omega (arith, range .degrees .to);
+            split-limit = range .splits .to;
+          };
+          boundary-room = omega (arith, leaves, fits .boundary-room);
+        })
 
     pub sum-fits : SumByLengthTo53 (take count copied)
     sum-fits = rw part-is (planned-to-53 folded parity basis c (fits .coefficients-fit .sum-limit) (fits .input-limit))
 
-    module _ {z : List ℤ} {bounds′ : List ℕ} {r : ℕ} (size : length z ≡ length (take count copied))
-        (placed : InPlace wholeOps basis (treeOf leading (count - 1) (degreeOf (take count copied)) split) 0 0 (take count copied) bounds r z bounds′)
-      where
-        tree-here : treeOf leading (count - 1) (degreeOf q) split ≡ whole-tree
-        tree-here =
-            ap (λ (n : ℕ). treeOf leading (count - 1) (n - 1) split) (sym (fits .count-is))
-            ∙ tree-is leading-is
-            ∙ ap (λ (n : ℕ). planTree strategy (plannedParity folded parity) basis (n - 1)) (fits .count-is)
-
-        pub coefficients-are : z ++ drop count copied ≡ sets out 0 (coefficientsFor strategy parity basis folded c)
-        coefficients-are =
-            let same : length z ≡ count = size ∙ ap length part-is ∙ sym (fits .count-is) in
-            let arranges : z ≡ coefficientsFor strategy parity basis folded c = rw (part-is, tree-here) at (placed .coefficients) in
-            ap (z ++_) (rest-is ∙ ap (λ (k : ℕ). drop k out) (sym same))
-            ∙ sym (front z out (omega (arith, same, fits .room)))
-            ∙ ap (sets out 0) arranges
-
-        pub boundaries-are : bounds′ ≡ sets bounds 0 (boundariesFor strategy parity basis folded c)
-        boundaries-are = rw (part-is, tree-here) at (placed .boundaries)
+    pub lists-put : {z : List ℤ} {bounds′ : List ℕ} {r : ℕ} → length z ≡ length (take count copied)
+        → InPlace wholeOps basis (treeOf leading (count - 1) (degreeOf (take count copied)) split) 0 list (take count copied) bounds r z bounds′
+        → ListsPut strategy parity basis folded list c out bounds (z ++ drop count copied) bounds′
+    lists-put {z} size placed =
+        let same : length z ≡ count = size ∙ ap length part-is ∙ sym (fits .count-is) in
+        let arranges : z ≡ coefficientsFor strategy parity basis folded c = rw (part-is, tree-here) at (placed .coefficients) in
+        record {
+          coefficients =
+              ap (z ++_) (rest-is ∙ ap (λ (k : ℕ). drop k out) (sym same))
+              ∙ sym (front z out (omega (arith, same, fits .room)))
+              ∙ ap (sets out 0) arranges;
+          boundaries = rw (part-is, tree-here) at (placed .boundaries);
+          size = sym (ap length arranges) ∙ size ∙ ap length part-is;
+        }

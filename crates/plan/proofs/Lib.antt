@@ -1,5 +1,5 @@
 pub mod StepNumbers
-mod PowerSteps
+pub mod PowerSteps
 mod TwoPowerSteps
 pub mod StepCounts
 mod TreeSteps

@@ -21,17 +21,25 @@ pub struct Planned {
     pub head: Head,
 }
 
-// The number of the first test of the buffers that holds for a head, or 0: `room`, `boundaries` and `numbers` are their places.
-fn buffer_refusal(head: Head, room: usize, boundaries: usize, numbers: usize) -> u8
-    ensures { λ r. ⌜ r ≡ bufferRefusal head room boundaries numbers ⌝ }
+// The number of the first test of the buffers that holds for so many coefficients, lists and steps, or 0: `room`, `boundaries` and `numbers` are their
+// places.
+pub fn buffer_refusal(
+    coefficients: usize,
+    lists: usize,
+    steps: usize,
+    room: usize,
+    boundaries: usize,
+    numbers: usize,
+) -> u8
+    ensures { λ r. ⌜ r ≡ bufferRefusal coefficients lists steps room boundaries numbers ⌝ }
 {
-    if room < head.coefficients {
+    if room < coefficients {
         return 21;
     }
-    if boundaries < head.lists {
+    if boundaries < lists {
         return 22;
     }
-    if numbers / 4 < head.steps { 23 } else { 0 }
+    if numbers / 4 < steps { 23 } else { 0 }
 }
 
 // A refusal.
@@ -70,7 +78,14 @@ pub fn plan(
     let count = outline.coefficients;
     let interval = change_of_basis(basis, a, b);
     let head = head_of(strategy, parity, basis, fold, interval, count - 1, outline);
-    let short = buffer_refusal(head, out.len(), bounds.len(), steps.len());
+    let short = buffer_refusal(
+        head.coefficients,
+        head.lists,
+        head.steps,
+        out.len(),
+        bounds.len(),
+        steps.len(),
+    );
     if 0 < short {
         return refused(short);
     }

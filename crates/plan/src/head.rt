@@ -22,7 +22,7 @@ ghost use Rattle.plan.specs.PlanCall.{plannedParity, plannedTransform};
 ghost use Rattle.plan.specs.inside.Outlines.{outlineFor};
 
 // How many steps are of kind 4.
-fn plain_steps(plain: bool, lists: usize) -> usize
+pub fn plain_steps(plain: bool, lists: usize) -> usize
     ensures { λ r. ⌜ r ≡ cond (plain && leb 2 lists) 1 0 ⌝ }
 {
     if !plain {

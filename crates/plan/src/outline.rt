@@ -100,7 +100,7 @@ fn total_slice(leading: bool, parity: Parity, whole: usize, degree: usize, split
 }
 
 // The rule of kind 4: the last list is a constant alone.
-fn last_plain(last: usize) -> bool
+pub fn last_plain(last: usize) -> bool
     ensures { λ r. ⌜ r ≡ eqb last 1 ⌝ }
 {
     last == 1

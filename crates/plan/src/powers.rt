@@ -13,7 +13,7 @@ ghost use Rattle.needed.specs.inside.Planned.{Planned};
 ghost use Rattle.plan.specs.inside.Writing.{PowerFits, PowerPut, PowersPut, TwoPowersFit, TwoPowersPut};
 
 // The step that makes power n, if it is marked, as step `step`. Answers the next step.
-fn put_power(marked: bool, n: usize, step: usize, steps: &mut [u16]) -> usize
+pub fn put_power(marked: bool, n: usize, step: usize, steps: &mut [u16]) -> usize
     requires { ⌜ PowerFits marked n step (now steps) ⌝ }
     ensures { λ r. ⌜ PowerPut marked n step (now (steps .entry)) r (now (steps .exit)) ⌝ }
 {

@@ -16,7 +16,7 @@ pub struct PlanSizes {
 }
 
 // A refusal.
-fn no_sizes(refusal: u8) -> PlanSizes
+pub fn no_sizes(refusal: u8) -> PlanSizes
     ensures { λ r. ⌜ r ≡ noSizes refusal ⌝ }
 {
     PlanSizes {

@@ -16,7 +16,7 @@ ghost use Rattle.walk.specs.WalksHeld.{flat};
 ghost use Rattle.plan.specs.PlanSteps.{stepsAt};
 ghost use Rattle.plan.specs.PlanCall.{plannedCoefficients};
 ghost use Rattle.plan.specs.inside.Writing.{StepsFit};
-ghost use Rattle.plan.specs.inside.Filling.{CoefficientsFit, PlanFits, PlanPut};
+ghost use Rattle.plan.specs.inside.Filling.{CoefficientsFit, ListsFit, ListsPut, PlanFits, PlanPut};
 
 // The planned coefficients, at the front of a buffer.
 fn place_coeffs(fold: bool, parity: Parity, basis: Basis, c: &[i64], out: &mut [i64])
@@ -28,6 +28,38 @@ fn place_coeffs(fold: bool, parity: Parity, basis: Basis, c: &[i64], out: &mut [
     } else {
         copy_coeffs(c, out);
     }
+}
+
+// The lists of `count` planned coefficients at the front of `out`, and their boundaries from boundary `list` on.
+pub fn write_lists(
+    strategy: SplitStrategy,
+    parity: Parity,
+    basis: Basis,
+    fold: bool,
+    count: usize,
+    split: usize,
+    list: usize,
+    c: &[i64],
+    out: &mut [i64],
+    bounds: &mut [u16],
+)
+    requires { ⌜ ListsFit strategy parity basis fold count split list (now c) (now out) (now bounds) ⌝ }
+    ensures { λ _. ⌜ ListsPut strategy parity basis fold list (now (c .entry)) (now (out .entry)) (now (bounds .entry))
+        (now (out .exit)) (now (bounds .exit)) ⌝ }
+{
+    place_coeffs(fold, parity, basis, c, out);
+    let leading = relists(strategy);
+    let degree = count - 1;
+    list_coeffs(
+        leading,
+        basis,
+        degree,
+        split,
+        0,
+        list,
+        &mut out[..count],
+        bounds,
+    );
 }
 
 // All steps of a degree.
@@ -73,20 +105,20 @@ pub fn fill(
     ensures { λ _. ⌜ PlanPut strategy parity basis fold (now (c .entry)) (now (out .entry)) (now (bounds .entry)) (now (steps .entry))
         (now (out .exit)) (now (bounds .exit)) (now (steps .exit)) ⌝ }
 {
-    place_coeffs(fold, parity, basis, c, out);
-    let degree = count - 1;
-    let leading = relists(strategy);
     let split = outline.split;
-    list_coeffs(
-        leading,
+    write_lists(
+        strategy,
+        parity,
         basis,
-        degree,
+        fold,
+        count,
         split,
         0,
-        0,
-        &mut out[..count],
+        c,
+        out,
         bounds,
     );
+    let leading = relists(strategy);
     let planned = planned_parity(fold, parity);
-    write_steps(leading, planned, basis, degree, outline, steps);
+    write_steps(leading, planned, basis, count - 1, outline, steps);
 }

@@ -12,15 +12,15 @@ returns c = rw (lt-ltb _ _ (c .if1 .taken))
 
 returns-2 : tie.Need-returns-2
 unfolding bufferRefusal
-returns-2 c = rw (le-ltb _ _ (c .before .before .if1 .left), lt-ltb _ _ (c .if2 .taken))
+returns-2 c = rw (le-ltb _ _ (c .before .if1 .left), lt-ltb _ _ (c .if2 .taken))
 
 returns-3 : tie.Need-returns-3
 unfolding bufferRefusal
-returns-3 c = rw (le-ltb _ _ (c .before .before .before .before .if1 .left), le-ltb _ _ (c .before .before .if2 .left), steps-short _ _ (c .if3 .taken))
+returns-3 c = rw (le-ltb _ _ (c .before .before .if1 .left), le-ltb _ _ (c .before .if2 .left), steps-short _ _ (c .if3 .taken))
 
 returns-4 : tie.Need-returns-4
 unfolding bufferRefusal
-returns-4 c = rw (le-ltb _ _ (c .before .before .before .before .if1 .left), le-ltb _ _ (c .before .before .if2 .left), steps-fit _ _ (c .if3 .left))
+returns-4 c = rw (le-ltb _ _ (c .before .before .if1 .left), le-ltb _ _ (c .before .if2 .left), steps-fit _ _ (c .if3 .left))
 
 pub buffer-refusal-spec : {M : Type 1} → statement M
 buffer-refusal-spec = tie.close (tie.spec returns returns-2 returns-3 returns-4)

@@ -1,0 +1,5 @@
+pub mod FillingLaws
+pub mod ListLaws
+pub mod CountLaws
+pub mod CallLaws
+pub mod SizesLaws

@@ -1,0 +1,9 @@
+pub mod Union
+pub mod Arrays
+pub mod MemberLaws
+pub mod InputLaws
+pub mod AheadLaws
+pub mod MarkingLaws
+pub mod WritingLaws
+pub mod SetWriting
+pub mod HeadLaws
