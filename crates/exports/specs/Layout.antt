@@ -1,6 +1,7 @@
 -- The number of the layouts: which fields the structs for C have, and which arguments the calls.
 use Prim.Native.Nat.{ℕ}
 
--- 9: the layouts since request Q-8, which added the rebuild call and its answer; the next change of a struct or a signature makes it 10
+-- 10: the layouts since request Q-10, which added the set calls with their members and their answer; the next change of a struct or a signature makes
+-- it 11
 abbrev pub layoutNumber : ℕ
-layoutNumber = 9
+layoutNumber = 10

@@ -1,12 +1,7 @@
-pub mod Kinds
-pub mod KindNumbers
-pub mod Unknown
-pub mod Flat
 pub mod Degrees
 pub mod Values
 pub mod Listing
 pub mod Rebuilding
-pub mod Heads
-pub mod HeadsShown
 pub mod Planning
+pub mod Sets
 pub mod Layout

@@ -8,10 +8,10 @@ use Rattle.algebra.specs.declared.Parity.{Parity}
 use Rattle.number.specs.Numbers.{Numbers}
 use Rattle.counts.specs.declared.choice.SplitStrategy.{SplitStrategy}
 use Rattle.lists.specs.ListCall.{listAnswer, listCoefficients, listBoundaries, noLists}
-use Rattle.exports.specs.Kinds.{strategyNumbered, parityNumbered, basisNumbered, knowsAll}
-use Rattle.exports.specs.Unknown.{unknownKind, whenKnown}
-use Rattle.exports.specs.Flat.{flatListed}
-use Rattle.exports.specs.declared.flat.CListed.{CListed}
+use Rattle.flat.specs.Kinds.{strategyNumbered, parityNumbered, basisNumbered, knowsAll}
+use Rattle.flat.specs.Unknown.{unknownKind, whenKnown}
+use Rattle.flat.specs.Flat.{flatListed}
+use Rattle.flat.specs.declared.flat.CListed.{CListed}
 
 module _ {A : Type 0} (numbers : Numbers A) (strategy parity basis : ℕ) (c out : List A) (bounds : List ℕ) where
   abbrev known : Bool

@@ -12,14 +12,14 @@ use Rattle.counts.specs.declared.choice.SplitStrategy.{SplitStrategy}
 use Rattle.walk.specs.Trial.{trialOf, noTrial}
 use Rattle.walk.specs.Chain.{chainOf, noChain}
 use Rattle.plan.specs.PlanCall.{planAnswer, planCoefficients, planBoundaries, planNumbers}
-use Rattle.exports.specs.Kinds.{foldNumbered, strategyNumbered, parityNumbered, basisNumbered, knowsSettings}
-use Rattle.exports.specs.Unknown.{unknownKind, whenKnown}
-use Rattle.exports.specs.Flat.{flatTrial, flatChain}
-use Rattle.exports.specs.Heads.{headMeant, knowsHead, flatPlanned, noPlan}
-use Rattle.exports.specs.declared.flat.CTrial.{CTrial}
-use Rattle.exports.specs.declared.flat.CChain.{CChain}
-use Rattle.exports.specs.declared.head.CHead.{CHead}
-use Rattle.exports.specs.declared.head.CPlanned.{CPlanned}
+use Rattle.flat.specs.Kinds.{foldNumbered, strategyNumbered, parityNumbered, basisNumbered, knowsSettings}
+use Rattle.flat.specs.Unknown.{unknownKind, whenKnown}
+use Rattle.flat.specs.Flat.{flatTrial, flatChain}
+use Rattle.flat.specs.Heads.{headMeant, knowsHead, flatPlanned, noPlan}
+use Rattle.flat.specs.declared.flat.CTrial.{CTrial}
+use Rattle.flat.specs.declared.flat.CChain.{CChain}
+use Rattle.flat.specs.declared.head.CHead.{CHead}
+use Rattle.flat.specs.declared.head.CPlanned.{CPlanned}
 
 module _ (strategy parity basis fold : ℕ) (c : List ℤ) (a b : Float) (out : List ℤ) (bounds steps : List ℕ) where
   abbrev known : Bool

@@ -8,10 +8,10 @@ use Rattle.algebra.specs.declared.Basis.{Basis}
 use Rattle.algebra.specs.declared.Parity.{Parity}
 use Rattle.counts.specs.declared.choice.SplitStrategy.{SplitStrategy}
 use Rattle.rebuild.specs.RebuildCall.{rebuildAnswer, rebuildCoefficients, noRebuilt}
-use Rattle.exports.specs.Kinds.{strategyNumbered, parityNumbered, basisNumbered, knowsAll}
-use Rattle.exports.specs.Unknown.{unknownKind, whenKnown}
-use Rattle.exports.specs.Flat.{flatRebuilt}
-use Rattle.exports.specs.declared.flat.CRebuilt.{CRebuilt}
+use Rattle.flat.specs.Kinds.{strategyNumbered, parityNumbered, basisNumbered, knowsAll}
+use Rattle.flat.specs.Unknown.{unknownKind, whenKnown}
+use Rattle.flat.specs.Flat.{flatRebuilt}
+use Rattle.flat.specs.declared.flat.CRebuilt.{CRebuilt}
 
 module _ (strategy parity basis degree base : ℕ) (lists : List ℤ) (bounds : List ℕ) (out : List ℤ) where
   abbrev known : Bool

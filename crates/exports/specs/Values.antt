@@ -9,13 +9,13 @@ use Rattle.number.specs.Evaluate.{evaluate}
 use Rattle.number.specs.FoldCall.{foldAnswer, foldBuffer, noFold}
 use Rattle.number.specs.Interval.{changeOfBasis, noInterval}
 use Rattle.interpolation.specs.InterpolateCall.{interpolateAnswer, interpolateBuffer}
-use Rattle.exports.specs.Kinds.{isBasis, basisNumbered, parityNumbered, knowsPair}
-use Rattle.exports.specs.Unknown.{unknownKind, whenKnown}
-use Rattle.exports.specs.Flat.{flatFolded, flatInterval, flatInterpolated}
-use Rattle.exports.specs.declared.flat.CFolded.{CFolded}
-use Rattle.exports.specs.declared.flat.CValue.{CValue}
-use Rattle.exports.specs.declared.flat.CInterval.{CInterval}
-use Rattle.exports.specs.declared.flat.CInterpolated.{CInterpolated}
+use Rattle.flat.specs.Kinds.{isBasis, basisNumbered, parityNumbered, knowsPair}
+use Rattle.flat.specs.Unknown.{unknownKind, whenKnown}
+use Rattle.flat.specs.Flat.{flatFolded, flatInterval, flatInterpolated}
+use Rattle.flat.specs.declared.flat.CFolded.{CFolded}
+use Rattle.flat.specs.declared.flat.CValue.{CValue}
+use Rattle.flat.specs.declared.flat.CInterval.{CInterval}
+use Rattle.flat.specs.declared.flat.CInterpolated.{CInterpolated}
 
 pub record FoldFlat {A : Type 0} (numbers : Numbers A) (parity basis : ℕ) (c out : List A) (r : CFolded) (left : List A) : Type 0 where
   pub answer : r

@@ -1,17 +1,17 @@
 // The list calls.
-use super::flat::CListed;
-use super::flat::flat_listed;
-use super::kinds::basis_of;
-use super::kinds::knows_all;
-use super::kinds::parity_of;
-use super::kinds::strategy_of;
 use firrozun::decompose_bsgs;
 use firrozun::decompose_bsgs_f64;
+use flat::flat::CListed;
+use flat::flat::flat_listed;
+use flat::kinds::basis_of;
+use flat::kinds::knows_all;
+use flat::kinds::parity_of;
+use flat::kinds::strategy_of;
 ghost use mathlib.Core.Path.{_≡_};
 ghost use Rattle.number.specs.Numbers.{wholeNumbers, floatNumbers};
 ghost use Rattle.lists.specs.ListCall.{noLists};
-ghost use Rattle.exports.specs.Unknown.{unknownKind};
-ghost use Rattle.exports.specs.Flat.{flatListed};
+ghost use Rattle.flat.specs.Unknown.{unknownKind};
+ghost use Rattle.flat.specs.Flat.{flatListed};
 ghost use Rattle.exports.specs.Listing.{ListFlat};
 
 // The answer to an unknown kind.

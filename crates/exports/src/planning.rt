@@ -1,22 +1,22 @@
 // The plan call, the trial walk and the heaviest chain.
-use super::flat::CChain;
-use super::flat::CTrial;
-use super::flat::flat_chain;
-use super::flat::flat_trial;
-use super::head::CHead;
-use super::head::CPlanned;
-use super::head::flat_planned;
-use super::head::head_of;
-use super::head::knows_head;
-use super::head::no_plan;
-use super::kinds::basis_of;
-use super::kinds::fold_of;
-use super::kinds::knows_settings;
-use super::kinds::parity_of;
-use super::kinds::strategy_of;
 use firrozun::heaviest_chain;
 use firrozun::plan;
 use firrozun::trial_walk;
+use flat::flat::CChain;
+use flat::flat::CTrial;
+use flat::flat::flat_chain;
+use flat::flat::flat_trial;
+use flat::head::CHead;
+use flat::head::CPlanned;
+use flat::head::flat_planned;
+use flat::head::head_of;
+use flat::head::knows_head;
+use flat::head::no_plan;
+use flat::kinds::basis_of;
+use flat::kinds::fold_of;
+use flat::kinds::knows_settings;
+use flat::kinds::parity_of;
+use flat::kinds::strategy_of;
 ghost use mathlib.Core.Path.{_≡_};
 ghost use Rattle.exports.specs.Planning.{PlanFlat, trialFlat, chainFlat};
 

@@ -1,15 +1,15 @@
 // The rebuild call.
-use super::flat::CRebuilt;
-use super::flat::flat_rebuilt;
-use super::kinds::basis_of;
-use super::kinds::knows_all;
-use super::kinds::parity_of;
-use super::kinds::strategy_of;
 use firrozun::rebuild;
+use flat::flat::CRebuilt;
+use flat::flat::flat_rebuilt;
+use flat::kinds::basis_of;
+use flat::kinds::knows_all;
+use flat::kinds::parity_of;
+use flat::kinds::strategy_of;
 ghost use mathlib.Core.Path.{_≡_};
 ghost use Rattle.rebuild.specs.RebuildCall.{noRebuilt};
-ghost use Rattle.exports.specs.Unknown.{unknownKind};
-ghost use Rattle.exports.specs.Flat.{flatRebuilt};
+ghost use Rattle.flat.specs.Unknown.{unknownKind};
+ghost use Rattle.flat.specs.Flat.{flatRebuilt};
 ghost use Rattle.exports.specs.Rebuilding.{RebuildFlat};
 
 // The answer to an unknown kind.

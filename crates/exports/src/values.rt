@@ -1,15 +1,4 @@
 // The calls on coefficients below planning: folding, evaluation, parity detection, the change of basis and interpolation.
-use super::flat::CFolded;
-use super::flat::CInterpolated;
-use super::flat::CInterval;
-use super::flat::CValue;
-use super::flat::flat_folded;
-use super::flat::flat_interpolated;
-use super::flat::flat_interval;
-use super::kinds::basis_of;
-use super::kinds::is_basis;
-use super::kinds::knows_pair;
-use super::kinds::parity_of;
 use firrozun::change_of_basis;
 use firrozun::chebyshev_interpolate;
 use firrozun::detect_parity;
@@ -18,14 +7,25 @@ use firrozun::evaluate_coeffs;
 use firrozun::fold_parity;
 use firrozun::fold_parity_f64;
 use firrozun::parity_number;
+use flat::flat::CFolded;
+use flat::flat::CInterpolated;
+use flat::flat::CInterval;
+use flat::flat::CValue;
+use flat::flat::flat_folded;
+use flat::flat::flat_interpolated;
+use flat::flat::flat_interval;
+use flat::kinds::basis_of;
+use flat::kinds::is_basis;
+use flat::kinds::knows_pair;
+use flat::kinds::parity_of;
 use number::no_interval;
 ghost use mathlib.Core.Path.{_≡_};
 ghost use Rattle.algebra.specs.EnumNumbers.{parityNumber};
 ghost use Rattle.number.specs.Numbers.{wholeNumbers, floatNumbers};
 ghost use Rattle.number.specs.FoldCall.{noFold};
 ghost use Rattle.number.specs.Parity.{parityOf};
-ghost use Rattle.exports.specs.Unknown.{unknownKind};
-ghost use Rattle.exports.specs.Flat.{flatFolded};
+ghost use Rattle.flat.specs.Unknown.{unknownKind};
+ghost use Rattle.flat.specs.Flat.{flatFolded};
 ghost use Rattle.exports.specs.Values.{FoldFlat, evaluateFlat, changeFlat, InterpolateFlat};
 
 // The answer to an unknown kind.

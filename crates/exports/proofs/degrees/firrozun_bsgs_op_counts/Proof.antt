@@ -1,8 +1,8 @@
 -- `exports::degrees::firrozun_bsgs_op_counts` meets its contract. With three known kinds the answer is the call's own answer for them, field by
 -- field, and else refusal 43.
 use borrow.Author.Needs.{needs}
-use Rattle.exports.specs.Unknown.{whenKnown}
-use Rattle.exports.proofs.Known.{unknown, known}
+use Rattle.flat.specs.Unknown.{whenKnown}
+use Rattle.flat.proofs.Known.{unknown, known}
 use Rattle.exports.proofs.degrees.firrozun_bsgs_op_counts.Statement.{statement}
 use Rattle.exports.proofs.degrees.firrozun_bsgs_op_counts.Tie as tie
 

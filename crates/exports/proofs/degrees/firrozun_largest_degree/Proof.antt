@@ -1,8 +1,8 @@
 -- `exports::degrees::firrozun_largest_degree` meets its contract. With a known strategy it is the call's own answer for it, field by field, and
 -- else refusal 43.
 use borrow.Author.Needs.{needs}
-use Rattle.exports.specs.Unknown.{whenKnown}
-use Rattle.exports.proofs.Known.{unknown, known}
+use Rattle.flat.specs.Unknown.{whenKnown}
+use Rattle.flat.proofs.Known.{unknown, known}
 use Rattle.exports.proofs.degrees.firrozun_largest_degree.Statement.{statement}
 use Rattle.exports.proofs.degrees.firrozun_largest_degree.Tie as tie
 

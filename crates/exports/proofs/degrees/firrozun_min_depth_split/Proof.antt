@@ -1,7 +1,7 @@
 -- `exports::degrees::firrozun_min_depth_split` meets its contract. It is the call's own answer, field by field.
 use mathlib.Core.Path.{ap, _∙_}
 use borrow.Author.Needs.{needs}
-use Rattle.exports.specs.Flat.{flatSplit}
+use Rattle.flat.specs.Flat.{flatSplit}
 use Rattle.exports.proofs.degrees.firrozun_min_depth_split.Statement.{statement}
 use Rattle.exports.proofs.degrees.firrozun_min_depth_split.Tie as tie
 

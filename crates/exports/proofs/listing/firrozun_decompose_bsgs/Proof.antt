@@ -1,8 +1,8 @@
 -- `exports::listing::firrozun_decompose_bsgs` meets its contract. With three known kinds the answer is the call's own answer for them, field by
 -- field, with the call's own buffers, and else refusal 43 with the buffers unchanged.
 use borrow.Author.Needs.{needs}
-use Rattle.exports.specs.Unknown.{whenKnown}
-use Rattle.exports.proofs.Known.{unknown, known}
+use Rattle.flat.specs.Unknown.{whenKnown}
+use Rattle.flat.proofs.Known.{unknown, known}
 use Rattle.exports.proofs.listing.firrozun_decompose_bsgs.Statement.{statement}
 use Rattle.exports.proofs.listing.firrozun_decompose_bsgs.Tie as tie
 

@@ -1,8 +1,8 @@
 -- `exports::planning::firrozun_heaviest_chain` meets its contract. With a known head it is the call's own answer for the head that is meant, and
 -- else refusal 43.
 use borrow.Author.Needs.{needs}
-use Rattle.exports.specs.Unknown.{whenKnown}
-use Rattle.exports.proofs.Known.{unknown, known}
+use Rattle.flat.specs.Unknown.{whenKnown}
+use Rattle.flat.proofs.Known.{unknown, known}
 use Rattle.exports.proofs.planning.firrozun_heaviest_chain.Statement.{statement}
 use Rattle.exports.proofs.planning.firrozun_heaviest_chain.Tie as tie
 

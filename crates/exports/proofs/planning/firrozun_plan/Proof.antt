@@ -3,9 +3,9 @@
 use mathlib.Core.Path.{ap, _∙_}
 use borrow.Author.Needs.{needs}
 use Rattle.plan.specs.PlanCall.{planAnswer, planCoefficients, planBoundaries, planNumbers}
-use Rattle.exports.specs.Unknown.{whenKnown}
-use Rattle.exports.specs.Heads.{flatPlanned, noPlan}
-use Rattle.exports.proofs.Known.{unknown, known, when-known, same-settings}
+use Rattle.flat.specs.Unknown.{whenKnown}
+use Rattle.flat.specs.Heads.{flatPlanned, noPlan}
+use Rattle.flat.proofs.Known.{unknown, known, when-known, same-settings}
 use Rattle.exports.proofs.planning.firrozun_plan.Statement.{statement}
 use Rattle.exports.proofs.planning.firrozun_plan.Tie as tie
 

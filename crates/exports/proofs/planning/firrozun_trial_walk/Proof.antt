@@ -2,8 +2,8 @@
 -- refusal 43.
 use borrow.Author.Needs.{needs}
 use mir.Facts.{toZ-ofZ}
-use Rattle.exports.specs.Unknown.{whenKnown}
-use Rattle.exports.proofs.Known.{unknown, known}
+use Rattle.flat.specs.Unknown.{whenKnown}
+use Rattle.flat.proofs.Known.{unknown, known}
 use Rattle.exports.proofs.planning.firrozun_trial_walk.Statement.{statement}
 use Rattle.exports.proofs.planning.firrozun_trial_walk.Tie as tie
 

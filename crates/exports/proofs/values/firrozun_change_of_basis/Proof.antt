@@ -1,8 +1,8 @@
 -- `exports::values::firrozun_change_of_basis` meets its contract. With a known basis it is the call's own interval for it, field by field, and else
 -- refusal 43.
 use borrow.Author.Needs.{needs}
-use Rattle.exports.specs.Unknown.{whenKnown}
-use Rattle.exports.proofs.Known.{unknown, known}
+use Rattle.flat.specs.Unknown.{whenKnown}
+use Rattle.flat.proofs.Known.{unknown, known}
 use Rattle.exports.proofs.values.firrozun_change_of_basis.Statement.{statement}
 use Rattle.exports.proofs.values.firrozun_change_of_basis.Tie as tie
 

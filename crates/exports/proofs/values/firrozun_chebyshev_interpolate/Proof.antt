@@ -1,7 +1,7 @@
 -- `exports::values::firrozun_chebyshev_interpolate` meets its contract. It is the call's own answer, field by field, and the call's own buffer.
 use mathlib.Core.Path.{ap, _∙_}
 use borrow.Author.Needs.{needs}
-use Rattle.exports.specs.Flat.{flatInterpolated}
+use Rattle.flat.specs.Flat.{flatInterpolated}
 use Rattle.exports.proofs.values.firrozun_chebyshev_interpolate.Statement.{statement}
 use Rattle.exports.proofs.values.firrozun_chebyshev_interpolate.Tie as tie
 

@@ -2,8 +2,8 @@
 -- 0.0, which is +0.
 use borrow.Author.Needs.{needs}
 use Rattle.number.proofs.Literals.{zero-is}
-use Rattle.exports.specs.Unknown.{whenKnown}
-use Rattle.exports.proofs.Known.{unknown, known}
+use Rattle.flat.specs.Unknown.{whenKnown}
+use Rattle.flat.proofs.Known.{unknown, known}
 use Rattle.exports.proofs.values.firrozun_evaluate_coeffs.Statement.{statement}
 use Rattle.exports.proofs.values.firrozun_evaluate_coeffs.Tie as tie
 

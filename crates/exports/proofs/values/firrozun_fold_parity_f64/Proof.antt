@@ -1,8 +1,8 @@
 -- `exports::values::firrozun_fold_parity_f64` meets its contract. With two known kinds the answer is the call's own answer for them, field by
 -- field, with the call's own buffer, and else refusal 43 with the buffer unchanged.
 use borrow.Author.Needs.{needs}
-use Rattle.exports.specs.Unknown.{whenKnown}
-use Rattle.exports.proofs.Known.{unknown, known}
+use Rattle.flat.specs.Unknown.{whenKnown}
+use Rattle.flat.proofs.Known.{unknown, known}
 use Rattle.exports.proofs.values.firrozun_fold_parity_f64.Statement.{statement}
 use Rattle.exports.proofs.values.firrozun_fold_parity_f64.Tie as tie
 

@@ -1,3 +1,0 @@
-pub mod KindNumbers
-pub mod HeadsShown
-mod Known

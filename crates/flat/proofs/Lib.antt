@@ -1,0 +1,4 @@
+pub mod KindNumbers
+pub mod HeadsShown
+pub mod Known
+mod PlaceByPlace
