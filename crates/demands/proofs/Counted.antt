@@ -34,21 +34,29 @@ lengths-read at (list ∷ lists) =
     let size : at + length list - at ≡ length list = omega arith in
     ap₂ _∷_ size (lengths-read (at + length list) lists)
 
--- the lengths of the planned lists, by the boundaries that the buffer holds
+-- the boundaries tell the lengths of the planned lists
+pub boundaries-read : (strategy : SplitStrategy) (parity : Parity) (basis : Basis) (folded : Bool) (c : List ℤ) → Accepted folded parity c
+    → lengthsFrom 0 (boundariesFor strategy parity basis folded c)
+    ≡ lengthsOf (tree strategy parity basis folded c) (suc (plannedDegree strategy parity basis folded c))
+boundaries-read strategy parity basis folded c accepted =
+    let order = ordered strategy parity basis folded c accepted in
+    let places : suc (plannedDegree strategy parity basis folded c) ≡ length (planned strategy parity basis folded c) =
+    omega (arith, plannable folded parity basis c accepted .several) in
+    ap (lengthsFrom 0) (order .ends 0)
+    ∙ lengths-read 0 (listsFor strategy parity basis folded c)
+    ∙ sym (ap (lengthsOf (tree strategy parity basis folded c)) places ∙ order .lengths)
+
+-- so do those that the buffer holds
 pub lent-lengths : (strategy : SplitStrategy) (parity : Parity) (basis : Basis) (folded : Bool) (c : List ℤ) (a b : Float) (coefficients : List ℤ)
     (bounds steps : List ℕ) → Accepted folded parity c → Stored strategy parity basis folded c coefficients bounds steps
     → lengthsFrom 0 (take (headFor strategy parity basis folded c a b .lists) bounds)
     ≡ lengthsOf (tree strategy parity basis folded c) (suc (plannedDegree strategy parity basis folded c))
 lent-lengths strategy parity basis folded c a b coefficients bounds steps accepted stored =
     let lists = headFor strategy parity basis folded c a b .lists in
-    let order = ordered strategy parity basis folded c accepted in
-    let places : suc (plannedDegree strategy parity basis folded c) ≡ length (planned strategy parity basis folded c) =
-    omega (arith, plannable folded parity basis c accepted .several) in
     ap (λ (l : List ℕ). lengthsFrom 0 (take lists l)) (stored .bounds-are)
     ∙ ap (lengthsFrom 0) (take-at (boundariesFor strategy parity basis folded c) (stored .more-bounds) lists
-    (boundaries-length strategy parity basis folded c accepted a b) ∙ order .ends 0)
-    ∙ lengths-read 0 (listsFor strategy parity basis folded c)
-    ∙ sym (ap (lengthsOf (tree strategy parity basis folded c)) places ∙ order .lengths)
+    (boundaries-length strategy parity basis folded c accepted a b))
+    ∙ boundaries-read strategy parity basis folded c accepted
 
 pub plans-report : PlansReport
 unfolding headOf reported

@@ -13,6 +13,8 @@ use Rattle.demands.proofs.Detected.{parities-detected}
 use Rattle.demands.proofs.Equal.{published, floats-equal, plans-equal}
 use Rattle.demands.proofs.HeadTold.{heads-told}
 use Rattle.demands.proofs.Fits.{plans-fit}
+use Rattle.demands.proofs.SetTotal.{sets-total}
+use Rattle.demands.proofs.SetSized.{set-sizes-total}
 
 pub total : Total
 total = record {
@@ -22,6 +24,8 @@ total = record {
   folds-total = folds-total;
   lists-total = lists-total;
   rebuilds-total = rebuilds-total;
+  sets-total = sets-total;
+  set-sizes-total = set-sizes-total;
   trials-total = trials-total;
   chains-total = chains-total;
   interpolations-total = interpolations-total;

@@ -33,7 +33,7 @@ small-at [] i none = omega arith
 small-at (n ∷ ns) zero (more here small) = here
 small-at (n ∷ ns) (suc i) (more here small) = small-at ns i small
 
-small-append : (xs ys : List ℕ) → Small xs → Small ys → Small (xs ++ ys)
+pub small-append : (xs ys : List ℕ) → Small xs → Small ys → Small (xs ++ ys)
 small-append [] ys none rest = rest
 small-append (x ∷ xs) ys (more here small) rest = more here (small-append xs ys small rest)
 
@@ -68,7 +68,7 @@ ends-small base (cut p low high) at n sound room =
     small-append (endsOf low at p) (endsOf high (at + p) (n - p)) (ends-small base low at p (sound .low) (omega arith))
     (ends-small base high (at + p) (n - p) (sound .high) (omega arith))
 
-powers-small : (ns : List ℕ) → ((n : ℕ) → List·Memᴰ n ns → (2 ≤ n) × (n ≤ planLimit)) → Small (flat (map makeStep ns))
+pub powers-small : (ns : List ℕ) → ((n : ℕ) → List·Memᴰ n ns → (2 ≤ n) × (n ≤ planLimit)) → Small (flat (map makeStep ns))
 unfolding flat
 powers-small [] each = none
 powers-small (n ∷ ns) each =

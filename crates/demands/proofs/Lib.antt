@@ -1,6 +1,7 @@
 mod RunThen
 mod PowerRun
 mod TreeRun
+mod CommonRun
 mod PlanRun
 pub mod Refusals
 mod LastList
@@ -27,4 +28,16 @@ pub mod HeadInterval
 pub mod RebuiltPlans
 pub mod MadePlan
 pub mod AddedPlans
+mod Parts
+mod JoinedTests
+mod Alike
+pub mod SetAccepts
+pub mod SetPowers
+pub mod SetRight
+pub mod SetAnswer
+pub mod SetCounted
+pub mod SetOne
+pub mod SetFits
+pub mod SetTotal
+pub mod SetSized
 pub mod Requests

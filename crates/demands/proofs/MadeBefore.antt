@@ -2,7 +2,7 @@
 -- recursion over these steps such a power is 0, or 1, or made by one of them. A plan's walk runs, so this holds of it.
 use mathlib.Core.Path.{_≡_, refl, ap, sym, subst, _∙_}
 use mathlib.Core.Logic.{_⊎_, inl, inr, ⊎-elim}
-use mathlib.Core.Bool.{Bool, true, false, _&&_, _||_, false≢true}
+use mathlib.Core.Bool.{Bool, true, false, _&&_, false≢true}
 use mathlib.Core.List.{List, [], _∷_, _++_, append-nil, append-assoc, List·Memᴰ, List·Memᴰ·head, List·Memᴰ·not-nil, List·Memᴰ·cases-cons}
 use mathlib.Core.List.{Memᴰ·append-left, Memᴰ·append-right}
 use mathlib.Core.Option.{Option, some}
@@ -15,7 +15,9 @@ use lib.ListN.{length}
 use Rattle.algebra.specs.declared.Basis.{Basis}
 use Rattle.algebra.specs.declared.Parity.{Parity}
 use Rattle.number.specs.Options.{_then_}
+use Rattle.number.proofs.BothHold.{and-left, and-right}
 use Rattle.number.proofs.Options.{then-some, when-some}
+use Rattle.needed.proofs.Flags.{either}
 use Rattle.walk.specs.Kinds.{kindOf}
 use Rattle.walk.specs.Rules.{exactRules}
 use Rattle.walk.specs.State.{Lists}
@@ -30,24 +32,12 @@ use Rattle.demands.proofs.Right.{plans-right}
 
 -- ---- numbers among others
 
-both-left : (a b : Bool) → (a && b) ≡ true → a ≡ true
-both-left true b both = refl
-both-left false b both = absurd (false≢true both)
-
-both-right : (a b : Bool) → (a && b) ≡ true → b ≡ true
-both-right true b both = both
-both-right false b both = absurd (false≢true both)
-
-either : (a b : Bool) → (a || b) ≡ true → (a ≡ true) ⊎ (b ≡ true)
-either true b one = inl refl
-either false b one = inr one
-
 each-among : (ns ms : List ℕ) → allAmong ns ms ≡ true → (m : ℕ) → List·Memᴰ m ns → isAmong m ms ≡ true
 unfolding allAmong
 each-among [] ms all m member = absurd (List·Memᴰ·not-nil member)
 each-among (n ∷ ns) ms all m member =
-    ⊎-elim (λ (at : m ≡ n). ap (λ (k : ℕ). isAmong k ms) at ∙ both-left (isAmong n ms) (allAmong ns ms) all)
-    (λ (rest : List·Memᴰ m ns). each-among ns ms (both-right (isAmong n ms) (allAmong ns ms) all) m rest) (List·Memᴰ·cases-cons member)
+    ⊎-elim (λ (at : m ≡ n). ap (λ (k : ℕ). isAmong k ms) at ∙ and-left (isAmong n ms) (allAmong ns ms) all)
+    (λ (rest : List·Memᴰ m ns). each-among ns ms (and-right (isAmong n ms) (allAmong ns ms) all) m rest) (List·Memᴰ·cases-cons member)
 
 -- ---- one step more
 

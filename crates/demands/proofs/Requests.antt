@@ -2,7 +2,7 @@
 use mathlib.Core.Path.{refl}
 use mathlib.Core.Bool.{true, false}
 use Rattle.demands.specs.Requests.{BufferSizes, LastConstant, PlanChains, SplitCases, DegreeForBudget, SplitWithDistance, IntervalInHead}
-use Rattle.demands.specs.Requests.{BackFromLists, CurvesAdded, Requests}
+use Rattle.demands.specs.Requests.{BackFromLists, CurvesAdded, CurvesShared, Requests}
 use Rattle.algebra.proofs.PolynomialSumLaw.{polynomial-sum-law}
 use Rattle.number.proofs.SplitDistance.{third-is-distance, parts-differ, refused-zero, split-product}
 use Rattle.counts.specs.Choice.{splitFor}
@@ -27,6 +27,15 @@ use Rattle.demands.proofs.HeadInterval.{intervals-told, unordered-refus
 use Rattle.demands.proofs.RebuiltPlans.{rebuilds-plans, plans-rebuilt, rebuilt-right, plans-tell, rebuild-order}
 use Rattle.demands.proofs.MadePlan.{plans-if-accepted}
 use Rattle.demands.proofs.AddedPlans.{lengths-shape, plans-add, added-right, plans-multiply, multiplied-right}
+use Rattle.demands.proofs.SetAccepts.{covered-sets-accepted}
+use Rattle.demands.proofs.SetPowers.{sets-share, sets-in-order}
+use Rattle.demands.proofs.SetRight.{members-as-alone, members-right, set-stored-right, sets-right}
+use Rattle.demands.proofs.SetAnswer.{sets-answered}
+use Rattle.demands.proofs.SetCounted.{sets-report, shared-costs-told, sets-written}
+use Rattle.demands.proofs.SetOne.{ones-planned}
+use Rattle.demands.proofs.SetFits.{sets-fit}
+use Rattle.demands.proofs.SetTotal.{sets-made, set-order, set-refusals-told}
+use Rattle.demands.proofs.SetSized.{sets-sized, set-sizes-order, set-room}
 
 pub buffer-sizes : BufferSizes
 buffer-sizes = record { plans-sized = plans-sized; sizes-order = sizes-order }
@@ -107,6 +116,29 @@ curves-added = record {
   arranged-kept = arranged-kept;
 }
 
+pub curves-shared : CurvesShared
+curves-shared = record {
+  covered-sets-accepted = covered-sets-accepted;
+  sets-made = sets-made;
+  sets-share = sets-share;
+  sets-in-order = sets-in-order;
+  members-as-alone = members-as-alone;
+  members-right = members-right;
+  sets-right = sets-right;
+  set-stored-right = set-stored-right;
+  sets-report = sets-report;
+  shared-costs-told = shared-costs-told;
+  sets-answered = sets-answered;
+  set-refusals-told = set-refusals-told;
+  set-order = set-order;
+  sets-written = sets-written;
+  ones-planned = ones-planned;
+  sets-fit = sets-fit;
+  sets-sized = sets-sized;
+  set-sizes-order = set-sizes-order;
+  set-room = set-room;
+}
+
 pub requests : Requests
 requests = record {
   buffer-sizes = buffer-sizes;
@@ -118,4 +150,5 @@ requests = record {
   interval-in-head = interval-in-head;
   back-from-lists = back-from-lists;
   curves-added = curves-added;
+  curves-shared = curves-shared;
 }

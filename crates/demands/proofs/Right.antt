@@ -36,10 +36,13 @@ use Rattle.lists.proofs.ListCall.{front}
 use Rattle.lists.proofs.Lists.{lists-in-order, length-arranged}
 use Rattle.walk.specs.Limits.{modulusLimit}
 use Rattle.walk.specs.Rules.{exactRules}
+use Rattle.walk.specs.State.{Lists}
+use Rattle.walk.specs.Walk.{walkOf}
 use Rattle.walk.specs.Lent.{stepsFrom, lentSteps, exactWalk}
 use Rattle.walk.specs.Trial.{trialOf}
-use Rattle.walk.specs.WalksHeld.{Filled, empty, more, Holds}
+use Rattle.walk.specs.WalksHeld.{numbered, Filled, empty, more, Holds}
 use Rattle.walk.specs.declared.plan.Head.{Head}
+use Rattle.walk.specs.declared.plan.Step.{Step}
 use Rattle.walk.proofs.FlatSteps.{flat-steps, flat-length}
 use Rattle.walk.proofs.TrialFollows.{trial-follows}
 use Rattle.walk.proofs.Unrunnable.{refused-for-reasons}
@@ -63,17 +66,28 @@ unfolding inputOf outputOf
 back-to true parity basis c x fits = fold-law integers parity basis x c fits
 back-to false parity basis c x fits = refl
 
+-- of steps that leave the planned polynomial's value at the transform's y, the transform's output is the value at x
+pub walked-back : (strategy : SplitStrategy) (parity : Parity) (basis : Basis) (folded : Bool) (c : List ℤ) (x : ℤ) (lists : Lists) (steps : List Step)
+    → Accepted folded parity c
+    → walkOf exactRules (plannedParity folded parity) basis lists steps (inputOf wholeOps (plannedTransform folded parity basis) x)
+    ≡ some (value wholeOps basis (inputOf wholeOps (plannedTransform folded parity basis) x) (planned strategy parity basis folded c))
+    → (walkOf exactRules (plannedParity folded parity) basis lists steps (inputOf wholeOps (plannedTransform folded parity basis) x)
+    then λ v. some (outputOf wholeOps (plannedTransform folded parity basis) x v))
+    ≡ some (value wholeOps basis x c)
+walked-back strategy parity basis folded c x lists steps accepted walks =
+    ap (λ (o : Option ℤ). o then λ v. some (outputOf wholeOps (plannedTransform folded parity basis) x v)) walks
+    ∙ ap some (back-to folded parity basis c x (covered-accepted folded parity c .0 accepted .right-parity))
+
 pub steps-right : StepsRight
 steps-right strategy parity basis folded c x accepted =
     let facts = plannable folded parity basis c accepted in
     let from-one = chosen (plannedParity folded parity) basis (plannedDegree strategy parity basis folded c) .from-one strategy
     (omega (arith, facts .several)) (facts .few) in
-    ap (λ (o : Option ℤ). o then λ v. some (outputOf wholeOps (plannedTransform folded parity basis) x v))
+    walked-back strategy parity basis folded c x (numbered (listsFor strategy parity basis folded c)) (stepsFor strategy parity basis folded c) accepted
     (steps-walk (relists strategy) (plannedParity folded parity) basis
     (splitFor strategy (plannedParity folded parity) basis (plannedDegree strategy parity basis folded c))
     (planned strategy parity basis folded c) (inputOf wholeOps (plannedTransform folded parity basis) x) from-one
     (facts .several) (facts .few) (facts .fits))
-    ∙ ap some (back-to folded parity basis c x (covered-accepted folded parity c .0 accepted .right-parity))
 
 -- ---- the buffers
 

@@ -32,6 +32,14 @@ use Rattle.demands.proofs.Total.{refusal-is}
 abbrev testsOf : PlanSizes → (out : List ℤ) → (bounds steps : List ℕ) → List Test
 testsOf sizes out bounds steps = bufferTests (sizes .coefficients) (sizes .lists) (sizes .steps) (length out) (length bounds) (length steps)
 
+-- settings that are refused are refused ahead of coefficients and interval
+pub settings-decide : (folded : Bool) (parity : Parity) (c : List ℤ) (a b : Float) → 0 < firstRefusal (settingsTests folded parity (degreeOf c))
+    → firstRefusal (earlyTests folded parity c a b) ≡ firstRefusal (settingsTests folded parity (degreeOf c))
+settings-decide folded parity c a b some =
+    let input : firstRefusal (inputTests folded parity c) ≡ firstRefusal (settingsTests folded parity (degreeOf c)) =
+    first-kept (settingsTests folded parity (degreeOf c)) (coefficientTests parity c) some in
+    early-kept folded parity c a b (omega (arith, input)) ∙ input
+
 module _ (strategy : SplitStrategy) (parity : Parity) (basis : Basis) (folded : Bool) (c : List ℤ) where
   abbrev sizes : PlanSizes
   sizes = sizesCall strategy parity basis folded (degreeOf c)
@@ -89,13 +97,10 @@ module _ (strategy : SplitStrategy) (parity : Parity) (basis : Basis) (folded : 
     settings-first : 0 < sizes .refusal → refusal ≡ sizes .refusal
     unfolding planRefusal
     settings-first some =
-        let input : firstRefusal (inputTests folded parity c) ≡ firstRefusal (settingsTests folded parity (degreeOf c)) =
-        first-kept (settingsTests folded parity (degreeOf c)) (coefficientTests parity c) (omega (arith, sizes-refusal, some)) in
-        let kept : early ≡ firstRefusal (inputTests folded parity c) = early-kept folded parity c a b (omega (arith, input, sizes-refusal, some)) in
+        let kept : early ≡ sizesRefusal folded parity (degreeOf c) = settings-decide folded parity c a b (omega (arith, sizes-refusal, some)) in
         first-kept (earlyTests folded parity c a b) (lateTests strategy parity basis folded c a b out bounds steps)
-        (omega (arith, kept, input, sizes-refusal, some))
+        (omega (arith, kept, sizes-refusal, some))
         ∙ kept
-        ∙ input
         ∙ sym sizes-refusal
 
 pub plans-sized : PlansSized

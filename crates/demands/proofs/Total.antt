@@ -83,7 +83,7 @@ use Rattle.demands.proofs.Right.{plans-right}
 
 -- ---- a call by its tests
 
-ends : (tests : List Test) (refusal : ℕ) {Answered Refused : Type 0} → Numbered tests → refusal ≡ firstRefusal tests → (refusal ≡ 0 → Answered)
+pub ends : (tests : List Test) (refusal : ℕ) {Answered Refused : Type 0} → Numbered tests → refusal ≡ firstRefusal tests → (refusal ≡ 0 → Answered)
     → (0 < refusal → Refused) → Ends tests refusal Answered Refused
 ends tests zero {Answered} {Refused} numbers is made refused = answers (refusals-say tests numbers .accepted (sym is)) refl (made refl)
 ends tests (suc k) {Answered} {Refused} numbers is made refused =
@@ -109,7 +109,7 @@ module _ (strategy : SplitStrategy) (parity : Parity) (basis : Basis) (folds : B
   unfolding planAnswer
   no-head some-test = ap (λ (p : Planned). p .head) (call .answer ∙ sym (when-refused k _ _ some-test))
 
-zero-head : ZeroHead noHead
+pub zero-head : ZeroHead noHead
 zero-head = record {
   basis = refl;
   parity = refl;

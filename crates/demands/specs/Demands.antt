@@ -21,6 +21,8 @@ use Rattle.demands.specs.Detected.{ParitiesDetected}
 use Rattle.demands.specs.Equal.{Published, FloatsEqual, PlansEqual}
 use Rattle.demands.specs.HeadTold.{HeadsTold}
 use Rattle.demands.specs.Fits.{PlansFit}
+use Rattle.demands.specs.SetTotal.{SetsTotal}
+use Rattle.demands.specs.SetSized.{SetSizesTotal}
 
 -- 1. Total.
 pub record Total : Type 1 where
@@ -34,6 +36,8 @@ pub record Total : Type 1 where
   pub folds-total : (A : Type 0) → FoldsTotal A
   pub lists-total : (A : Type 0) → ListsTotal A
   pub rebuilds-total : RebuildsTotal
+  pub sets-total : SetsTotal
+  pub set-sizes-total : SetSizesTotal
   pub trials-total : TrialsTotal
   pub chains-total : ChainsTotal
   pub interpolations-total : InterpolationsTotal

@@ -20,4 +20,13 @@ pub mod HeadInterval
 pub mod RebuiltPlans
 pub mod MadePlan
 pub mod AddedPlans
+pub mod SetAccepts
+pub mod SetPowers
+pub mod SetRight
+pub mod SetAnswer
+pub mod SetCounted
+pub mod SetOne
+pub mod SetFits
+pub mod SetTotal
+pub mod SetSized
 pub mod Requests

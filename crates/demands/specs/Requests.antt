@@ -36,6 +36,15 @@ use Rattle.demands.specs.HeadInterval.{IntervalsTold, UnorderedRefused, 
 use Rattle.demands.specs.RebuiltPlans.{RebuildsPlans, PlansRebuilt, RebuiltRight, PlansTell, RebuildOrder}
 use Rattle.demands.specs.MadePlan.{PlansIfAccepted}
 use Rattle.demands.specs.AddedPlans.{LengthsShape, PlansAdd, AddedRight, PlansMultiply, MultipliedRight}
+use Rattle.demands.specs.SetAccepts.{CoveredSetsAccepted}
+use Rattle.demands.specs.SetPowers.{SetsShare, SetsInOrder}
+use Rattle.demands.specs.SetRight.{MembersAsAlone, MembersRight, SetStoredRight, SetsRight}
+use Rattle.demands.specs.SetAnswer.{SetsAnswered}
+use Rattle.demands.specs.SetCounted.{SetsReport, SharedCostsTold, SetsWritten}
+use Rattle.demands.specs.SetOne.{OnesPlanned}
+use Rattle.demands.specs.SetFits.{SetsFit}
+use Rattle.demands.specs.SetTotal.{SetsMade, SetOrder, SetRefusalsTold}
+use Rattle.demands.specs.SetSized.{SetsSized, SetSizesOrder, SetRoom}
 
 -- Q-1. Buffer sizes before the curve is there.
 pub record BufferSizes : Type 0 where
@@ -172,6 +181,45 @@ pub record CurvesAdded : Type 1 where
   pub lengths-shape : LengthsShape
   pub arranged-kept : (A B : Type 0) → ArrangedKept A B
 
+-- Q-10. One set of powers for many curves.
+pub record CurvesShared : Type 1 where
+  -- "A block needs up to 16 curves of one reading. Plan them as a set with the same basis and fold setting and, when folded, the same parity": such a set
+  -- is accepted exactly if each of its curves is accepted by itself and has an interval with its bounds in order; an accepted set with long enough buffers
+  -- is planned, and nothing else is.
+  pub covered-sets-accepted : CoveredSetsAccepted
+  pub sets-made : SetsMade
+  -- "power steps once, for the union of needed powers, then each member's lists and combines."
+  pub sets-share : SetsShare
+  pub sets-in-order : SetsInOrder
+  -- "Each member's boundaries and list numbers begin afresh at 0." They are those of its plan alone, as are its lists and combines.
+  pub members-as-alone : MembersAsAlone
+  -- "At every whole number, each member's walk after the common powers gives that member's value." It is said of the steps, of what the call leaves in lent
+  -- buffers, and of every buffer that holds a set. The trial walk gives the value's remainder, and each step uses only powers made before.
+  pub members-right : MembersRight
+  pub sets-right : SetsRight
+  pub set-stored-right : SetStoredRight
+  -- "Reported ct-ct is the size of the union plus all kind 3 steps, plus one when folded and, with TimesInput, one more for each member; pt-ct is as in
+  -- document 01, over all members."
+  pub sets-report : SetsReport
+  pub shared-costs-told : SharedCostsTold
+  -- "The answer holds both, the number of power steps and each member's head as planned alone, its steps counted without power steps; heads beyond the
+  -- members are zero."
+  pub sets-answered : SetsAnswered
+  -- "It refuses with 35 for no member, more than 16, or lengths that pass the one slice in which the members stand, then with 36 if one of those settings
+  -- differs, ahead of the members' own refusals in member order; 21, 22 and 23 come last, against the set's totals." That it ends so on any arguments is
+  -- `SetsTotal` (specs/SetTotal), among the calls of demand 1.
+  pub set-refusals-told : SetRefusalsTold
+  pub set-order : SetOrder
+  -- The totals are those of what is written.
+  pub sets-written : SetsWritten
+  -- Beyond the request: a set of one member is that member's plan, and every number of a set fits the buffers' u16.
+  pub ones-planned : OnesPlanned
+  pub sets-fit : SetsFit
+  -- The totals are told before the curves are there, as in Q-1, and 65,536 coefficients, 65,536 boundaries and 786,432 numbers of steps hold every set.
+  pub sets-sized : SetsSized
+  pub set-sizes-order : SetSizesOrder
+  pub set-room : SetRoom
+
 pub record Requests : Type 1 where
   pub buffer-sizes : BufferSizes
   pub last-constant : LastConstant
@@ -182,3 +230,4 @@ pub record Requests : Type 1 where
   pub interval-in-head : IntervalInHead
   pub back-from-lists : BackFromLists
   pub curves-added : CurvesAdded
+  pub curves-shared : CurvesShared

@@ -10,6 +10,7 @@ pub mod Plan
 pub mod HeadInterval
 pub mod Rebuild
 pub mod Sums
+pub mod Sets
 pub mod Lines
 pub mod Texts
 pub mod Answers
