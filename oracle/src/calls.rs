@@ -10,6 +10,7 @@ use anyhow::Result;
 
 use crate::layouts::polynomial_evaluation as rust;
 use crate::rebuild;
+use crate::sets;
 pub use rust::{Basis, Parity, SplitStrategy};
 
 pub const BASES: [Basis; 2] = [Basis::Monomial, Basis::Chebyshev];
@@ -434,6 +435,61 @@ impl<W: Write> Recorder<W> {
             r.field(refusal);
             r.plain(c);
         });
+    }
+
+    /// A set of curves, planned together. No published function answers it: the answer is given.
+    pub fn plan_set(&mut self, call: &sets::Call, answer: &Result<sets::Set, u8>) {
+        self.begin("plan_set", Form::Bits);
+        call.places.iter().for_each(|n| self.field(n));
+        self.members(call);
+        self.plain(&call.c);
+        self.end(Some(()), |r, ()| match answer {
+            Ok(set) => r.set(set),
+            Err(refusal) => r.field(refusal),
+        });
+    }
+
+    /// The sizes of a set, which are given too.
+    pub fn set_sizes(&mut self, call: &sets::Call, answer: Result<sets::Sizes, u8>) {
+        self.begin("set_sizes", Form::Bits);
+        self.members(call);
+        self.end(Some(()), |r, ()| match answer {
+            Ok(sizes) => [0].iter().chain(&sizes).for_each(|n| r.field(n)),
+            Err(refusal) => r.field(refusal),
+        });
+    }
+
+    /// How many members there are, and for each of the first 16 its settings, interval and length.
+    fn members(&mut self, call: &sets::Call) {
+        self.field(call.count);
+        for member in call.read() {
+            let letters = member.letters().expect("known kinds");
+            letters.iter().for_each(|letter| self.field(letter));
+            self.numbers(&[member.a, member.b]);
+            self.field(member.count);
+        }
+    }
+
+    fn set(&mut self, set: &sets::Set) {
+        let counts = [0, set.ct, set.pt, set.powers];
+        counts.iter().for_each(|n| self.field(n));
+        self.plain(&set.c);
+        self.plain(&set.bounds);
+        self.plain(&set.numbers);
+        for head in &set.heads {
+            self.field(head.degree);
+            self.field(head.base);
+            self.field(head.transform);
+            let rest = [
+                head.ct,
+                head.pt,
+                head.depth,
+                head.coefficients,
+                head.lists,
+                head.steps,
+            ];
+            rest.iter().for_each(|n| self.field(n));
+        }
     }
 
     /// A line that was written by hand.

@@ -99,8 +99,14 @@ fn line(plan: &Plan, point: i64, modulus: u64, refusal: u8, remainder: u64) -> S
         plan.basis, plan.parity, plan.transform, plan.coefficients, plan.lists, plan.steps
     );
     list(&mut out, plan.c.iter().map(|x| x.to_string()).collect());
-    list(&mut out, plan.bounds.iter().map(|x| x.to_string()).collect());
-    list(&mut out, plan.numbers.iter().map(|x| x.to_string()).collect());
+    list(
+        &mut out,
+        plan.bounds.iter().map(|x| x.to_string()).collect(),
+    );
+    list(
+        &mut out,
+        plan.numbers.iter().map(|x| x.to_string()).collect(),
+    );
     out.push_str(&format!("\t=\t{refusal}\t{remainder}"));
     out
 }
@@ -110,7 +116,8 @@ pub fn plans(r: &mut Rec) {
     for modulus in [0, 1, 2_147_483_648, 999_999_999_999_999_999] {
         r.by_hand(&line(&sound(), 2, modulus, 11, 0));
     }
-    for (point, modulus, remainder) in [(2, 100, 29), (2, 2, 1), (-1, 7, 3), (0, 2_147_483_647, 1)] {
+    for (point, modulus, remainder) in [(2, 100, 29), (2, 2, 1), (-1, 7, 3), (0, 2_147_483_647, 1)]
+    {
         r.by_hand(&line(&sound(), point, modulus, 0, remainder));
     }
     for damage in damages() {

@@ -5,7 +5,7 @@ use std::path::Path;
 
 use crate::calls::{BASES, Basis, Form, PARITIES, Parity, STRATEGIES, SplitStrategy};
 use crate::inputs::*;
-use crate::{Rec, budgets, chains, damaged, printed, rebuilds, recording};
+use crate::{Rec, budgets, chains, damaged, printed, rebuilds, recording, sets};
 
 const SEED: u64 = 1;
 const MAX_POINT: i64 = 999_999_999_999_999_999;
@@ -42,6 +42,7 @@ pub fn record(dir: &Path) {
         damaged::plans(r);
         plan_intervals(r);
     });
+    recording(dir, "sets.tsv", |r| sets::recorded::record(r, &mut rng(15)));
     printed::record(dir);
     chains::record(dir);
 }

@@ -235,7 +235,7 @@ pub fn wrong(parity: Parity, i: usize) -> bool {
     match parity {
         Parity::Full => false,
         Parity::Even => i % 2 == 1,
-        Parity::Odd => i % 2 == 0,
+        Parity::Odd => i.is_multiple_of(2),
     }
 }
 

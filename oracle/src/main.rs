@@ -20,6 +20,7 @@ mod lines;
 mod printed;
 mod rebuild;
 mod rebuilds;
+mod sets;
 mod since;
 mod split;
 mod texts;
@@ -65,6 +66,8 @@ fn main() {
         #[cfg(feature = "both")]
         ["sums", count, seed] => both::sums::compare(number(count), number(seed)),
         #[cfg(feature = "both")]
+        ["sets", count, seed] => both::sets::compare(number(count), number(seed)),
+        #[cfg(feature = "both")]
         ["bench", rounds, seed] => bench::run(number(rounds) as usize, number(seed)),
         ["degrees", seed] => {
             since::degrees(number(seed), BufWriter::new(stdout().lock())).expect("lines")
@@ -103,6 +106,7 @@ fn usage() -> ! {
     eprintln!("       oracle budgets COUNT SEED (with the feature both)");
     eprintln!("       oracle rebuilds COUNT SEED (with the feature both)");
     eprintln!("       oracle sums COUNT SEED (with the feature both)");
+    eprintln!("       oracle sets COUNT SEED (with the feature both)");
     eprintln!("       oracle bench ROUNDS SEED (with the feature both)");
     std::process::exit(2)
 }

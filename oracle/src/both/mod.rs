@@ -9,6 +9,8 @@ mod parts;
 mod random;
 pub mod rebuilds;
 mod rules;
+mod set_calls;
+pub mod sets;
 mod smaller;
 mod summands;
 pub mod sums;

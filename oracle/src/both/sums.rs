@@ -118,7 +118,7 @@ impl Answer {
 }
 
 /// The first place at which two lists of numbers differ.
-fn place<T: PartialEq + ToString>(what: &str, ours: &[T], must: &[T]) -> Option<String> {
+pub fn place<T: PartialEq + ToString>(what: &str, ours: &[T], must: &[T]) -> Option<String> {
     let at = (0..ours.len().max(must.len())).find(|&i| ours.get(i) != must.get(i))?;
     let text = |list: &[T]| list.get(at).map_or("none".to_string(), T::to_string);
     Some(format!(
