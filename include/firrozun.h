@@ -3,7 +3,7 @@
  * Each function is proved to answer, and to leave in its buffers, what crates/exports/specs says, for every input. docs/RULES.md has the rules
  * in words. Link with target/staticlib/libexports.a, which `rt staticlib exports` writes (x86-64 Linux).
  *
- * "Undefined reference to firrozun_layout_9" at linking says that the library is older or newer than this header, and has other structs or arguments.
+ * "Undefined reference to firrozun_layout_10" at linking says that the library is older or newer than this header, and has other structs or arguments.
  * Build it anew: run `rt staticlib exports` in the repository that this header is from, and link with what it writes.
  *
  * Kinds go by number (FIRROZUN_MONOMIAL and so on). A number that is no kind's is refusal 43, ahead of every other test.
@@ -21,7 +21,7 @@
 #include <stddef.h>
 #include <stdint.h>
 
-#define FIRROZUN_VERSION "0.9.0"
+#define FIRROZUN_VERSION "0.10.0"
 
 #ifdef __cplusplus
 extern "C" {
@@ -29,10 +29,10 @@ extern "C" {
 
 /* ---- the layouts */
 
-/* The number of the layouts, 9, which stands in the name too: it is raised with each change of a struct or of a function's arguments. The pointer
+/* The number of the layouts, 10, which stands in the name too: it is raised with each change of a struct or of a function's arguments. The pointer
  * behind it makes every program that includes this header ask the linker for this name, so that it does not link with a library of other layouts.
  * The attribute retain keeps the pointer with --gc-sections too; gcc has it from 11 on, and clang from 13 on. */
-uint32_t firrozun_layout_9(void);
+uint32_t firrozun_layout_10(void);
 
 #define FIRROZUN_KEPT __attribute__((used))
 #ifdef __has_attribute
@@ -41,7 +41,7 @@ uint32_t firrozun_layout_9(void);
 #define FIRROZUN_KEPT __attribute__((used, retain))
 #endif
 #endif
-FIRROZUN_KEPT static uint32_t (*const firrozun_layout)(void) = firrozun_layout_9;
+FIRROZUN_KEPT static uint32_t (*const firrozun_layout)(void) = firrozun_layout_10;
 #undef FIRROZUN_KEPT
 
 /* ---- kinds */
@@ -101,6 +101,8 @@ FIRROZUN_KEPT static uint32_t (*const firrozun_layout)(void) = firrozun_layout_9
 #define FIRROZUN_REFUSAL_BUDGET 31             /* no degree from 1 to 4,095 has bits within the budget */
 #define FIRROZUN_REFUSAL_OTHER_SETTINGS 33     /* base or list lengths are not those of the settings, or lists or boundaries end too early */
 #define FIRROZUN_REFUSAL_NO_POLYNOMIAL 34      /* no whole polynomial has the lists: a doubled coefficient is odd, or a rebuilt one is beyond 64 bits */
+#define FIRROZUN_REFUSAL_MEMBERS 35            /* no member, more than 16, or members whose lengths together pass the coefficients that are lent */
+#define FIRROZUN_REFUSAL_UNLIKE_MEMBERS 36     /* a member's basis, its fold or, with folding, its parity is not the first member's */
 #define FIRROZUN_REFUSAL_UNKNOWN_KIND 43       /* a basis, parity, strategy, transform or fold goes by a number that is none of its kinds' */
 
 /* ---- room that is enough for every plan */
@@ -108,6 +110,13 @@ FIRROZUN_KEPT static uint32_t (*const firrozun_layout)(void) = firrozun_layout_9
 #define FIRROZUN_COEFFICIENT_ROOM 4096
 #define FIRROZUN_BOUNDARY_ROOM 4096
 #define FIRROZUN_STEP_ROOM 49152
+
+/* ---- the most members of a set, and room that is enough for every set */
+
+#define FIRROZUN_SET_MEMBERS 16
+#define FIRROZUN_SET_COEFFICIENT_ROOM 65536
+#define FIRROZUN_SET_BOUNDARY_ROOM 65536
+#define FIRROZUN_SET_STEP_ROOM 786432
 
 /* ---- answers */
 
@@ -188,7 +197,7 @@ typedef struct {
     size_t coefficients; /* written to `out`: degree + 1 */
 } firrozun_rebuilt;
 
-/* How many coefficients, lists and steps a plan has: its buffers take `coefficients`, `lists` and 4 * `steps` places. */
+/* How many coefficients, lists and steps a plan or a set has: its buffers take `coefficients`, `lists` and 4 * `steps` places. */
 typedef struct {
     uint8_t refusal;
     size_t coefficients;
@@ -230,6 +239,37 @@ typedef struct {
     uint8_t refusal;
     firrozun_head head;
 } firrozun_planned;
+
+/* A curve of a set: its settings, its interval from a to b, and how many coefficients it has. The coefficients themselves are lent apart. */
+typedef struct {
+    uint8_t strategy;
+    uint8_t parity;
+    uint8_t basis;
+    uint8_t fold;
+    double a;
+    double b;
+    size_t count;
+} firrozun_member;
+
+/* The first `count` members are the set, and there are 1 to 16 of them. Members beyond the count are not read. */
+typedef struct {
+    size_t count;
+    firrozun_member members[FIRROZUN_SET_MEMBERS];
+} firrozun_members;
+
+/* What a set of curves costs, how many power steps its members have in common, and each member's head. A head is that of the member planned alone, its
+ * costs too, but its `steps` are counted without power steps: 2 * `lists` - 1. Heads beyond the members are all 0, and a member's degree never is. */
+typedef struct {
+    size_t ct;     /* multiplications of two ciphertexts, over all members */
+    size_t pt;     /* multiplications of a plaintext and a ciphertext, over all members */
+    size_t powers; /* power steps, which stand ahead of all other steps */
+    firrozun_head heads[FIRROZUN_SET_MEMBERS];
+} firrozun_curve_set;
+
+typedef struct {
+    uint8_t refusal;
+    firrozun_curve_set set;
+} firrozun_set_planned;
 
 typedef struct {
     uint8_t refusal;
@@ -343,6 +383,43 @@ firrozun_trial firrozun_trial_walk(firrozun_head head, const int64_t *coefficien
  * plan that can be walked, and at most 30 times the greater scale. Head and buffers may be any, damaged ones too. Refusals 43, 10, 24. */
 firrozun_chain firrozun_heaviest_chain(firrozun_head head, const int64_t *coefficients, size_t coefficients_len, const uint16_t *bounds,
                                        size_t bounds_len, const uint16_t *steps, size_t steps_len, size_t input, size_t coeff);
+
+/* ---- sets: up to 16 curves of one reading, planned together */
+
+/* The sizes of every set of curves with these settings and lengths, before there are coefficients and intervals: a and b of the members are not read.
+ * `steps` counts the common power steps once, and the other steps of all members. What passes the tests ahead of 21 is planned exactly if the three
+ * buffers have at least so many places. Refusals 43 (as below), 35 (no member, or more than 16), 36, then of each member, in their order, 2 (above
+ * 4,095), 1, with folding 5, 6: then firrozun_plan_set, too, refuses every set with these settings and lengths, though it may be by the number of an
+ * earlier test. */
+firrozun_sizes firrozun_set_sizes(firrozun_members members);
+
+/* Plans a set of 1 to 16 curves of one reading. Each power that a member needs is made once for all of them, and so is the transform of folded ones. So
+ * the set never costs more multiplications of two ciphertexts than the plans of its members by themselves, and fewer if two members need the same power
+ * or are folded. The members have one basis, all are folded or none, and folded ones have one parity; strategies and intervals may differ, and so may
+ * the parities of members that are not folded.
+ *
+ * `c` has the coefficients of the members one after another, `count` of each; places beyond are not read. The call leaves
+ * - in `out` the lists of the first member, then those of the second, and so on;
+ * - in `bounds` the boundaries of the members, one member's after another's. Each member's are counted from the beginning of its own part of `out`;
+ * - in `steps` four numbers for each step: first the power steps, by rising powers, then the loads and combines of the first member, then those of the
+ *   second, and so on. The list numbers of each member begin at 0.
+ *
+ * `ct` is the number of power steps and of all members' steps of kind 3, with folding one more for the common transform, and with a transform of
+ * TIMES_INPUT one more for each member. `pt` is the sum over all members: each member has as many as alone.
+ *
+ * firrozun_set_sizes tells how many places the buffers need; FIRROZUN_SET_COEFFICIENT_ROOM, FIRROZUN_SET_BOUNDARY_ROOM and FIRROZUN_SET_STEP_ROOM are
+ * always enough.
+ *
+ * To walk or to weigh member i, compose its plan. The head is heads[i] with its `steps` raised by `powers`. The coefficients begin behind those of the
+ * members before it, at the sum of their heads' `coefficients`, and the boundaries at the sum of their `lists`. The steps are the first 4 * `powers`
+ * numbers of `steps`, followed by the 4 * heads[i].steps numbers of the member's own, which begin at 4 * (`powers` + the sum of `steps` in the heads
+ * before). firrozun_trial_walk then gives the value of this member. Powers that only other members need are there too; neither call minds them.
+ *
+ * Refusals 43 (of one of the first `count` members, or of any of the 16 if `count` is above 16), 35 (no member, more than 16, or lengths that together
+ * pass c_len, which are added without overflow), 36, then of each member, in their order, 2 (above 4,095), 1, with folding 5, 6, then 4, 3, 7; then for
+ * all members together 21, 22, 23. */
+firrozun_set_planned firrozun_plan_set(firrozun_members members, const int64_t *c, size_t c_len, int64_t *out, size_t out_len, uint16_t *bounds,
+                                       size_t bounds_len, uint16_t *steps, size_t steps_len);
 
 #ifdef __cplusplus
 }

@@ -117,3 +117,28 @@ PLACE(firrozun_trial, remainder, 8);
 SIZE(firrozun_chain, 16);
 PLACE(firrozun_chain, refusal, 0);
 PLACE(firrozun_chain, weight, 8);
+
+/* ---- a set */
+
+SIZE(firrozun_member, 32);
+PLACE(firrozun_member, strategy, 0);
+PLACE(firrozun_member, parity, 1);
+PLACE(firrozun_member, basis, 2);
+PLACE(firrozun_member, fold, 3);
+PLACE(firrozun_member, a, 8);
+PLACE(firrozun_member, b, 16);
+PLACE(firrozun_member, count, 24);
+
+SIZE(firrozun_members, 520);
+PLACE(firrozun_members, count, 0);
+PLACE(firrozun_members, members, 8);
+
+SIZE(firrozun_curve_set, 1688);
+PLACE(firrozun_curve_set, ct, 0);
+PLACE(firrozun_curve_set, pt, 8);
+PLACE(firrozun_curve_set, powers, 16);
+PLACE(firrozun_curve_set, heads, 24);
+
+SIZE(firrozun_set_planned, 1696);
+PLACE(firrozun_set_planned, refusal, 0);
+PLACE(firrozun_set_planned, set, 8);

@@ -6,18 +6,22 @@
 
 use crate::coefficient::Coefficient;
 use crate::ffi;
-use crate::ffi::{CHead, Settings};
+use crate::ffi::{CHead, CSizes, Settings};
 use crate::interval::Interval;
 use crate::kinds::{Basis, Parity, PolynomialInputTransform, SplitStrategy};
 use crate::refusal::Refusal;
 
-/// Places that are enough in a coefficient buffer, for every call.
+mod set;
+
+pub use set::{plan_set_into, set_sizes, Member, MemberPlaces, SetHead};
+
+/// Places that are enough in a coefficient buffer, for every call but that of a set.
 ///
 /// ```
 /// assert_eq!(firrozun::buffers::COEFFICIENT_ROOM, 4096);
 /// ```
 pub const COEFFICIENT_ROOM: usize = 4096;
-/// Places that are enough in a boundary buffer, for every call.
+/// Places that are enough in a boundary buffer, for every call but that of a set.
 ///
 /// ```
 /// assert_eq!(firrozun::buffers::BOUNDARY_ROOM, 4096);
@@ -29,6 +33,34 @@ pub const BOUNDARY_ROOM: usize = 4096;
 /// assert_eq!(firrozun::buffers::STEP_ROOM, 4 * 3 * 4096);
 /// ```
 pub const STEP_ROOM: usize = 49_152;
+
+/// The most members of a set.
+///
+/// ```
+/// assert_eq!(firrozun::buffers::SET_MEMBERS, 16);
+/// ```
+pub const SET_MEMBERS: usize = 16;
+/// Places that are enough in the coefficient buffer of every set.
+///
+/// ```
+/// use firrozun::buffers::{COEFFICIENT_ROOM, SET_COEFFICIENT_ROOM, SET_MEMBERS};
+/// assert_eq!(SET_COEFFICIENT_ROOM, SET_MEMBERS * COEFFICIENT_ROOM);
+/// ```
+pub const SET_COEFFICIENT_ROOM: usize = 65_536;
+/// Places that are enough in the boundary buffer of every set.
+///
+/// ```
+/// use firrozun::buffers::{BOUNDARY_ROOM, SET_BOUNDARY_ROOM, SET_MEMBERS};
+/// assert_eq!(SET_BOUNDARY_ROOM, SET_MEMBERS * BOUNDARY_ROOM);
+/// ```
+pub const SET_BOUNDARY_ROOM: usize = 65_536;
+/// Places that are enough in the step buffer of every set: four for each step.
+///
+/// ```
+/// use firrozun::buffers::{SET_MEMBERS, SET_STEP_ROOM, STEP_ROOM};
+/// assert_eq!(SET_STEP_ROOM, SET_MEMBERS * STEP_ROOM);
+/// ```
+pub const SET_STEP_ROOM: usize = 786_432;
 
 /// What a fold call answers.
 ///
@@ -199,7 +231,7 @@ impl Head {
     }
 }
 
-/// How many coefficients, lists and steps a plan has: what its buffers must hold.
+/// How many coefficients, lists and steps a plan or a set has: what its buffers must hold.
 ///
 /// ```
 /// use firrozun::buffers::{plan_sizes, PlanSizes};
@@ -219,6 +251,15 @@ pub struct PlanSizes {
 }
 
 impl PlanSizes {
+    fn from_c(answer: CSizes) -> Result<Self, Refusal> {
+        Refusal::test(answer.refusal)?;
+        Ok(Self {
+            coefficients: answer.coefficients,
+            lists: answer.lists,
+            steps: answer.steps,
+        })
+    }
+
     /// Places of the step buffer: four for each step.
     ///
     /// ```
@@ -233,7 +274,7 @@ impl PlanSizes {
     }
 }
 
-/// The three buffers of a plan, lent to be written.
+/// The three buffers of a plan or of a set, lent to be written.
 ///
 /// ```
 /// use firrozun::buffers::{plan_into, PlanBuffers};
@@ -385,13 +426,8 @@ pub fn plan_sizes(
     fold: bool,
     degree: usize,
 ) -> Result<PlanSizes, Refusal> {
-    let answer = ffi::plan_sizes(settings(strategy, parity, basis, fold), degree);
-    Refusal::test(answer.refusal)?;
-    Ok(PlanSizes {
-        coefficients: answer.coefficients,
-        lists: answer.lists,
-        steps: answer.steps,
-    })
+    let settings = settings(strategy, parity, basis, fold);
+    PlanSizes::from_c(ffi::plan_sizes(settings, degree))
 }
 
 fn settings(strategy: SplitStrategy, parity: Parity, basis: Basis, fold: bool) -> Settings {

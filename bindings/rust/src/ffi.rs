@@ -3,6 +3,8 @@
 //! Each call of the library asks nothing of its caller but what C asks: a slice is a pointer and a length, what is read stays as
 //! it is during the call, and what is written overlaps nothing else. A reference of Rust has all that.
 
+use crate::buffers::SET_MEMBERS;
+
 #[repr(C)]
 #[derive(Clone, Copy, Debug, PartialEq)]
 pub struct CParts {
@@ -148,6 +150,41 @@ pub struct CPlanned {
 
 #[repr(C)]
 #[derive(Clone, Copy, Debug, PartialEq)]
+pub struct CMember {
+    pub strategy: u8,
+    pub parity: u8,
+    pub basis: u8,
+    pub fold: u8,
+    pub a: f64,
+    pub b: f64,
+    pub count: usize,
+}
+
+#[repr(C)]
+#[derive(Clone, Copy, Debug, PartialEq)]
+pub struct CMembers {
+    pub count: usize,
+    pub members: [CMember; SET_MEMBERS],
+}
+
+#[repr(C)]
+#[derive(Clone, Copy, Debug, PartialEq)]
+pub struct CCurveSet {
+    pub ct: usize,
+    pub pt: usize,
+    pub powers: usize,
+    pub heads: [CHead; SET_MEMBERS],
+}
+
+#[repr(C)]
+#[derive(Clone, Copy, Debug, PartialEq)]
+pub struct CSetPlanned {
+    pub refusal: u8,
+    pub set: CCurveSet,
+}
+
+#[repr(C)]
+#[derive(Clone, Copy, Debug, PartialEq)]
 pub struct CTrial {
     pub refusal: u8,
     pub remainder: u64,
@@ -161,7 +198,7 @@ pub struct CChain {
 }
 
 extern "C" {
-    fn firrozun_layout_9() -> u32;
+    fn firrozun_layout_10() -> u32;
     fn firrozun_split_degree(n: usize) -> CParts;
     fn firrozun_min_depth_split(degree: usize) -> CSplit;
     fn firrozun_min_mult_split(parity: u8, basis: u8, degree: usize) -> CSplit;
@@ -279,13 +316,25 @@ extern "C" {
         input: usize,
         coeff: usize,
     ) -> CChain;
+    fn firrozun_set_sizes(members: CMembers) -> CSizes;
+    fn firrozun_plan_set(
+        members: CMembers,
+        c: *const i64,
+        c_len: usize,
+        out: *mut i64,
+        out_len: usize,
+        bounds: *mut u16,
+        bounds_len: usize,
+        steps: *mut u16,
+        steps_len: usize,
+    ) -> CSetPlanned;
 }
 
 /// The number of the layouts of this file stands in the name, and is raised with each change of a struct or of a call's arguments in
 /// `crates/exports`. The reference has every program that links this crate ask for the name, so that a library with other layouts
 /// does not link.
 #[used]
-static LAYOUT: unsafe extern "C" fn() -> u32 = firrozun_layout_9;
+static LAYOUT: unsafe extern "C" fn() -> u32 = firrozun_layout_10;
 
 pub fn split_degree(n: usize) -> CParts {
     // SAFETY: the call takes and answers numbers alone, and is proved for every number.
@@ -522,6 +571,35 @@ pub fn heaviest_chain(
             steps.len(),
             input,
             coeff,
+        )
+    }
+}
+
+pub fn set_sizes(members: CMembers) -> CSizes {
+    // SAFETY: the call takes and answers numbers alone, and is proved for every number.
+    unsafe { firrozun_set_sizes(members) }
+}
+
+pub fn plan_set(
+    members: CMembers,
+    c: &[i64],
+    out: &mut [i64],
+    bounds: &mut [u16],
+    steps: &mut [u16],
+) -> CSetPlanned {
+    // SAFETY: pointers and lengths are those of four slices that live through the call; what is written is borrowed alone. The members
+    // are passed by value, and any may be.
+    unsafe {
+        firrozun_plan_set(
+            members,
+            c.as_ptr(),
+            c.len(),
+            out.as_mut_ptr(),
+            out.len(),
+            bounds.as_mut_ptr(),
+            bounds.len(),
+            steps.as_mut_ptr(),
+            steps.len(),
         )
     }
 }

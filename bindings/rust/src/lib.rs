@@ -25,6 +25,8 @@
 //! assert_eq!(plan.walk(2, 1_000_000), Ok(129));
 //! # Ok::<(), firrozun::Refusal>(())
 //! ```
+//!
+//! Up to 16 curves of one reading are planned together as a [`CurveSet`], which makes the powers that they need once for all of them.
 
 #![deny(unsafe_code)]
 #![warn(missing_docs)]
@@ -44,6 +46,7 @@ mod plan;
 mod polynomial;
 pub mod poulpy;
 mod refusal;
+mod set;
 
 pub use bsgs::BSGSPolynomial;
 pub use buffers::Head;
@@ -57,3 +60,4 @@ pub use kinds::{Basis, Parity, PolynomialInputTransform, SplitStrategy, DEFAULT_
 pub use plan::{Plan, Step};
 pub use polynomial::Polynomial;
 pub use refusal::Refusal;
+pub use set::{Curve, CurveSet, MemberPlan};

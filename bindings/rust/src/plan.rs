@@ -97,6 +97,21 @@ impl Plan {
         })
     }
 
+    /// The plan of a member of a set, with the set's power steps ahead of its own.
+    pub(crate) fn composed(
+        head: Head,
+        coefficients: &[i64],
+        boundaries: &[u16],
+        steps: Vec<u16>,
+    ) -> Self {
+        Self {
+            head,
+            coefficients: coefficients.to_vec(),
+            boundaries: boundaries.to_vec(),
+            steps,
+        }
+    }
+
     /// The plan's settings, cost, sizes and interval.
     ///
     /// ```
@@ -167,7 +182,7 @@ impl Plan {
     /// # Ok::<(), firrozun::Refusal>(())
     /// ```
     pub fn lists(&self) -> impl Iterator<Item = &[i64]> + '_ {
-        (0..self.boundaries.len()).filter_map(|i| self.list(i))
+        parts(&self.coefficients, &self.boundaries)
     }
 
     /// The steps, in the order in which they are done.
@@ -180,10 +195,7 @@ impl Plan {
     /// # Ok::<(), firrozun::Refusal>(())
     /// ```
     pub fn steps(&self) -> impl Iterator<Item = Step> + '_ {
-        self.steps.chunks_exact(4).filter_map(|numbers| {
-            let numbers = numbers.try_into().ok()?;
-            Step::from_numbers(numbers)
-        })
+        steps_of(&self.steps)
     }
 
     /// The polynomial that was planned, rebuilt from the lists: planned with the head's strategy, it gives this plan again.
@@ -322,6 +334,22 @@ pub(crate) fn part<'a, F>(coefficients: &'a [F], boundaries: &[u16], i: usize) -
         Some(before) => usize::from(*boundaries.get(before)?),
     };
     coefficients.get(start..end)
+}
+
+/// The lists that coefficients are parted into.
+pub(crate) fn parts<'a>(
+    coefficients: &'a [i64],
+    boundaries: &'a [u16],
+) -> impl Iterator<Item = &'a [i64]> + 'a {
+    (0..boundaries.len()).filter_map(move |i| part(coefficients, boundaries, i))
+}
+
+/// The steps of numbers as they stand in a step buffer.
+pub(crate) fn steps_of(numbers: &[u16]) -> impl Iterator<Item = Step> + '_ {
+    numbers.chunks_exact(4).filter_map(|numbers| {
+        let numbers = numbers.try_into().ok()?;
+        Step::from_numbers(numbers)
+    })
 }
 
 /// One step of a plan. Values wait on a stack; power 0 is 1 and power 1 is the input.

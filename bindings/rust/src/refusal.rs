@@ -5,8 +5,8 @@ use std::fmt;
 
 /// Why a call gave no answer. A refused call has changed no buffer.
 ///
-/// 1 to 12 are said of the input, 21 to 24 of what is lent, 31 of a budget, 33 and 34 of lists; they are the numbers of `docs/RULES.md`.
-/// The sentence says what is wrong, and what to do.
+/// 1 to 12 are said of the input, 21 to 24 of what is lent, 31 of a budget, 33 and 34 of lists, 35 and 36 of a set;
+/// they are the numbers of `docs/RULES.md`. The sentence says what is wrong, and what to do.
 ///
 /// ```
 /// use firrozun::{split_degree, Refusal};
@@ -61,6 +61,11 @@ pub enum Refusal {
     /// 34: no polynomial with whole coefficients of 64 bits has the lists, because a doubled coefficient is odd or a rebuilt one is beyond
     /// an i64.
     NoPolynomial,
+    /// 35: a set has no member, or more than 16; or, for [`plan_set_into`](crate::buffers::plan_set_into), its members have more
+    /// coefficients together than are lent.
+    Members,
+    /// 36: the members of a set differ in what they must have in common: the basis, whether they are folded and, if they are, the parity.
+    UnlikeMembers,
     /// 43: the number of a kind is unknown. The enums of this crate have no such number, so no safe call answers it.
     UnknownKind,
 }
@@ -70,10 +75,10 @@ impl Refusal {
     ///
     /// ```
     /// use firrozun::Refusal;
-    /// assert_eq!(Refusal::ALL.len(), 20);
+    /// assert_eq!(Refusal::ALL.len(), 22);
     /// assert!(Refusal::ALL.iter().all(|&r| Refusal::from_number(r.number()) == Some(r)));
     /// ```
-    pub const ALL: [Refusal; 20] = [
+    pub const ALL: [Refusal; 22] = [
         Self::NoDegree,
         Self::Degree,
         Self::Magnitude,
@@ -93,10 +98,12 @@ impl Refusal {
         Self::Budget,
         Self::OtherSettings,
         Self::NoPolynomial,
+        Self::Members,
+        Self::UnlikeMembers,
         Self::UnknownKind,
     ];
 
-    /// The number: 1 to 12, 21 to 24, 31, 33, 34, or 43.
+    /// The number: 1 to 12, 21 to 24, 31, 33 to 36, or 43.
     ///
     /// ```
     /// assert_eq!(firrozun::Refusal::StepBuffer.number(), 23);
@@ -122,6 +129,8 @@ impl Refusal {
             Self::Budget => 31,
             Self::OtherSettings => 33,
             Self::NoPolynomial => 34,
+            Self::Members => 35,
+            Self::UnlikeMembers => 36,
             Self::UnknownKind => 43,
         }
     }
@@ -176,11 +185,13 @@ impl Refusal {
             Self::Modulus => "the modulus is below 2 or above 2,147,483,647; give one in between",
             Self::Line => "the line does not have the form of a line of planlines; its README has the form",
             Self::CoefficientBuffer => {
-                "the coefficient buffer is too short; 4,096 places are enough for every call"
+                "the coefficient buffer is too short; 4,096 places are enough for every call, but for a set 65,536"
             }
-            Self::BoundaryBuffer => "the boundary buffer is too short; 4,096 places are enough for every call",
+            Self::BoundaryBuffer => {
+                "the boundary buffer is too short; 4,096 places are enough for every call, but for a set 65,536"
+            }
             Self::StepBuffer => {
-                "the step buffer has fewer than four places for each step; 49,152 places are enough for every plan"
+                "the step buffer has fewer than four places for each step; 49,152 places are enough for every plan, and 786,432 for every set"
             }
             Self::Unwalkable => {
                 "the plan cannot be walked; hand in its head and its buffers as the plan call left them"
@@ -193,6 +204,12 @@ impl Refusal {
             }
             Self::NoPolynomial => {
                 "no whole polynomial of 64 bits has these lists; take them from an undamaged copy, with the settings that they were cut with"
+            }
+            Self::Members => {
+                "the set has no member, or more than 16, or its members have more coefficients than are lent; give 1 to 16, with all of theirs"
+            }
+            Self::UnlikeMembers => {
+                "basis, folding or the parity of a fold is not the same for all members; make a set of each kind"
             }
             Self::UnknownKind => "the number of a basis, parity, strategy, transform or fold is unknown",
         }

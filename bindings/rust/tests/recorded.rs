@@ -1,18 +1,21 @@
 //! The repository's recorded answers of the published Rust (`oracle/README.md` has their form), through this crate: equal to the last
-//! bit, any NaN for any other. `refused` in a recording is a refusal of any number here; the lines written by hand name the number.
+//! bit, any NaN for any other. `refused` in a recording is a refusal of any number here; the lines written by hand and those of sets name the
+//! number.
 
 mod common;
 
 use common::{BASES, PARITIES, STRATEGIES, TRANSFORMS};
 use firrozun::buffers::{
-    chebyshev_interpolate_into, plan_into, rebuild_into, trial_walk, Lists, PlanBuffers,
+    chebyshev_interpolate_into, plan_into, plan_set_into, rebuild_into, set_sizes, trial_walk,
+    Lists, Member, PlanBuffers, SetHead,
 };
 use firrozun::{
     bsgs_consumed_bits, bsgs_eval_depth, bsgs_op_counts, change_of_basis, detect_parity,
     evaluate_coeffs, largest_degree, min_depth_split, min_mult_split, split_degree, Basis,
-    Coefficient, Head, Interval, Parity, Plan, Polynomial, PolynomialInputTransform, Refusal,
-    SplitStrategy,
+    Coefficient, Curve, CurveSet, Head, Interval, Parity, Plan, Polynomial,
+    PolynomialInputTransform, Refusal, SplitStrategy,
 };
+use std::fmt::Display;
 use std::path::Path;
 use std::str::{FromStr, Split};
 
@@ -106,6 +109,29 @@ impl Arguments<'_> {
         Polynomial::new_with_parity(basis, self.list(), parity)
     }
 
+    fn member(&mut self) -> Member {
+        let (basis, parity) = (self.basis(), self.parity());
+        Member {
+            basis,
+            parity,
+            strategy: self.strategy(),
+            fold: self.fold(),
+            interval: (self.one(), self.one()),
+            count: self.number(),
+        }
+    }
+
+    /// A count, and so many members, but at most 16. A slice of a greater count has others behind them, though never as many as the
+    /// greatest counts say.
+    fn members(&mut self) -> Vec<Member> {
+        let count: usize = self.number();
+        let mut members: Vec<Member> = (0..count.min(16)).map(|_| self.member()).collect();
+        if let Some(&last) = members.last() {
+            members.resize(count.min(1000), last);
+        }
+        members
+    }
+
     /// Basis, parity, strategy and coefficients.
     fn settings<F: Recorded>(&mut self) -> (Polynomial<F>, SplitStrategy) {
         let (basis, parity, strategy) = (self.basis(), self.parity(), self.strategy());
@@ -126,6 +152,11 @@ fn parity_letter(parity: Parity) -> String {
 fn put<F: Recorded>(fields: &mut Vec<String>, list: &[F]) {
     fields.push(list.len().to_string());
     fields.extend(list.iter().map(|&c| c.write()));
+}
+
+fn put_numbers<T: Display>(fields: &mut Vec<String>, list: &[T]) {
+    fields.push(list.len().to_string());
+    fields.extend(list.iter().map(|number| number.to_string()));
 }
 
 fn parity<F: Recorded>(arguments: &mut Arguments) -> Answer {
@@ -273,6 +304,120 @@ fn rebuild(arguments: &mut Arguments) -> Answer {
     Ok(fields)
 }
 
+/// The curves of members whose coefficients stand one after another, if there are enough.
+fn curves<'a>(members: &[Member], mut coeffs: &'a [i64]) -> Option<Vec<Curve<'a>>> {
+    let mut curves = Vec::new();
+    for member in members {
+        let (own, others) = coeffs.split_at_checked(member.count)?;
+        coeffs = others;
+        curves.push(Curve {
+            basis: member.basis,
+            coeffs: own,
+            parity: member.parity,
+            strategy: member.strategy,
+            fold: member.fold,
+            interval: member.interval,
+        });
+    }
+    Some(curves)
+}
+
+/// What a recorded head does not tell follows from the member.
+fn is_head_of(head: &Head, member: &Member) {
+    let folded = head.transform != PolynomialInputTransform::Identity;
+    let parity = if folded { Parity::Full } else { member.parity };
+    assert_eq!((head.basis, head.strategy), (member.basis, member.strategy));
+    assert_eq!((head.parity, folded), (parity, member.fold));
+    let (a, b) = member.interval;
+    let (u, w) = change_of_basis(member.basis, a, b);
+    assert_eq!(head.interval, Interval { a, b, u, w });
+}
+
+fn head_numbers(head: &Head) -> [usize; 9] {
+    [
+        head.degree,
+        head.base,
+        head.transform.number().into(),
+        head.ct_ct,
+        head.pt_ct,
+        head.depth,
+        head.coefficients,
+        head.lists,
+        head.steps,
+    ]
+}
+
+/// How many places of each buffer a set takes.
+fn places(set: &SetHead) -> (usize, usize, usize) {
+    let sum = |of: fn(&Head) -> usize| set.members().iter().map(of).sum::<usize>();
+    let steps = set.powers + sum(|head| head.steps);
+    (
+        sum(|head| head.coefficients),
+        sum(|head| head.lists),
+        4 * steps,
+    )
+}
+
+/// The refusal alone, or the set with what it filled. The places beyond are unchanged, after a refusal all of them. The call with memory of
+/// its own says the same, but for the refusals of buffers, and of coefficients that are too few for the members.
+fn plan_set(arguments: &mut Arguments) -> Answer {
+    let mut coefficients = vec![9; arguments.number()];
+    let mut boundaries = vec![9; arguments.number()];
+    let mut steps = vec![9; arguments.number()];
+    let (members, coeffs) = (arguments.members(), arguments.list::<i64>());
+    let buffers = PlanBuffers {
+        coefficients: &mut coefficients,
+        boundaries: &mut boundaries,
+        steps: &mut steps,
+    };
+    let answer = plan_set_into(&members, &coeffs, buffers);
+    let (a, b, c) = answer.as_ref().map_or((0, 0, 0), places);
+    assert!(coefficients[a..].iter().all(|&place| place == 9));
+    let beyond = boundaries[b..].iter().chain(&steps[c..]);
+    assert!(beyond.into_iter().all(|&place| place == 9));
+    let owned = curves(&members, &coeffs).map(|curves| CurveSet::plan(&curves));
+    let set = match answer {
+        Err(refusal) => {
+            let of_buffers = (21..=23).contains(&refusal.number());
+            match owned {
+                Some(Ok(_)) => assert!(of_buffers),
+                Some(Err(owned)) => assert_eq!(owned, refusal),
+                None => assert_eq!(refusal, Refusal::Members),
+            }
+            return Ok(vec![refusal.number().to_string()]);
+        }
+        Ok(set) => set,
+    };
+    let owned = owned.expect("enough coefficients").expect("the same set");
+    assert_eq!(*owned.head(), set);
+    assert_eq!(owned.coefficients(), &coefficients[..a]);
+    assert_eq!(owned.boundaries(), &boundaries[..b]);
+    assert_eq!(owned.step_numbers(), &steps[..c]);
+    assert_eq!(set.members().len(), members.len());
+    let numbers = [0, set.ct_ct, set.pt_ct, set.powers];
+    let mut fields = numbers.map(|n| n.to_string()).to_vec();
+    put(&mut fields, &coefficients[..a]);
+    put_numbers(&mut fields, &boundaries[..b]);
+    put_numbers(&mut fields, &steps[..c]);
+    for (head, member) in set.members().iter().zip(&members) {
+        is_head_of(head, member);
+        fields.extend(head_numbers(head).map(|n| n.to_string()));
+    }
+    for beyond in &set.heads[members.len()..] {
+        assert_eq!(head_numbers(beyond), [0; 9]);
+    }
+    Ok(fields)
+}
+
+/// The refusal alone, or 0 and the sizes.
+fn sizes_of_set(arguments: &mut Arguments) -> Answer {
+    let numbers = match set_sizes(&arguments.members()) {
+        Err(refusal) => vec![refusal.number().into()],
+        Ok(sizes) => vec![0, sizes.coefficients, sizes.lists, sizes.steps],
+    };
+    Ok(numbers.iter().map(|n| n.to_string()).collect())
+}
+
 fn walk(arguments: &mut Arguments) -> Answer {
     let head = Head {
         basis: arguments.basis(),
@@ -367,6 +512,8 @@ fn answer(call: &str, arguments: &mut Arguments) -> Answer {
         "plan_value" => plan_value(a),
         "plan_interval" => plan_interval(a),
         "plan_refused" => plan_refused(a),
+        "plan_set" => plan_set(a),
+        "set_sizes" => sizes_of_set(a),
         "trial_walk" => walk(a),
         _ => panic!("no call {call}"),
     }
@@ -409,4 +556,9 @@ fn lists() {
 #[test]
 fn plans() {
     assert!(replay("replay_plans") > 2800);
+}
+
+#[test]
+fn sets() {
+    assert!(replay("replay_sets") > 700);
 }

@@ -4,6 +4,9 @@
 use super::*;
 use std::mem::{offset_of, size_of};
 
+#[allow(clippy::indexing_slicing)]
+mod sets;
+
 const NO_HEAD: CHead = CHead {
     basis: 0,
     parity: 0,
@@ -67,9 +70,17 @@ fn the_layouts_of_a_plan() {
 }
 
 #[test]
+fn the_layouts_of_a_set() {
+    assert_layout!(CMember, 32, strategy 0, parity 1, basis 2, fold 3, a 8, b 16, count 24);
+    assert_layout!(CMembers, 520, count 0, members 8);
+    assert_layout!(CCurveSet, 1688, ct 0, pt 8, powers 16, heads 24);
+    assert_layout!(CSetPlanned, 1696, refusal 0, set 8);
+}
+
+#[test]
 fn the_number_of_the_layouts() {
     // SAFETY: the call takes nothing and answers a number.
-    assert_eq!(unsafe { LAYOUT() }, 9);
+    assert_eq!(unsafe { LAYOUT() }, 10);
 }
 
 /// +0 in the head of a refusal: -0 would be equal to it.

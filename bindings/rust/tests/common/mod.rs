@@ -3,6 +3,8 @@
 
 use firrozun::{Basis, Parity, PolynomialInputTransform, SplitStrategy};
 
+pub mod sets;
+
 pub const BASES: [Basis; 2] = [Basis::Monomial, Basis::Chebyshev];
 pub const PARITIES: [Parity; 3] = [Parity::Full, Parity::Even, Parity::Odd];
 pub const STRATEGIES: [SplitStrategy; 2] = [SplitStrategy::MinDepth, SplitStrategy::MinMult];
