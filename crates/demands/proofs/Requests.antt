@@ -33,6 +33,7 @@ use Rattle.demands.proofs.SetRight.{members-as-alone, members-right, se
 use Rattle.demands.proofs.SetAnswer.{sets-answered}
 use Rattle.demands.proofs.SetCounted.{sets-report, shared-costs-told, sets-written}
 use Rattle.demands.proofs.SetOne.{ones-planned}
+use Rattle.demands.proofs.SetSaves.{sets-save}
 use Rattle.demands.proofs.SetFits.{sets-fit}
 use Rattle.demands.proofs.SetTotal.{sets-made, set-order, set-refusals-told}
 use Rattle.demands.proofs.SetSized.{sets-sized, set-sizes-order, set-room}
@@ -132,6 +133,7 @@ curves-shared = record {
   set-refusals-told = set-refusals-told;
   set-order = set-order;
   sets-written = sets-written;
+  sets-save = sets-save;
   ones-planned = ones-planned;
   sets-fit = sets-fit;
   sets-sized = sets-sized;

@@ -21,7 +21,7 @@ use Rattle.plan.specs.PlanSteps.{makeStep, powerSteps, stepsAt}
 use Rattle.plan.specs.Reported.{ofKind, allowedIn, reported}
 use Rattle.plan.specs.PlanHead.{headOf}
 use Rattle.plan.specs.PlanCall.{plannedTransform, Accepted}
-use Rattle.plan.proofs.StepCounts.{kinds-append}
+use Rattle.plan.proofs.StepCounts.{kinds-append, makes}
 use Rattle.sets.specs.Members.{total, Curve}
 use Rattle.sets.specs.Own.{ownSplit, ownSteps, ownBoundaries, ownLengths, aloneHead, memberHead}
 use Rattle.sets.specs.SetPlan.{headsOf, setPowers, commonSteps, memberSteps, setSteps, sharedCost, setCt, setPt, setOf, setStepCount, setBoundaries}
@@ -37,16 +37,6 @@ use Rattle.demands.proofs.SetAnswer.{heads-length}
 
 -- ---- kinds
 
-powers-ones : (ns : List ℕ) → ofKind 1 (map makeStep ns) ≡ length ns
-unfolding ofKind
-powers-ones [] = refl
-powers-ones (n ∷ ns) = omega (arith, powers-ones ns)
-
-powers-fours : (ns : List ℕ) → ofKind 4 (map makeStep ns) ≡ 0
-unfolding ofKind
-powers-fours [] = refl
-powers-fours (n ∷ ns) = omega (arith, powers-fours ns)
-
 member-ones : (heads : List Head) → ofKind 1 (joined (map ownSteps heads)) ≡ 0
 unfolding joined ofKind
 member-ones [] = refl
@@ -57,7 +47,7 @@ member-ones (head ∷ heads) =
 pub power-steps : (heads : List Head) → ofKind 1 (setSteps heads) ≡ length (setPowers heads)
 unfolding setSteps commonSteps memberSteps
 power-steps heads =
-    kinds-append 1 (commonSteps heads) (memberSteps heads) ∙ ap₂ _+_ (powers-ones (setPowers heads)) (member-ones heads) ∙ omega arith
+    kinds-append 1 (commonSteps heads) (memberSteps heads) ∙ ap₂ _+_ (makes (setPowers heads) .ones) (member-ones heads) ∙ omega arith
 
 -- ---- plain ones
 
@@ -69,7 +59,7 @@ alone-pt curve =
     let head = memberHead curve in
     ap (λ (n : ℕ). allowedIn (head .parity) (ownLengths head) + n)
     (kinds-append 4 (map makeStep (neededList (head .parity) (head .basis) (head .degree) (ownSplit head))) (ownSteps head)
-    ∙ ap (_+ ofKind 4 (ownSteps head)) (powers-fours (neededList (head .parity) (head .basis) (head .degree) (ownSplit head))) ∙ omega arith)
+    ∙ ap (_+ ofKind 4 (ownSteps head)) (makes (neededList (head .parity) (head .basis) (head .degree) (ownSplit head)) .fours) ∙ omega arith)
 
 member-plains : (curves : List Curve)
     → total (map (λ (head : Head). allowedIn (head .parity) (ownLengths head)) (headsOf curves)) + ofKind 4 (joined (map ownSteps (headsOf curves)))
@@ -87,7 +77,7 @@ unfolding setPt setSteps commonSteps memberSteps
 plains-add curves =
     let heads = headsOf curves in
     let fours = kinds-append 4 (commonSteps heads) (memberSteps heads) in
-    let none = powers-fours (setPowers heads) in
+    let none = makes (setPowers heads) .fours in
     omega (arith, fours, none, member-plains curves)
 
 -- the lengths of a member's lists, by its boundaries

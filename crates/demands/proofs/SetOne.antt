@@ -33,7 +33,7 @@ shared-one SquareTimesInput = refl
 shared-one ChebyshevT2 = refl
 shared-one ChebyshevT2TimesInput = refl
 
-one-powers : (head : Head) → setPowers (head ∷ []) ≡ ownPowers head
+pub one-powers : (head : Head) → setPowers (head ∷ []) ≡ ownPowers head
 unfolding setPowers ownPowers
 one-powers head =
     union-one (ownPowers head) (needed-powers (head .parity) (head .basis) (head .degree) (ownSplit head) .rising)

@@ -26,6 +26,7 @@ pub mod SetRight
 pub mod SetAnswer
 pub mod SetCounted
 pub mod SetOne
+pub mod SetSaves
 pub mod SetFits
 pub mod SetTotal
 pub mod SetSized

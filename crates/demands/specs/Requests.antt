@@ -42,6 +42,7 @@ use Rattle.demands.specs.SetRight.{MembersAsAlone, MembersRight, SetStor
 use Rattle.demands.specs.SetAnswer.{SetsAnswered}
 use Rattle.demands.specs.SetCounted.{SetsReport, SharedCostsTold, SetsWritten}
 use Rattle.demands.specs.SetOne.{OnesPlanned}
+use Rattle.demands.specs.SetSaves.{SetsSave}
 use Rattle.demands.specs.SetFits.{SetsFit}
 use Rattle.demands.specs.SetTotal.{SetsMade, SetOrder, SetRefusalsTold}
 use Rattle.demands.specs.SetSized.{SetsSized, SetSizesOrder, SetRoom}
@@ -212,7 +213,9 @@ pub record CurvesShared : Type 1 where
   pub set-order : SetOrder
   -- The totals are those of what is written.
   pub sets-written : SetsWritten
-  -- Beyond the request: a set of one member is that member's plan, and every number of a set fits the buffers' u16.
+  -- Beyond the request: a set never reports more multiplications of two encrypted numbers than the plans of its members together, a set of one member is
+  -- that member's plan, and every number of a set fits the buffers' u16.
+  pub sets-save : SetsSave
   pub ones-planned : OnesPlanned
   pub sets-fit : SetsFit
   -- The totals are told before the curves are there, as in Q-1, and 65,536 coefficients, 65,536 boundaries and 786,432 numbers of steps hold every set.

@@ -27,12 +27,12 @@ kinds-append kind (x ∷ xs) ys = let rest = kinds-append kind xs ys in omega ar
 
 -- ---- the power steps
 
-record Makes (n : ℕ) (steps : List Step) : Type 0 where
-  ones : ofKind 1 steps ≡ n
-  threes : ofKind 3 steps ≡ 0
-  fours : ofKind 4 steps ≡ 0
+pub record Makes (n : ℕ) (steps : List Step) : Type 0 where
+  pub ones : ofKind 1 steps ≡ n
+  pub threes : ofKind 3 steps ≡ 0
+  pub fours : ofKind 4 steps ≡ 0
 
-makes : (ns : List ℕ) → Makes (length ns) (map makeStep ns)
+pub makes : (ns : List ℕ) → Makes (length ns) (map makeStep ns)
 unfolding ofKind
 makes [] = record { ones = refl; threes = refl; fours = refl }
 makes (n ∷ ns) = let rest = makes ns in record { ones = omega arith; threes = omega arith; fours = omega arith }

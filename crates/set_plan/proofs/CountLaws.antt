@@ -4,7 +4,6 @@ use mathlib.Core.Bool.{Bool, cond, _&&_}
 use mathlib.Core.List.{List, [], _∷_, map}
 use Prim.Native.Nat.{ℕ, suc, _+_, _-_, _≤_, _<_}
 use native.Mathlib.Omega.{arith}
-use borrow.Author.Tests.{ne-eqb}
 use lib.Dec.{leb, eqb}
 use lib.ListN.{length, getD, take, drop}
 use lib.Seq.{length-take-le}
@@ -21,7 +20,7 @@ use Rattle.plan.specs.inside.Outlines.{totalsOf}
 use Rattle.plan.specs.declared.outline.Totals.{Totals}
 use Rattle.plan.proofs.HeadCounts.{four-most}
 use Rattle.plan.proofs.ListTotals.{TotalsRange, totals-range}
-use Rattle.plan.proofs.StepCounts.{kinds-append, combines}
+use Rattle.plan.proofs.StepCounts.{kinds-append, makes, combines}
 use Rattle.sets.specs.Members.{total}
 use Rattle.sets.specs.Own.{ownSplit, ownTree, ownSteps, ownLengths}
 use Rattle.sets.specs.SetPlan.{memberSteps, commonSteps, setSteps, setPowers, sharedCost, setCost, setCt, setPt, setOf}
@@ -181,16 +180,14 @@ cost-most {heads} {count} fit =
 
 -- ---- the record
 
-powers-no : (kind : ℕ) → (1 ≡ kind → ⊥) → (ns : List ℕ) → ofKind kind (map makeStep ns) ≡ 0
-unfolding ofKind
-powers-no kind other [] = refl
-powers-no kind other (n ∷ ns) = rw (ne-eqb 1 kind other) (omega (arith, powers-no kind other ns))
-
-kinds-set : (kind : ℕ) → (1 ≡ kind → ⊥) → (heads : List Head) → ofKind kind (setSteps heads) ≡ ofKind kind (memberSteps heads)
+-- no power step is of kind 3 or 4
+threes-set : (heads : List Head) → ofKind 3 (setSteps heads) ≡ ofKind 3 (memberSteps heads)
 unfolding setSteps commonSteps
-kinds-set kind other heads =
-    kinds-append kind (map makeStep (setPowers heads)) (memberSteps heads)
-    ∙ ap (_+ ofKind kind (memberSteps heads)) (powers-no kind other (setPowers heads)) ∙ omega arith
+threes-set heads = omega (arith, kinds-append 3 (map makeStep (setPowers heads)) (memberSteps heads), makes (setPowers heads) .threes)
+
+fours-set : (heads : List Head) → ofKind 4 (setSteps heads) ≡ ofKind 4 (memberSteps heads)
+unfolding setSteps commonSteps
+fours-set heads = omega (arith, kinds-append 4 (map makeStep (setPowers heads)) (memberSteps heads), makes (setPowers heads) .fours)
 
 pub record-is : {heads : List Head} {count powers cost : ℕ} {costs : Costs} → RecordAsked heads count powers → CostsAre heads count costs
     → cost ≡ setCost (take count heads)
@@ -200,10 +197,10 @@ record-is {heads} {count} {powers} {cost} {costs} asked sum cost-is =
     let members = take count heads in
     let same = asked .counted .powers-are in
     let ct : powers + costs .threes + cost ≡ setCt members =
-    ap₂ _+_ (ap₂ _+_ same (sum .threes-are ∙ sym (kinds-set 3 (λ e. omega arith) members))) cost-is in
+    ap₂ _+_ (ap₂ _+_ same (sum .threes-are ∙ sym (threes-set members))) cost-is in
     let pt : costs .plains ≡ setPt members =
     sum .plains-are
-    ∙ ap (total (map (λ (head : Head). allowedIn (head .parity) (ownLengths head)) members) +_) (sym (kinds-set 4 (λ e. omega arith) members)) in
+    ∙ ap (total (map (λ (head : Head). allowedIn (head .parity) (ownLengths head)) members) +_) (sym (fours-set members)) in
     of-parts ct pt same (asked .zeros)
   where
     of-parts : {ct ct′ pt pt′ n n′ : ℕ} {hs hs′ : List Head} → ct ≡ ct′ → pt ≡ pt′ → n ≡ n′ → hs ≡ hs′

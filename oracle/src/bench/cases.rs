@@ -15,7 +15,7 @@ use crate::layouts::polynomial_evaluation as rust;
 type Published = rust::Polynomial<f64>;
 
 /// The interval of a plan.
-const ENDS: (f64, f64) = (-1.0, 1.0);
+pub const ENDS: (f64, f64) = (-1.0, 1.0);
 /// The point and the modulus of a walk.
 const POINT: i64 = -123_456_789_012;
 const MODULUS: u64 = 2_147_483_647;

@@ -4,6 +4,7 @@ mod budgets;
 mod cases;
 mod clock;
 mod rebuilds;
+mod sets;
 
 use crate::calls::{
     BASES, Basis, Parity, STRATEGIES, SplitStrategy, basis_letter, strategy_letter,
@@ -26,6 +27,7 @@ pub fn run(rounds: usize, seed: u64) {
             for strategy in STRATEGIES {
                 cases::lists(&mut b, basis, strategy, degree);
                 cases::plans(&mut b, basis, strategy, degree);
+                sets::sets(&mut b, basis, strategy, degree);
                 rebuilds::rebuilds(&mut b, basis, strategy, degree);
             }
             cases::choice(&b, basis, degree);
