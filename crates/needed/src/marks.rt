@@ -30,7 +30,7 @@ pub fn baby_limit(degree: usize, split: usize) -> usize
 }
 
 // The greatest place that may be needed at once.
-fn greatest_target(degree: usize, split: usize) -> usize
+pub fn greatest_target(degree: usize, split: usize) -> usize
     requires { ⌜ Planned degree split ⌝ }
     ensures { λ r. ⌜ r ≡ greatestTarget degree split ⌝ }
 {

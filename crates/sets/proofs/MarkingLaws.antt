@@ -16,13 +16,14 @@ use Rattle.algebra.specs.declared.Parity.{Parity}
 use Rattle.number.specs.Bits.{topPower}
 use Rattle.number.specs.Limits.{countLimit}
 use Rattle.number.proofs.Bits.{top-power}
-use Rattle.needed.specs.Needed.{Needed, target, part, babyLimit, top, small}
+use Rattle.needed.specs.Needed.{Needed, target, part, babyLimit, top, small, NeededPower}
 use Rattle.needed.specs.NeededList.{isTarget}
-use Rattle.needed.specs.inside.Marks.{Marked, markAt, markedFrom, countMarks, sweepFrom}
+use Rattle.needed.specs.inside.Marks.{Marked, greatestTarget, markAt, neededMarks, markedFrom, countMarks, sweepFrom}
 use Rattle.needed.proofs.Needed.{needed-more}
 use Rattle.needed.proofs.NeededList.{target-is, is-target}
 use Rattle.needed.proofs.MarkLaws.{marked-below, mark-length}
 use Rattle.needed.proofs.SweepLaws.{sweep-length, sweep-marks}
+use Rattle.needed.proofs.NeededMarks.{needed-length, marked-needed}
 use Rattle.needed.proofs.MarkedPowers.{listed-marked, marked-count, marked-rising}
 use Rattle.needed.proofs.PlaceLaws.{count-most}
 use Rattle.needed.proofs.Promises.{needed-powers, union}
@@ -31,7 +32,7 @@ use Rattle.walk.specs.declared.plan.Head.{Head}
 use Rattle.sets.specs.Union.{unionOf}
 use Rattle.sets.specs.Own.{ownSplit, ownPowers}
 use Rattle.sets.specs.SetPlan.{setPowers}
-use Rattle.sets.specs.inside.Heads.{HeadFits, HeadsFit, SameBasis, DegreesTo}
+use Rattle.sets.specs.inside.Heads.{HeadFits, HeadsFit, SameBasis, PowersTo}
 use Rattle.sets.specs.inside.Marking.{PlacesAdded, OwnTarget, TargetsAdded, TargetIn, TargetsUpto, Common, PowersCounted}
 use Rattle.sets.proofs.Arrays.{anyHead, take-more}
 use Rattle.sets.proofs.Union.{merged-holds, union-rising}
@@ -234,16 +235,22 @@ needed-common basis (head ∷ heads) one n =
           (λ (later : List·Memᴰ n (unionOf (map ownPowers heads))). inr (rest .1 later)) (merges .0 member)),
     )
 
--- no power that is needed at once is above the greatest degree
-targets-to : (n : ℕ) (heads : List Head) → Each HeadFits heads → Each (λ (head : Head). head .degree ≤ n) heads → (m : ℕ) → TargetIn heads m → m ≤ n
+-- a power that a member needs is at most the greatest that it may need
+own-to : (head : Head) (m : ℕ) → NeededPower (head .parity) (head .basis) (head .degree) (ownSplit head) m → m ≤ greatestTarget (head .degree) (ownSplit head)
+own-to head m needed =
+    let marks = neededMarks (head .parity) (head .basis) (head .degree) (ownSplit head) in
+    let inside = marked-below marks m (marked-needed (head .parity) (head .basis) (head .degree) (ownSplit head) m .1 needed) in
+    omega (arith, needed-length (head .parity) (head .basis) (head .degree) (ownSplit head))
+
+-- so no power that one of them needs at once is above the greatest
+targets-to : (n : ℕ) (heads : List Head) → Each HeadFits heads → Each (λ (head : Head). greatestTarget (head .degree) (ownSplit head) ≤ n) heads
+    → (m : ℕ) → TargetIn heads m → m ≤ n
 targets-to n (head ∷ heads) fit to m (inl own) =
-    let known = needed-powers (head .parity) (head .basis) (head .degree) (ownSplit head) in
-    let most = known .within (fit .0 .degrees .from) m (known .least .holds m own) in
-    omega (arith, to .0)
+    omega (arith, own-to head m (needed-powers (head .parity) (head .basis) (head .degree) (ownSplit head) .least .holds m own), to .0)
 targets-to n (head ∷ heads) fit to m (inr rest) = targets-to n heads (fit .1) (to .1) m rest
 
 pub common-swept : {basis : Basis} {heads : List Head} {count last : ℕ} {marks swept : List Bool} → HeadsFit heads count → SameBasis basis (take count heads)
-    → TargetsUpto heads count marks → DegreesTo last (take count heads) → swept ≡ sweepFrom basis last marks → Common heads count swept
+    → TargetsUpto heads count marks → PowersTo last (take count heads) → swept ≡ sweepFrom basis last marks → Common heads count swept
 unfolding setPowers
 common-swept {basis} {heads} {count} {last} {marks} {swept} fit one targets to is =
     let members = take count heads in
@@ -263,17 +270,15 @@ common-swept {basis} {heads} {count} {last} {marks} {swept} fit one targets to i
 
 -- ---- how many they are
 
--- the powers of members are at most the greatest degree
-powers-to : (n : ℕ) (heads : List Head) → Each HeadFits heads → Each (λ (head : Head). head .degree ≤ n) heads → (m : ℕ)
+-- the powers of members are at most the greatest that one may need
+powers-to : (n : ℕ) (heads : List Head) → Each HeadFits heads → Each (λ (head : Head). greatestTarget (head .degree) (ownSplit head) ≤ n) heads → (m : ℕ)
     → List·Memᴰ m (unionOf (map ownPowers heads)) → m ≤ n
 unfolding unionOf ownPowers
 powers-to n [] fit to m member = absurd (List·Memᴰ·not-nil member)
 powers-to n (head ∷ heads) fit to m member =
     let known = needed-powers (head .parity) (head .basis) (head .degree) (ownSplit head) in
     ⊎-elim
-    (λ (own : List·Memᴰ m (ownPowers head)).
-    let most = known .within (fit .0 .degrees .from) m (known .listed m .0 own) in
-    omega (arith, to .0))
+    (λ (own : List·Memᴰ m (ownPowers head)). omega (arith, own-to head m (known .listed m .0 own), to .0))
     (λ (rest : List·Memᴰ m (unionOf (map ownPowers heads))). powers-to n heads (fit .1) (to .1) m rest)
     (merged-holds (ownPowers head) (unionOf (map ownPowers heads)) m .0 member)
 
@@ -288,7 +293,7 @@ none-behind (suc k) (mark ∷ marks) below =
     omega (arith, none-behind k marks (λ m marked. let less = below (suc m) marked in omega arith))
 
 pub powers-counted : {heads : List Head} {count last powers : ℕ} {marks : List Bool} → HeadsFit heads count → Common heads count marks
-    → DegreesTo last (take count heads) → powers ≡ countMarks (take (last + 1) marks) → PowersCounted heads count powers
+    → PowersTo last (take count heads) → powers ≡ countMarks (take (last + 1) marks) → PowersCounted heads count powers
 unfolding setPowers
 powers-counted {heads} {count} {last} {powers} {marks} fit common to is =
     let below : (m : ℕ) → Marked marks m → m < last + 1 = λ m marked.
@@ -301,17 +306,19 @@ powers-counted {heads} {count} {last} {powers} {marks} fit common to is =
       powers-most = omega (arith, all, count-most marks, common .size);
     }
 
--- ---- the greatest degree
+-- ---- the greatest power
 
-pub degrees-none : (heads : List Head) → DegreesTo 0 (take 0 heads)
-degrees-none heads = record { each = tt }
+pub powers-none : (heads : List Head) → PowersTo 0 (take 0 heads)
+powers-none heads = record { each = tt }
 
--- one member more, with its degree or with the greatest so far
-pub degrees-more : (heads : List Head) (i : ℕ) {n k : ℕ} → i < length heads → DegreesTo n (take i heads) → n ≤ k → getD heads i anyHead .degree ≤ k
-    → DegreesTo k (take (i + 1) heads)
-degrees-more heads i {n} {k} inside to grows own =
-    subst (DegreesTo k) (sym (take-more anyHead i heads inside)) (record { each = both (take i heads) (to .each) })
+-- one member more, with its greatest power or with the greatest so far
+pub powers-more : (heads : List Head) (i : ℕ) {n k : ℕ} → i < length heads → PowersTo n (take i heads) → n ≤ k
+    → greatestTarget (getD heads i anyHead .degree) (ownSplit (getD heads i anyHead)) ≤ k
+    → PowersTo k (take (i + 1) heads)
+powers-more heads i {n} {k} inside to grows own =
+    subst (PowersTo k) (sym (take-more anyHead i heads inside)) (record { each = both (take i heads) (to .each) })
   where
-    both : (xs : List Head) → Each (λ (head : Head). head .degree ≤ n) xs → Each (λ (head : Head). head .degree ≤ k) (xs ++ (getD heads i anyHead ∷ []))
+    both : (xs : List Head) → Each (λ (head : Head). greatestTarget (head .degree) (ownSplit head) ≤ n) xs
+        → Each (λ (head : Head). greatestTarget (head .degree) (ownSplit head) ≤ k) (xs ++ (getD heads i anyHead ∷ []))
     both [] none = (own, tt)
     both (x ∷ xs) each = (omega (arith, each .0), both xs (each .1))

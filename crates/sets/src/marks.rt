@@ -3,6 +3,7 @@ use super::member::MEMBERS;
 use needed::MARKS;
 use needed::baby_limit;
 use needed::count_marks;
+use needed::marks::greatest_target;
 use needed::marks::is_target;
 use needed::marks::mark;
 use needed::marks::sweep;
@@ -16,7 +17,7 @@ ghost use Prim.Native.Nat.{_≤_};
 ghost use lib.ListN.{length, take};
 ghost use Rattle.number.specs.Limits.{planLimit, countLimit};
 ghost use Rattle.sets.specs.Own.{ownSplit};
-ghost use Rattle.sets.specs.inside.Heads.{HeadFits, HeadsFit, SameBasis, DegreesTo};
+ghost use Rattle.sets.specs.inside.Heads.{HeadFits, HeadsFit, SameBasis, PowersTo};
 ghost use Rattle.sets.specs.inside.Marking.{PlacesAdded, TargetsAdded, TargetsUpto, Common, PowersCounted};
 
 // The split of a member, which its base tells.
@@ -70,18 +71,18 @@ fn common_targets(heads: [Head; MEMBERS], count: usize) -> [bool; MARKS]
     marks
 }
 
-// The greatest degree of the first `count` members, or 0 if there is none.
-fn greatest_degree(heads: [Head; MEMBERS], count: usize) -> usize
+// The greatest power that one of the first `count` members may need, or 0 if there is no member.
+fn greatest_power(heads: [Head; MEMBERS], count: usize) -> usize
     requires { ⌜ HeadsFit heads count ⌝ }
-    ensures { λ r. ⌜ DegreesTo r (take count heads) × (r ≤ planLimit) ⌝ }
+    ensures { λ r. ⌜ PowersTo r (take count heads) × (r ≤ planLimit) ⌝ }
 {
     let mut greatest = 0;
     let mut i = 0;
     while i < count {
         let head = heads[i];
-        let degree = head.degree;
-        if greatest < degree {
-            greatest = degree;
+        let power = greatest_target(head.degree, own_split(head));
+        if greatest < power {
+            greatest = power;
         }
         i += 1;
     }
@@ -94,16 +95,16 @@ pub fn common_marks(basis: Basis, heads: [Head; MEMBERS], count: usize) -> [bool
     ensures { λ r. ⌜ Common heads count r ⌝ }
 {
     let mut marks = common_targets(heads, count);
-    let last = greatest_degree(heads, count);
+    let last = greatest_power(heads, count);
     sweep(basis, last, &mut marks);
     marks
 }
 
-// How many common powers the first `count` members have, by their marks. None is above the greatest degree.
+// How many common powers the first `count` members have, by their marks. None is above the greatest that one may need.
 pub fn count_common(heads: [Head; MEMBERS], count: usize, marks: [bool; MARKS]) -> usize
     requires { ⌜ HeadsFit heads count × Common heads count marks ⌝ }
     ensures { λ r. ⌜ PowersCounted heads count r ⌝ }
 {
-    let last = greatest_degree(heads, count);
+    let last = greatest_power(heads, count);
     count_marks(marks, last + 1)
 }

@@ -7,6 +7,7 @@ use Rattle.algebra.specs.Each.{Each}
 use Rattle.algebra.specs.declared.Basis.{Basis}
 use Rattle.number.specs.Limits.{planLimit}
 use Rattle.number.specs.inside.Between.{Between}
+use Rattle.needed.specs.inside.Marks.{greatestTarget}
 use Rattle.lists.specs.Arrange.{leavesOf}
 use Rattle.walk.specs.declared.plan.Head.{Head}
 use Rattle.sets.specs.Own.{ownSplit, ownTree, ownSteps}
@@ -30,6 +31,6 @@ pub record HeadsFit (heads : List Head) (count : ℕ) : Type 0 where
 pub record SameBasis (basis : Basis) (heads : List Head) : Type 0 where
   pub each : Each (λ (head : Head). head .basis ≡ basis) heads
 
--- no degree is above n
-pub record DegreesTo (n : ℕ) (heads : List Head) : Type 0 where
-  pub each : Each (λ (head : Head). head .degree ≤ n) heads
+-- no member may need a power above n
+pub record PowersTo (n : ℕ) (heads : List Head) : Type 0 where
+  pub each : Each (λ (head : Head). greatestTarget (head .degree) (ownSplit head) ≤ n) heads
