@@ -15,11 +15,11 @@ use Rattle.algebra.specs.Ring.{Ring}
 use Rattle.algebra.specs.Value.{sum, dot, value}
 use Rattle.algebra.specs.declared.Basis.{Basis}
 use Rattle.algebra.specs.declared.Basis.TheVariants.{Monomial, Chebyshev}
-use Rattle.algebra.proofs.Chebyshev.{cheb-zero, cheb-beyond}
-use Rattle.algebra.proofs.CutPlaces.{length-lowered, length-doubled, cut_low, cut_high, getD-lowered, getD-doubled-zero, getD-doubled-suc}
+use Rattle.algebra.proofs.Chebyshev.{cheb_zero, cheb_beyond}
+use Rattle.algebra.proofs.CutPlaces.{length_lowered, length_doubled, cut_low, cut_high, get_d_lowered, get_d_doubled_zero, get_d_doubled_suc}
 use Rattle.algebra.proofs.Powers.{pow-add}
 use Rattle.algebra.proofs.Solve.{◌:=◌, num, ◌:+◌, ◌:-◌, ◌:*◌, ring, from}
-use Rattle.algebra.proofs.Sums.{sum-ext, sum-sub, sum-mul, sum-split, sum_first, sum-reverse, dot-ext, dot-mul, dot-split, dot-past, dot-is}
+use Rattle.algebra.proofs.Sums.{sum_ext, sum_sub, sum_mul, sum_split, sum_first, sum_reverse, dot_ext, dot_mul, dot_split, dot_past, dot_is}
 
 module _ {A : Type 0} (𝓡 : Ring A) (x : A) (p : ℕ) (c : List A) where
   open 𝓡 use {ops}
@@ -28,11 +28,11 @@ module _ {A : Type 0} (𝓡 : Ring A) (x : A) (p : ℕ) (c : List A) where
   infixl 6 ◌⊕◌
   infixl 6 ◌⊖◌
   infixl 7 ◌⊗◌
-  monomial-value : dot ops (pow ops x) c ≡ dot ops (pow ops x) (take p c) ⊕ pow ops x p ⊗ dot ops (pow ops x) (drop p c)
-  monomial-value =
-      dot-split 𝓡 (pow ops x) p c
+  monomial_value : dot ops (pow ops x) c ≡ dot ops (pow ops x) (take p c) ⊕ pow ops x p ⊗ dot ops (pow ops x) (drop p c)
+  monomial_value =
+      dot_split 𝓡 (pow ops x) p c
       ∙ ap (dot ops (pow ops x) (take p c) ⊕◌)
-      (dot-ext ops (λ j. pow ops x (p + j)) (λ j. pow ops x p ⊗ pow ops x j) (drop p c) (pow-add 𝓡 x p) ∙ dot-mul 𝓡 (pow ops x p) (pow ops x) (drop p c))
+      (dot_ext ops (λ j. pow ops x (p + j)) (λ j. pow ops x p ⊗ pow ops x j) (drop p c) (pow-add 𝓡 x p) ∙ dot_mul 𝓡 (pow ops x p) (pow ops x) (drop p c))
 
   -- ---- Chebyshev, with sums of p and of p + 1 + p terms
 
@@ -52,52 +52,52 @@ module _ {A : Type 0} (𝓡 : Ring A) (x : A) (p : ℕ) (c : List A) where
   abbrev lost : ℕ → A
   lost i = coeff (p + (p - i)) ⊗ T i
 
-  term-cut : (j : ℕ) → j < p → term (p + suc j) ≡ T p ⊗ gained j ⊖ lost (p - suc j)
-  term-cut j h =
+  term_cut : (j : ℕ) → j < p → term (p + suc j) ≡ T p ⊗ gained j ⊖ lost (p - suc j)
+  term_cut j h =
       let back : p - (p - suc j) ≡ suc j = omega arith in
       from 𝓡 (coeff (p + suc j) ∷ coeff (p + (p - (p - suc j))) ∷ T (p + suc j) ∷ T p ∷ T (suc j) ∷ T (p - suc j) ∷ [])
       (λ c d s t u v. c :* s := t :* (num 2 :* c :* u) :- d :* v)
       (λ c d s t u v. (c, s := num 2 :* (t :* u) :- v) ∷ (v, d := c) ∷ [])
-      refl (cheb-beyond 𝓡 x p (suc j) h, (ap (λ k. coeff (p + k)) back, tt))
+      refl (cheb_beyond 𝓡 x p (suc j) h, (ap (λ k. coeff (p + k)) back, tt))
 
-  terms-cut : sum ops (λ j. term (p + suc j)) p ≡ T p ⊗ sum ops gained p ⊖ sum ops lost p
-  terms-cut =
-      sum-ext ops (λ j. term (p + suc j)) (λ j. T p ⊗ gained j ⊖ lost (p - suc j)) p term-cut
-      ∙ sum-sub 𝓡 (λ j. T p ⊗ gained j) (λ j. lost (p - suc j)) p
-      ∙ ap₂ ◌⊖◌ (sum-mul 𝓡 (T p) gained p) (sym (sum-reverse 𝓡 lost p))
+  terms_cut : sum ops (λ j. term (p + suc j)) p ≡ T p ⊗ sum ops gained p ⊖ sum ops lost p
+  terms_cut =
+      sum_ext ops (λ j. term (p + suc j)) (λ j. T p ⊗ gained j ⊖ lost (p - suc j)) p term_cut
+      ∙ sum_sub 𝓡 (λ j. T p ⊗ gained j) (λ j. lost (p - suc j)) p
+      ∙ ap₂ ◌⊖◌ (sum_mul 𝓡 (T p) gained p) (sym (sum_reverse 𝓡 lost p))
 
   low_value : p ≤ length c → dot ops (cheb ops x) (lowered ops p c) ≡ sum ops term p ⊖ sum ops lost p
   low_value under =
-      dot-is 𝓡 (cheb ops x) (lowered ops p c) (λ i. coeff i ⊖ coeff (p + (p - i))) p (omega (arith, length-lowered ops p c under)) (getD-lowered 𝓡 p c under)
-      ∙ sum-ext ops (λ i. (coeff i ⊖ coeff (p + (p - i))) ⊗ T i) (λ i. term i ⊖ lost i) p
+      dot_is 𝓡 (cheb ops x) (lowered ops p c) (λ i. coeff i ⊖ coeff (p + (p - i))) p (omega (arith, length_lowered ops p c under)) (get_d_lowered 𝓡 p c under)
+      ∙ sum_ext ops (λ i. (coeff i ⊖ coeff (p + (p - i))) ⊗ T i) (λ i. term i ⊖ lost i) p
       (λ i h. ring 𝓡 (coeff i ∷ coeff (p + (p - i)) ∷ T i ∷ []) (λ a b t. (a :- b) :* t := a :* t :- b :* t) refl)
-      ∙ sum-sub 𝓡 term lost p
+      ∙ sum_sub 𝓡 term lost p
 
   high_value : length c ≤ p + suc p → dot ops (cheb ops x) (doubled ops (drop p c)) ≡ coeff p ⊕ sum ops gained p
   high_value half =
-      sym (dot-past 𝓡 (cheb ops x) (doubled ops (drop p c)) (suc p) (omega (arith, length-doubled ops (drop p c), length-drop p c)))
+      sym (dot_past 𝓡 (cheb ops x) (doubled ops (drop p c)) (suc p) (omega (arith, length_doubled ops (drop p c), length-drop p c)))
       ∙ sum_first 𝓡 (λ j. get_or (doubled ops (drop p c)) j 𝟘 ⊗ T j) p
       ∙ ap₂ ◌⊕◌
-      (ap₂ ◌⊗◌ (getD-doubled-zero 𝓡 (drop p c) ∙ get_or-drop p c 0 𝟘 ∙ ap coeff (add-zero p)) (cheb-zero ops x) ∙ 𝓡.mul-one (coeff p))
-      (sum-ext ops (λ j. get_or (doubled ops (drop p c)) (suc j) 𝟘 ⊗ T (suc j)) gained p
-      (λ j h. ap (◌⊗ T (suc j)) (getD-doubled-suc 𝓡 (drop p c) j ∙ ap (double ops) (get_or-drop p c (suc j) 𝟘))))
+      (ap₂ ◌⊗◌ (get_d_doubled_zero 𝓡 (drop p c) ∙ get_or-drop p c 0 𝟘 ∙ ap coeff (add-zero p)) (cheb_zero ops x) ∙ 𝓡.mul-one (coeff p))
+      (sum_ext ops (λ j. get_or (doubled ops (drop p c)) (suc j) 𝟘 ⊗ T (suc j)) gained p
+      (λ j h. ap (◌⊗ T (suc j)) (get_d_doubled_suc 𝓡 (drop p c) j ∙ ap (double ops) (get_or-drop p c (suc j) 𝟘))))
 
-  chebyshev-value : p ≤ length c → length c ≤ p + suc p
+  chebyshev_value : p ≤ length c → length c ≤ p + suc p
       → dot ops (cheb ops x) c ≡ dot ops (cheb ops x) (lowered ops p c) ⊕ T p ⊗ dot ops (cheb ops x) (doubled ops (drop p c))
-  chebyshev-value under half =
-      sym (dot-past 𝓡 (cheb ops x) c (p + suc p) half)
-      ∙ sum-split 𝓡 term p (suc p)
-      ∙ ap (sum ops term p ⊕◌) (sum_first 𝓡 (λ j. term (p + j)) p ∙ ap₂ ◌⊕◌ (ap term (add-zero p)) terms-cut)
+  chebyshev_value under half =
+      sym (dot_past 𝓡 (cheb ops x) c (p + suc p) half)
+      ∙ sum_split 𝓡 term p (suc p)
+      ∙ ap (sum ops term p ⊕◌) (sum_first 𝓡 (λ j. term (p + j)) p ∙ ap₂ ◌⊕◌ (ap term (add-zero p)) terms_cut)
       ∙ ring 𝓡 (sum ops term p ∷ coeff p ∷ T p ∷ sum ops gained p ∷ sum ops lost p ∷ [])
       (λ s a t g m. s :+ (a :* t :+ (t :* g :- m)) := s :- m :+ t :* (a :+ g)) refl
       ∙ sym (ap₂ (λ u v. u ⊕ T p ⊗ v) (low_value under) (high_value half))
 
   -- the value of c is that of low plus power p times that of high
-  pub cut-value : (basis : Basis) → p ≤ length c → length c ≤ p + suc p
+  pub cut_value : (basis : Basis) → p ≤ length c → length c ≤ p + suc p
       → value ops basis x c ≡ value ops basis x (take p (cut_at ops basis p c)) ⊕ power ops basis x p ⊗ value ops basis x (drop p (cut_at ops basis p c))
   unfolding cut_at
-  cut-value Monomial under half = monomial-value
-  cut-value Chebyshev under half = rw (cut_low ops p c under, cut_high ops p c under) (chebyshev-value under half)
+  cut_value Monomial under half = monomial_value
+  cut_value Chebyshev under half = rw (cut_low ops p c under, cut_high ops p c under) (chebyshev_value under half)
 
-pub cut-law : {A : Type 0} (𝓡 : Ring A) → CutLaw 𝓡
-cut-law 𝓡 x p c basis under half = cut-value 𝓡 x p c basis under half
+pub cut_law : {A : Type 0} (𝓡 : Ring A) → CutLaw 𝓡
+cut_law 𝓡 x p c basis under half = cut_value 𝓡 x p c basis under half

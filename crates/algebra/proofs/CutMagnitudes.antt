@@ -8,43 +8,43 @@ use lib.IntN.{ℤ}
 use lib.ListN.{length, take, drop}
 use lib.Seq.{drop-drop}
 use Rattle.algebra.specs.Cut.{differences, doubled, lowered, cut_at}
-use Rattle.algebra.specs.Magnitude.{sumAbs}
-use Rattle.algebra.specs.Operations.{wholeOps}
+use Rattle.algebra.specs.Magnitude.{sum_abs}
+use Rattle.algebra.specs.Operations.{whole_ops}
 use Rattle.algebra.specs.declared.Basis.{Basis}
 use Rattle.algebra.specs.declared.Basis.TheVariants.{Monomial, Chebyshev}
 use Rattle.algebra.proofs.CutPlaces.{cut_low, cut_high}
-use Rattle.algebra.proofs.Magnitudes.{abs-sub, sumAbs-reverse, sumAbs-double, sumAbs-parts, sumAbs-take, sumAbs-drop}
+use Rattle.algebra.proofs.Magnitudes.{abs_sub, sum_abs_reverse, sum_abs_double, sum_abs_parts, sum_abs_take, sum_abs_drop}
 
-sumAbs-differences : (xs ys : List ℤ) → sumAbs (differences wholeOps xs ys) ≤ sumAbs xs + sumAbs ys
-unfolding sumAbs differences
-sumAbs-differences [] ys = omega arith
-sumAbs-differences (x ∷ xs) [] = omega arith
-sumAbs-differences (x ∷ xs) (y ∷ ys) = omega (arith, sumAbs-differences xs ys, abs-sub x y)
+sum_abs_differences : (xs ys : List ℤ) → sum_abs (differences whole_ops xs ys) ≤ sum_abs xs + sum_abs ys
+unfolding sum_abs differences
+sum_abs_differences [] ys = omega arith
+sum_abs_differences (x ∷ xs) [] = omega arith
+sum_abs_differences (x ∷ xs) (y ∷ ys) = omega (arith, sum_abs_differences xs ys, abs_sub x y)
 
-sumAbs-doubled : (xs : List ℤ) → sumAbs (doubled wholeOps xs) ≤ 2 * sumAbs xs
-unfolding sumAbs doubled
-sumAbs-doubled [] = omega arith
-sumAbs-doubled (x ∷ xs) = omega (arith, sumAbs-double xs)
+sum_abs_doubled : (xs : List ℤ) → sum_abs (doubled whole_ops xs) ≤ 2 * sum_abs xs
+unfolding sum_abs doubled
+sum_abs_doubled [] = omega arith
+sum_abs_doubled (x ∷ xs) = omega (arith, sum_abs_double xs)
 
-sumAbs-tail : (p : ℕ) (c : List ℤ) → sumAbs (drop (suc p) c) ≤ sumAbs (drop p c)
-sumAbs-tail p c = rw (drop-drop, add-one) at (sumAbs-drop 1 (drop p c))
+sum_abs_tail : (p : ℕ) (c : List ℤ) → sum_abs (drop (suc p) c) ≤ sum_abs (drop p c)
+sum_abs_tail p c = rw (drop-drop, add-one) at (sum_abs_drop 1 (drop p c))
 
-sumAbs-lowered : (p : ℕ) (c : List ℤ) → sumAbs (lowered wholeOps p c) ≤ sumAbs c
+sum_abs_lowered : (p : ℕ) (c : List ℤ) → sum_abs (lowered whole_ops p c) ≤ sum_abs c
 unfolding lowered
-sumAbs-lowered p c =
+sum_abs_lowered p c =
     let near = reverse (take p c) in
     let far = drop (suc p) c in
-    omega (arith, sumAbs-reverse (differences wholeOps near far), sumAbs-differences near far, sumAbs-reverse (take p c), sumAbs-tail p c, sumAbs-parts p c)
+    omega (arith, sum_abs_reverse (differences whole_ops near far), sum_abs_differences near far, sum_abs_reverse (take p c), sum_abs_tail p c, sum_abs_parts p c)
 
 module _ (p : ℕ) (c : List ℤ) (under : p ≤ length c) where
   -- low has no more than the whole
-  pub low-magnitude : (basis : Basis) → sumAbs (take p (cut_at wholeOps basis p c)) ≤ sumAbs c
+  pub low_magnitude : (basis : Basis) → sum_abs (take p (cut_at whole_ops basis p c)) ≤ sum_abs c
   unfolding cut_at
-  low-magnitude Monomial = sumAbs-take p c
-  low-magnitude Chebyshev = rw (cut_low wholeOps p c under) (sumAbs-lowered p c)
+  low_magnitude Monomial = sum_abs_take p c
+  low_magnitude Chebyshev = rw (cut_low whole_ops p c under) (sum_abs_lowered p c)
 
   -- high has no more than twice it
-  pub high-magnitude : (basis : Basis) → sumAbs (drop p (cut_at wholeOps basis p c)) ≤ 2 * sumAbs c
+  pub high_magnitude : (basis : Basis) → sum_abs (drop p (cut_at whole_ops basis p c)) ≤ 2 * sum_abs c
   unfolding cut_at
-  high-magnitude Monomial = omega (arith, sumAbs-drop p c)
-  high-magnitude Chebyshev = rw (cut_high wholeOps p c under) (omega (arith, sumAbs-doubled (drop p c), sumAbs-drop p c))
+  high_magnitude Monomial = omega (arith, sum_abs_drop p c)
+  high_magnitude Chebyshev = rw (cut_high whole_ops p c under) (omega (arith, sum_abs_doubled (drop p c), sum_abs_drop p c))

@@ -6,19 +6,19 @@ use Rattle.algebra.specs.Each.{Each}
 
 module _ {A : Type 0} (P : A → Type 0) where
   -- what every element has
-  pub each-any : ((a : A) → P a) → (c : List A) → Each P c
-  each-any any [] = tt
-  each-any any (a ∷ c) = (any a, each-any any c)
+  pub each_any : ((a : A) → P a) → (c : List A) → Each P c
+  each_any any [] = tt
+  each_any any (a ∷ c) = (any a, each_any any c)
 
   pub each_take : (p : ℕ) (c : List A) → Each P c → Each P (take p c)
   each_take zero c h = tt
   each_take (suc p) [] h = tt
   each_take (suc p) (a ∷ c) h = (h.0, each_take p c h.1)
 
-  pub each-drop : (p : ℕ) (c : List A) → Each P c → Each P (drop p c)
-  each-drop zero c h = h
-  each-drop (suc p) [] h = tt
-  each-drop (suc p) (a ∷ c) h = each-drop p c h.1
+  pub each_drop : (p : ℕ) (c : List A) → Each P c → Each P (drop p c)
+  each_drop zero c h = h
+  each_drop (suc p) [] h = tt
+  each_drop (suc p) (a ∷ c) h = each_drop p c h.1
 
   pub each_append : (c d : List A) → Each P c → Each P d → Each P (c ++ d)
   each_append [] d g h = h
@@ -33,9 +33,9 @@ module _ {A : Type 0} (P : A → Type 0) where
   each_right [] d h = h
   each_right (a ∷ c) d h = each_right c d h.1
 
-  pub each-reverse : (c : List A) → Each P c → Each P (reverse c)
-  each-reverse [] h = tt
-  each-reverse (a ∷ c) h = rw (reverse-cons a) (each_append (reverse c) (a ∷ []) (each-reverse c h.1) (h.0, tt))
+  pub each_reverse : (c : List A) → Each P c → Each P (reverse c)
+  each_reverse [] h = tt
+  each_reverse (a ∷ c) h = rw (reverse-cons a) (each_append (reverse c) (a ∷ []) (each_reverse c h.1) (h.0, tt))
 
-  pub each-reversed : (c : List A) → Each P (reverse c) → Each P c
-  each-reversed c h = rw (reverse-reverse c) at (each-reverse (reverse c) h)
+  pub each_reversed : (c : List A) → Each P (reverse c) → Each P c
+  each_reversed c h = rw (reverse-reverse c) at (each_reverse (reverse c) h)

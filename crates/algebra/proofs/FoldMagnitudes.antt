@@ -6,56 +6,56 @@ use native.Mathlib.Nat.{mul-le-mul_left}
 use native.Mathlib.Omega.{arith}
 use lib.IntN.{ℤ, pos, nat_abs, ◌+ℤ◌, ◌*ℤ◌}
 use lib.ListN.{get_or, drop}
-use Rattle.algebra.specs.Fold.{everySecond, coeffR, addR, sumRFrom, fold}
-use Rattle.algebra.specs.Magnitude.{sumAbs}
-use Rattle.algebra.specs.Operations.{wholeOps}
+use Rattle.algebra.specs.Fold.{every_second, coeff_r, add_r, sum_rFrom, fold}
+use Rattle.algebra.specs.Magnitude.{sum_abs}
+use Rattle.algebra.specs.Operations.{whole_ops}
 use Rattle.algebra.specs.declared.Basis.{Basis}
 use Rattle.algebra.specs.declared.Basis.TheVariants.{Monomial, Chebyshev}
 use Rattle.algebra.specs.declared.Parity.{Parity}
 use Rattle.algebra.specs.declared.Parity.TheVariants.{Full, Even, Odd}
 use Rattle.algebra.proofs.Integers.{integers}
-use Rattle.algebra.proofs.Magnitudes.{abs_neg, abs-add, abs-mul, abs-double, abs-getD, sumAbs-drop}
-use Rattle.algebra.proofs.OddCoefficients.{coeff-zero, coeff-one, coeff-later}
+use Rattle.algebra.proofs.Magnitudes.{abs_neg, abs_add, abs_mul, abs_double, abs_get_d, sum_abs_drop}
+use Rattle.algebra.proofs.OddCoefficients.{coeff_zero, coeff_one, coeff_later}
 
-abs-coeffR-zero : (k : ℕ) → nat_abs (coeffR wholeOps k 0) ≡ 1
-unfolding coeffR
-abs-coeffR-zero zero = refl
-abs-coeffR-zero (suc k) = ap nat_abs (coeff-zero integers k) ∙ abs_neg (coeffR wholeOps k 0) ∙ abs-coeffR-zero k
+abs_coeff_r_zero : (k : ℕ) → nat_abs (coeff_r whole_ops k 0) ≡ 1
+unfolding coeff_r
+abs_coeff_r_zero zero = refl
+abs_coeff_r_zero (suc k) = ap nat_abs (coeff_zero integers k) ∙ abs_neg (coeff_r whole_ops k 0) ∙ abs_coeff_r_zero k
 
 -- the coefficients of R_k are at most 2
-pub abs-coeffR : (k i : ℕ) → nat_abs (coeffR wholeOps k i) ≤ 2
-unfolding coeffR
-abs-coeffR k zero = omega (arith, abs-coeffR-zero k)
-abs-coeffR zero (suc i) = omega arith
-abs-coeffR (suc k) (suc zero) = omega (arith, ap nat_abs (coeff-one integers k), abs-double (coeffR wholeOps k 0), abs-coeffR-zero k)
-abs-coeffR (suc k) (suc (suc i)) = rw (coeff-later integers k i) (abs-coeffR k (suc i))
+pub abs_coeff_r : (k i : ℕ) → nat_abs (coeff_r whole_ops k i) ≤ 2
+unfolding coeff_r
+abs_coeff_r k zero = omega (arith, abs_coeff_r_zero k)
+abs_coeff_r zero (suc i) = omega arith
+abs_coeff_r (suc k) (suc zero) = omega (arith, ap nat_abs (coeff_one integers k), abs_double (coeff_r whole_ops k 0), abs_coeff_r_zero k)
+abs_coeff_r (suc k) (suc (suc i)) = rw (coeff_later integers k i) (abs_coeff_r k (suc i))
 
 -- acc + o_0·R_k[i] + o_1·R_(k+1)[i] + .., and so every sum on the way to it
-pub abs-addR : (i k : ℕ) (acc : ℤ) (os : List ℤ) → nat_abs (addR wholeOps i k acc os) ≤ nat_abs acc + 2 * sumAbs os
-unfolding addR sumAbs
-abs-addR i k acc [] = omega arith
-abs-addR i k acc (o ∷ os) =
-    let r = coeffR wholeOps k i in
-    let small : nat_abs o * nat_abs r ≤ nat_abs o * 2 = mul-le-mul_left (nat_abs o) (abs-coeffR k i) in
-    omega (arith, abs-addR i (suc k) (acc +ℤ o *ℤ r) os, abs-add acc (o *ℤ r), abs-mul o r, small)
+pub abs_add_r : (i k : ℕ) (acc : ℤ) (os : List ℤ) → nat_abs (add_r whole_ops i k acc os) ≤ nat_abs acc + 2 * sum_abs os
+unfolding add_r sum_abs
+abs_add_r i k acc [] = omega arith
+abs_add_r i k acc (o ∷ os) =
+    let r = coeff_r whole_ops k i in
+    let small : nat_abs o * nat_abs r ≤ nat_abs o * 2 = mul-le-mul_left (nat_abs o) (abs_coeff_r k i) in
+    omega (arith, abs_add_r i (suc k) (acc +ℤ o *ℤ r) os, abs_add acc (o *ℤ r), abs_mul o r, small)
 
 -- every second coefficient
-pub sumAbs-everySecond : (c : List ℤ) → sumAbs (everySecond c) ≤ sumAbs c
-unfolding everySecond sumAbs
-sumAbs-everySecond [] = omega arith
-sumAbs-everySecond (a ∷ []) = omega arith
-sumAbs-everySecond (a ∷ b ∷ c) = omega (arith, sumAbs-everySecond c)
+pub sum_abs_every_second : (c : List ℤ) → sum_abs (every_second c) ≤ sum_abs c
+unfolding every_second sum_abs
+sum_abs_every_second [] = omega arith
+sum_abs_every_second (a ∷ []) = omega arith
+sum_abs_every_second (a ∷ b ∷ c) = omega (arith, sum_abs_every_second c)
 
-abs-sumRFrom : (m : ℕ) (o : List ℤ) (i : ℕ) → nat_abs (get_or (sumRFrom wholeOps m o) i (pos 0)) ≤ 2 * sumAbs o
-unfolding sumRFrom sumAbs
-abs-sumRFrom m [] i = omega arith
-abs-sumRFrom m (o ∷ os) zero = omega (arith, abs-addR m m (pos 0) (o ∷ os))
-abs-sumRFrom m (o ∷ os) (suc i) = omega (arith, abs-sumRFrom (suc m) os i)
+abs_sum_rFrom : (m : ℕ) (o : List ℤ) (i : ℕ) → nat_abs (get_or (sum_rFrom whole_ops m o) i (pos 0)) ≤ 2 * sum_abs o
+unfolding sum_rFrom sum_abs
+abs_sum_rFrom m [] i = omega arith
+abs_sum_rFrom m (o ∷ os) zero = omega (arith, abs_add_r m m (pos 0) (o ∷ os))
+abs_sum_rFrom m (o ∷ os) (suc i) = omega (arith, abs_sum_rFrom (suc m) os i)
 
 -- each coefficient of a fold
-pub fold-magnitude : (parity : Parity) (basis : Basis) (c : List ℤ) (i : ℕ) → nat_abs (get_or (fold wholeOps parity basis c) i (pos 0)) ≤ 2 * sumAbs c
+pub fold_magnitude : (parity : Parity) (basis : Basis) (c : List ℤ) (i : ℕ) → nat_abs (get_or (fold whole_ops parity basis c) i (pos 0)) ≤ 2 * sum_abs c
 unfolding fold
-fold-magnitude Full basis c i = omega (arith, abs-getD c i)
-fold-magnitude Even basis c i = omega (arith, abs-getD (everySecond c) i, sumAbs-everySecond c)
-fold-magnitude Odd Monomial c i = omega (arith, abs-getD (everySecond (drop 1 c)) i, sumAbs-everySecond (drop 1 c), sumAbs-drop 1 c)
-fold-magnitude Odd Chebyshev c i = omega (arith, abs-sumRFrom 0 (everySecond (drop 1 c)) i, sumAbs-everySecond (drop 1 c), sumAbs-drop 1 c)
+fold_magnitude Full basis c i = omega (arith, abs_get_d c i)
+fold_magnitude Even basis c i = omega (arith, abs_get_d (every_second c) i, sum_abs_every_second c)
+fold_magnitude Odd Monomial c i = omega (arith, abs_get_d (every_second (drop 1 c)) i, sum_abs_every_second (drop 1 c), sum_abs_drop 1 c)
+fold_magnitude Odd Chebyshev c i = omega (arith, abs_sum_rFrom 0 (every_second (drop 1 c)) i, sum_abs_every_second (drop 1 c), sum_abs_drop 1 c)

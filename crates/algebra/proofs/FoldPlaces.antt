@@ -5,7 +5,7 @@ use Prim.Native.Nat.{ℕ, zero, suc, ◌+◌, ◌*◌, ◌/◌, ◌<◌}
 use native.Mathlib.Nat.{add-zero}
 use native.Mathlib.Omega.{arith}
 use lib.ListN.{length, get_or, drop}
-use Rattle.algebra.specs.Fold.{everySecond, foldedLength, addR, sumRFrom, fold}
+use Rattle.algebra.specs.Fold.{every_second, folded_length, add_r, sum_rFrom, fold}
 use Rattle.algebra.specs.Operations.{Operations}
 use Rattle.algebra.specs.declared.Basis.{Basis}
 use Rattle.algebra.specs.declared.Basis.TheVariants.{Monomial, Chebyshev}
@@ -13,46 +13,46 @@ use Rattle.algebra.specs.declared.Parity.{Parity}
 use Rattle.algebra.specs.declared.Parity.TheVariants.{Full, Even, Odd}
 
 -- every second element: half of them, rounded up
-pub length-everySecond : {A : Type 0} (c : List A) → length (everySecond c) ≡ (length c + 1) / 2
-unfolding everySecond
-length-everySecond [] = refl
-length-everySecond (a ∷ []) = refl
-length-everySecond (a ∷ b ∷ c) = omega (arith, length-everySecond c)
+pub length_every_second : {A : Type 0} (c : List A) → length (every_second c) ≡ (length c + 1) / 2
+unfolding every_second
+length_every_second [] = refl
+length_every_second (a ∷ []) = refl
+length_every_second (a ∷ b ∷ c) = omega (arith, length_every_second c)
 
 -- place i is place 2i of the whole
-pub getD-everySecond : {A : Type 0} (c : List A) (i : ℕ) (d : A) → get_or (everySecond c) i d ≡ get_or c (2 * i) d
-unfolding everySecond
-getD-everySecond [] i d = refl
-getD-everySecond (a ∷ []) zero d = refl
-getD-everySecond (a ∷ []) (suc i) d = let e : 2 * suc i ≡ suc (2 * i + 1) = omega arith in rw e
-getD-everySecond (a ∷ b ∷ c) zero d = refl
-getD-everySecond (a ∷ b ∷ c) (suc i) d = let e : 2 * suc i ≡ suc (suc (2 * i)) = omega arith in rw e (getD-everySecond c i d)
+pub get_d_every_second : {A : Type 0} (c : List A) (i : ℕ) (d : A) → get_or (every_second c) i d ≡ get_or c (2 * i) d
+unfolding every_second
+get_d_every_second [] i d = refl
+get_d_every_second (a ∷ []) zero d = refl
+get_d_every_second (a ∷ []) (suc i) d = let e : 2 * suc i ≡ suc (2 * i + 1) = omega arith in rw e
+get_d_every_second (a ∷ b ∷ c) zero d = refl
+get_d_every_second (a ∷ b ∷ c) (suc i) d = let e : 2 * suc i ≡ suc (suc (2 * i)) = omega arith in rw e (get_d_every_second c i d)
 
 module _ {A : Type 0} (𝓞 : Operations A) where
   -- Σ o_k·R_k has as many coefficients as o
-  pub length-sumRFrom : (i : ℕ) (o : List A) → length (sumRFrom 𝓞 i o) ≡ length o
-  unfolding sumRFrom
-  length-sumRFrom i [] = refl
-  length-sumRFrom i (o ∷ os) = ap suc (length-sumRFrom (suc i) os)
+  pub length_sum_rFrom : (i : ℕ) (o : List A) → length (sum_rFrom 𝓞 i o) ≡ length o
+  unfolding sum_rFrom
+  length_sum_rFrom i [] = refl
+  length_sum_rFrom i (o ∷ os) = ap suc (length_sum_rFrom (suc i) os)
 
-  length-odd : (c : List A) → length (everySecond (drop 1 c)) ≡ length c / 2
-  unfolding everySecond
-  length-odd [] = refl
-  length-odd (a ∷ c) = omega (arith, length-everySecond c)
+  length_odd : (c : List A) → length (every_second (drop 1 c)) ≡ length c / 2
+  unfolding every_second
+  length_odd [] = refl
+  length_odd (a ∷ c) = omega (arith, length_every_second c)
 
   -- a fold's length
-  pub fold-length : (parity : Parity) (basis : Basis) (c : List A) → length (fold 𝓞 parity basis c) ≡ foldedLength parity (length c)
-  unfolding fold foldedLength
-  fold-length Full basis c = refl
-  fold-length Even basis c = length-everySecond c
-  fold-length Odd Monomial c = length-odd c
-  fold-length Odd Chebyshev c = length-sumRFrom 0 (everySecond (drop 1 c)) ∙ length-odd c
+  pub fold_length : (parity : Parity) (basis : Basis) (c : List A) → length (fold 𝓞 parity basis c) ≡ folded_length parity (length c)
+  unfolding fold folded_length
+  fold_length Full basis c = refl
+  fold_length Even basis c = length_every_second c
+  fold_length Odd Monomial c = length_odd c
+  fold_length Odd Chebyshev c = length_sum_rFrom 0 (every_second (drop 1 c)) ∙ length_odd c
 
   -- place i of Σ o_k·R_k is summed from k = i on
-  pub getD-sumRFrom : (m : ℕ) (o : List A) (i : ℕ) (d : A) → i < length o → get_or (sumRFrom 𝓞 m o) i d ≡ addR 𝓞 (m + i) (m + i) 𝓞.zero (drop i o)
-  unfolding sumRFrom
-  getD-sumRFrom m [] i d h = absurd (omega arith)
-  getD-sumRFrom m (o ∷ os) zero d h = rw add-zero
-  getD-sumRFrom m (o ∷ os) (suc i) d h =
+  pub get_d_sum_rFrom : (m : ℕ) (o : List A) (i : ℕ) (d : A) → i < length o → get_or (sum_rFrom 𝓞 m o) i d ≡ add_r 𝓞 (m + i) (m + i) 𝓞.zero (drop i o)
+  unfolding sum_rFrom
+  get_d_sum_rFrom m [] i d h = absurd (omega arith)
+  get_d_sum_rFrom m (o ∷ os) zero d h = rw add-zero
+  get_d_sum_rFrom m (o ∷ os) (suc i) d h =
       let e : suc m + i ≡ m + suc i = omega arith in
-      getD-sumRFrom (suc m) os i d (omega arith) ∙ ap (λ n. addR 𝓞 n n 𝓞.zero (drop i os)) e
+      get_d_sum_rFrom (suc m) os i d (omega arith) ∙ ap (λ n. add_r 𝓞 n n 𝓞.zero (drop i os)) e

@@ -3,7 +3,7 @@ use mathlib.Core.Path.{◌≡◌, refl, sym, ◌∙◌, ap}
 use Prim.Native.Nat.{zero, suc}
 use lib.IntN.{ℤ, pos, negsuc, suc_ℤ, pred_ℤ, neg_ℤ, one, ◌+ℤ◌, ◌*ℤ◌, suc_ℤ-*ℤ, pred_ℤ-*ℤ, zero-*ℤ, *ℤ_comm, *ℤ-one}
 use lib.IntN.{+ℤ_assoc, +ℤ_comm, +ℤ_idl, +ℤ_idr, +ℤ_invl, +ℤ_invr, suc_ℤ-+ℤ, pred_ℤ-+ℤ}
-use Rattle.algebra.specs.Operations.{wholeOps}
+use Rattle.algebra.specs.Operations.{whole_ops}
 use Rattle.algebra.specs.Ring.{Ring}
 
 -- what holds at 0, and goes one up and one down, holds at every whole number
@@ -49,12 +49,12 @@ unfolding one
 -- the ring of the whole numbers
 abbrev pub integers : Ring ℤ
 integers = record {
-  ops = wholeOps;
+  ops = whole_ops;
   add_assoc = +ℤ_assoc;
   add_comm = +ℤ_comm;
   add-zero = +ℤ_idr;
-  add-neg = +ℤ_invr;
-  sub-neg = λ a b. refl;
+  add_neg = +ℤ_invr;
+  sub_neg = λ a b. refl;
   mul_assoc = *ℤ-assoc;
   mul_comm = *ℤ_comm;
   mul-one = *ℤ-idr;

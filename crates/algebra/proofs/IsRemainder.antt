@@ -10,7 +10,7 @@ use lib.IntN.{ℤ, pos, negsuc, neg_ℤ, ◌+ℤ◌, ◌*ℤ◌, pos-+ℤ-pos, p
 use Rattle.algebra.specs.IsRemainder.{IsRemainder, RemaindersTold}
 use Rattle.algebra.specs.Remainder.{rem}
 use Rattle.algebra.proofs.Integers.{integers}
-use Rattle.algebra.proofs.Remainders.{rem_lt, rem-add, rem-mul}
+use Rattle.algebra.proofs.Remainders.{rem_lt, rem_add, rem_mul}
 use Rattle.algebra.proofs.Solve.{from, ◌:+◌, :-◌, ◌:=◌, num}
 
 -- where a + b = s, -a is -s + b
@@ -19,14 +19,14 @@ less a b s is =
     from integers (pos a ∷ pos b ∷ pos s ∷ []) (λ a b s. :- a := :- s :+ b) (λ a b s. (num 1, s := a :+ b) ∷ [])
     refl (ap pos (sym is) ∙ sym (pos-+ℤ-pos a b), tt)
 
-is-remainder : (m : ℕ) → 0 < m → (z : ℤ) → IsRemainder m z (rem m z)
+is_remainder : (m : ℕ) → 0 < m → (z : ℤ) → IsRemainder m z (rem m z)
 unfolding rem
-is-remainder m positive (pos n) = record {
+is_remainder m positive (pos n) = record {
   below = rem_lt m positive (pos n);
   quotient = pos (n / m);
   whole = sym (ap (◌+ℤ pos (n % m)) (pos-*ℤ-pos (n / m) m) ∙ pos-+ℤ-pos (n / m * m) (n % m) ∙ ap pos (N.add_comm (n / m * m) (n % m) ∙ mod-add-div' n m));
 }
-is-remainder m positive (negsuc n) = record {
+is_remainder m positive (negsuc n) = record {
   below = rem_lt m positive (negsuc n);
   quotient = negsuc (n / m);
   whole = less (suc n) (m - suc (n % m)) (suc (n / m) * m) sum ∙ ap (◌+ℤ pos (m - suc (n % m))) (sym (negsuc-*ℤ-pos (n / m) m));
@@ -36,20 +36,20 @@ is-remainder m positive (negsuc n) = record {
     sum = omega (arith, mod-lt n positive, mod-add-div' n m)
 
 -- a multiple of m has the remainder 0
-rem-multiple : (m : ℕ) → 0 < m → (q : ℤ) → rem m (q *ℤ pos m) ≡ 0
+rem_multiple : (m : ℕ) → 0 < m → (q : ℤ) → rem m (q *ℤ pos m) ≡ 0
 unfolding rem
-rem-multiple m positive q =
-    rem-mul m positive q (pos m) ∙ ap (λ r. (rem m q * r) % m) (mod_self m) ∙ ap (◌% m) (N.mul-zero (rem m q)) ∙ zero-mod m
+rem_multiple m positive q =
+    rem_mul m positive q (pos m) ∙ ap (λ r. (rem m q * r) % m) (mod_self m) ∙ ap (◌% m) (N.mul_zero (rem m q)) ∙ zero-mod m
 
-only-remainder : (m : ℕ) → 0 < m → (z : ℤ) (r : ℕ) → IsRemainder m z r → r ≡ rem m z
+only_remainder : (m : ℕ) → 0 < m → (z : ℤ) (r : ℕ) → IsRemainder m z r → r ≡ rem m z
 unfolding rem
-only-remainder m positive z r is =
+only_remainder m positive z r is =
     sym (ap (rem m) is.whole
-    ∙ rem-add m positive (is.quotient *ℤ pos m) (pos r)
-    ∙ ap (λ k. (k + r % m) % m) (rem-multiple m positive is.quotient)
+    ∙ rem_add m positive (is.quotient *ℤ pos m) (pos r)
+    ∙ ap (λ k. (k + r % m) % m) (rem_multiple m positive is.quotient)
     ∙ ap (λ k. (0 + k) % m) (mod-eq_of_lt is.below)
     ∙ ap (◌% m) (N.zero-add r)
     ∙ mod-eq_of_lt is.below)
 
-pub remainders-told : RemaindersTold
-remainders-told m positive z = record { is = is-remainder m positive z; only = only-remainder m positive z }
+pub remainders_told : RemaindersTold
+remainders_told m positive z = record { is = is_remainder m positive z; only = only_remainder m positive z }

@@ -18,15 +18,15 @@ module _ {A : Type 0} where
       rw reverse-cons (get_or-append (reverse xs) (x ∷ []) d k l ∙ get_d_reverse xs m k d (omega arith))
 
   -- a place beyond the first of two lists
-  pub getD-right : (xs ys : List A) (n i : ℕ) (d : A) → i ≡ length xs + n → get_or (xs ++ ys) i d ≡ get_or ys n d
-  getD-right xs ys n i d e = ap (λ (j : ℕ). get_or (xs ++ ys) j d) e ∙ get_or-append-add xs ys n d
+  pub get_d_right : (xs ys : List A) (n i : ℕ) (d : A) → i ≡ length xs + n → get_or (xs ++ ys) i d ≡ get_or ys n d
+  get_d_right xs ys n i d e = ap (λ (j : ℕ). get_or (xs ++ ys) j d) e ∙ get_or-append-add xs ys n d
 
   -- a place beyond those taken
-  pub getD-take-past : (n : ℕ) (xs : List A) (j : ℕ) (d : A) → n ≤ j → get_or (take n xs) j d ≡ d
-  getD-take-past n xs j d h = get_or-eq_default (take n xs) d (omega (arith, length-take n xs))
+  pub get_d_take_past : (n : ℕ) (xs : List A) (j : ℕ) (d : A) → n ≤ j → get_or (take n xs) j d ≡ d
+  get_d_take_past n xs j d h = get_or-eq_default (take n xs) d (omega (arith, length-take n xs))
 
   -- the first n of equal elements
-  pub take-replicate : (a : A) (n k : ℕ) → n ≤ k → take n (replicate k a) ≡ replicate n a
-  take-replicate a zero k h = refl
-  take-replicate a (suc n) zero h = absurd (omega arith)
-  take-replicate a (suc n) (suc k) h = ap (a ∷◌) (take-replicate a n k (omega arith))
+  pub take_replicate : (a : A) (n k : ℕ) → n ≤ k → take n (replicate k a) ≡ replicate n a
+  take_replicate a zero k h = refl
+  take_replicate a (suc n) zero h = absurd (omega arith)
+  take_replicate a (suc n) (suc k) h = ap (a ∷◌) (take_replicate a n k (omega arith))

@@ -4,35 +4,35 @@ use mathlib.Core.List.{List, [], ◌∷◌, ◌++◌, map, map-append, reverse, 
 use Prim.Native.Nat.{ℕ, zero, suc}
 use lib.ListN.{take, drop, set}
 use lib.Seq.{sets}
-use Rattle.algebra.specs.Fold.{everySecond}
+use Rattle.algebra.specs.Fold.{every_second}
 
 module _ {A B : Type 0} (f : A → B) where
-  pub map-take : (n : ℕ) (c : List A) → take n (map f c) ≡ map f (take n c)
-  map-take zero c = refl
-  map-take (suc n) [] = refl
-  map-take (suc n) (a ∷ c) = ap (f a ∷◌) (map-take n c)
+  pub map_take : (n : ℕ) (c : List A) → take n (map f c) ≡ map f (take n c)
+  map_take zero c = refl
+  map_take (suc n) [] = refl
+  map_take (suc n) (a ∷ c) = ap (f a ∷◌) (map_take n c)
 
-  pub map-drop : (n : ℕ) (c : List A) → drop n (map f c) ≡ map f (drop n c)
-  map-drop zero c = refl
-  map-drop (suc n) [] = refl
-  map-drop (suc n) (a ∷ c) = map-drop n c
+  pub map_drop : (n : ℕ) (c : List A) → drop n (map f c) ≡ map f (drop n c)
+  map_drop zero c = refl
+  map_drop (suc n) [] = refl
+  map_drop (suc n) (a ∷ c) = map_drop n c
 
-  pub map-reverse : (c : List A) → reverse (map f c) ≡ map f (reverse c)
-  map-reverse [] = refl
-  map-reverse (a ∷ c) =
-      rw (reverse-cons (f a), reverse-cons a) (ap (◌++ (f a ∷ [])) (map-reverse c) ∙ sym (map-append f (reverse c) (a ∷ [])))
+  pub map_reverse : (c : List A) → reverse (map f c) ≡ map f (reverse c)
+  map_reverse [] = refl
+  map_reverse (a ∷ c) =
+      rw (reverse-cons (f a), reverse-cons a) (ap (◌++ (f a ∷ [])) (map_reverse c) ∙ sym (map-append f (reverse c) (a ∷ [])))
 
-  pub map-everySecond : (c : List A) → everySecond (map f c) ≡ map f (everySecond c)
-  unfolding everySecond
-  map-everySecond [] = refl
-  map-everySecond (a ∷ []) = refl
-  map-everySecond (a ∷ b ∷ c) = ap (f a ∷◌) (map-everySecond c)
+  pub map_every_second : (c : List A) → every_second (map f c) ≡ map f (every_second c)
+  unfolding every_second
+  map_every_second [] = refl
+  map_every_second (a ∷ []) = refl
+  map_every_second (a ∷ b ∷ c) = ap (f a ∷◌) (map_every_second c)
 
-  pub map-set : (c : List A) (i : ℕ) (v : A) → set (map f c) i (f v) ≡ map f (set c i v)
-  map-set [] i v = refl
-  map-set (a ∷ c) zero v = refl
-  map-set (a ∷ c) (suc i) v = ap (f a ∷◌) (map-set c i v)
+  pub map_set : (c : List A) (i : ℕ) (v : A) → set (map f c) i (f v) ≡ map f (set c i v)
+  map_set [] i v = refl
+  map_set (a ∷ c) zero v = refl
+  map_set (a ∷ c) (suc i) v = ap (f a ∷◌) (map_set c i v)
 
-  pub map-sets : (vs c : List A) (i : ℕ) → sets (map f c) i (map f vs) ≡ map f (sets c i vs)
-  map-sets [] c i = refl
-  map-sets (v ∷ vs) c i = ap (λ (l : List B). sets l (suc i) (map f vs)) (map-set c i v) ∙ map-sets vs (set c i v) (suc i)
+  pub map_sets : (vs c : List A) (i : ℕ) → sets (map f c) i (map f vs) ≡ map f (sets c i vs)
+  map_sets [] c i = refl
+  map_sets (v ∷ vs) c i = ap (λ (l : List B). sets l (suc i) (map f vs)) (map_set c i v) ∙ map_sets vs (set c i v) (suc i)

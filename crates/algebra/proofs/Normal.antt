@@ -38,14 +38,14 @@ shortest (constant a) (horner p q) = horner (constant a) (horner p q)
 shortest (horner r s) q = horner (horner r s) q
 
 -- c + p
-abbrev pub addNumber : ℤ → Normal → Normal
-addNumber c (constant a) = constant (c +ℤ a)
-addNumber c (horner p q) = horner (addNumber c p) q
+abbrev pub add_number : ℤ → Normal → Normal
+add_number c (constant a) = constant (c +ℤ a)
+add_number c (horner p q) = horner (add_number c p) q
 
 -- p + q
 abbrev pub plus : Normal → Normal → Normal
-plus (constant a) r = addNumber a r
-plus (horner p q) (constant b) = horner (addNumber b p) q
+plus (constant a) r = add_number a r
+plus (horner p q) (constant b) = horner (add_number b p) q
 plus (horner p q) (horner r s) = shortest (plus p r) (plus q s)
 
 -- f at each coefficient of a power of the first variable
@@ -80,7 +80,7 @@ normal (:- a) = scale (negsuc 0) (normal a)
 -- ---- the values, in a ring
 
 module _ {A : Type 0} (𝓡 : Ring A) where
-  open 𝓡 use {ops, add_assoc, add_comm, add-zero, sub-neg, mul_assoc, mul-one, distrib}
+  open 𝓡 use {ops, add_assoc, add_comm, add-zero, sub_neg, mul_assoc, mul-one, distrib}
   open ops use {zero as 𝟘, one as 𝟙, add as ◌⊕◌, sub as ◌⊖◌, mul as ◌⊗◌, neg as ⊝◌}
 
   infixl 6 ◌⊕◌
@@ -109,138 +109,138 @@ module _ {A : Type 0} (𝓡 : Ring A) where
   tail (x ∷ ρ) = ρ
 
   -- the value of variable i
-  abbrev pub valueVar : List A → ℕ → A
-  valueVar ρ zero = head ρ
-  valueVar ρ (suc i) = valueVar (tail ρ) i
+  abbrev pub value_var : List A → ℕ → A
+  value_var ρ zero = head ρ
+  value_var ρ (suc i) = value_var (tail ρ) i
 
   -- what an expression says
-  abbrev pub valueExp : List A → Exp → A
-  valueExp ρ (var i) = valueVar ρ i
-  valueExp ρ (num n) = natural n
-  valueExp ρ (a :+ b) = valueExp ρ a ⊕ valueExp ρ b
-  valueExp ρ (a :- b) = valueExp ρ a ⊖ valueExp ρ b
-  valueExp ρ (a :* b) = valueExp ρ a ⊗ valueExp ρ b
-  valueExp ρ (:- a) = ⊝ valueExp ρ a
+  abbrev pub value_exp : List A → Exp → A
+  value_exp ρ (var i) = value_var ρ i
+  value_exp ρ (num n) = natural n
+  value_exp ρ (a :+ b) = value_exp ρ a ⊕ value_exp ρ b
+  value_exp ρ (a :- b) = value_exp ρ a ⊖ value_exp ρ b
+  value_exp ρ (a :* b) = value_exp ρ a ⊗ value_exp ρ b
+  value_exp ρ (:- a) = ⊝ value_exp ρ a
 
   -- ---- the whole numbers go into the ring with their sums and products
 
-  whole-suc : (k : ℤ) → whole (suc_ℤ k) ≡ whole k ⊕ 𝟙
-  whole-suc (pos zero) = sym (R.zero-add 𝓡 𝟙)
-  whole-suc (pos (suc n)) = refl
-  whole-suc (negsuc zero) = sym (R.neg-add 𝓡 𝟙)
-  whole-suc (negsuc (suc n)) = sym (simp (R.neg_sum 𝓡, add_assoc, R.neg-add 𝓡, add-zero))
+  whole_suc : (k : ℤ) → whole (suc_ℤ k) ≡ whole k ⊕ 𝟙
+  whole_suc (pos zero) = sym (R.zero-add 𝓡 𝟙)
+  whole_suc (pos (suc n)) = refl
+  whole_suc (negsuc zero) = sym (R.neg_add 𝓡 𝟙)
+  whole_suc (negsuc (suc n)) = sym (simp (R.neg_sum 𝓡, add_assoc, R.neg_add 𝓡, add-zero))
 
-  whole-pred : (k : ℤ) → whole (pred_ℤ k) ≡ whole k ⊕ ⊝ 𝟙
-  whole-pred k = R.cancel 𝓡 (whole (pred_ℤ k)) (whole k ⊕ ⊝ 𝟙) 𝟙
-      (sym (whole-suc (pred_ℤ k)) ∙ ap whole (suc-pred k) ∙ sym (simp (add_assoc, R.neg-add 𝓡, add-zero)))
+  whole_pred : (k : ℤ) → whole (pred_ℤ k) ≡ whole k ⊕ ⊝ 𝟙
+  whole_pred k = R.cancel 𝓡 (whole (pred_ℤ k)) (whole k ⊕ ⊝ 𝟙) 𝟙
+      (sym (whole_suc (pred_ℤ k)) ∙ ap whole (suc-pred k) ∙ sym (simp (add_assoc, R.neg_add 𝓡, add-zero)))
 
-  whole-add : (a b : ℤ) → whole (a +ℤ b) ≡ whole a ⊕ whole b
-  whole-add a b = induction (λ x. whole (x +ℤ b) ≡ whole x ⊕ whole b)
+  whole_add : (a b : ℤ) → whole (a +ℤ b) ≡ whole a ⊕ whole b
+  whole_add a b = induction (λ x. whole (x +ℤ b) ≡ whole x ⊕ whole b)
       (ap whole (+ℤ_idl b) ∙ sym (R.zero-add 𝓡 (whole b)))
-      (λ k h. ap whole (suc_ℤ-+ℤ k b) ∙ whole-suc (k +ℤ b) ∙ ap (◌⊕ 𝟙) h ∙ swap (whole k) (whole b) 𝟙 ∙ ap (◌⊕ whole b) (sym (whole-suc k)))
-      (λ k h. ap whole (pred_ℤ-+ℤ k b) ∙ whole-pred (k +ℤ b) ∙ ap (◌⊕ ⊝ 𝟙) h ∙ swap (whole k) (whole b) (⊝ 𝟙) ∙ ap (◌⊕ whole b) (sym (whole-pred k)))
+      (λ k h. ap whole (suc_ℤ-+ℤ k b) ∙ whole_suc (k +ℤ b) ∙ ap (◌⊕ 𝟙) h ∙ swap (whole k) (whole b) 𝟙 ∙ ap (◌⊕ whole b) (sym (whole_suc k)))
+      (λ k h. ap whole (pred_ℤ-+ℤ k b) ∙ whole_pred (k +ℤ b) ∙ ap (◌⊕ ⊝ 𝟙) h ∙ swap (whole k) (whole b) (⊝ 𝟙) ∙ ap (◌⊕ whole b) (sym (whole_pred k)))
       a
     where
       swap : (x y z : A) → x ⊕ y ⊕ z ≡ x ⊕ z ⊕ y
       swap x y z = simp (add_assoc, add_comm y z)
 
   whole_neg : (a : ℤ) → whole (neg_ℤ a) ≡ ⊝ whole a
-  whole_neg a = R.neg_unique 𝓡 (whole a) (whole (neg_ℤ a)) (sym (whole-add a (neg_ℤ a)) ∙ ap whole (+ℤ_invr a))
+  whole_neg a = R.neg_unique 𝓡 (whole a) (whole (neg_ℤ a)) (sym (whole_add a (neg_ℤ a)) ∙ ap whole (+ℤ_invr a))
 
-  whole-mul : (a b : ℤ) → whole (a *ℤ b) ≡ whole a ⊗ whole b
-  whole-mul a b = induction (λ x. whole (x *ℤ b) ≡ whole x ⊗ whole b)
+  whole_mul : (a b : ℤ) → whole (a *ℤ b) ≡ whole a ⊗ whole b
+  whole_mul a b = induction (λ x. whole (x *ℤ b) ≡ whole x ⊗ whole b)
       (ap whole (zero-*ℤ b) ∙ sym (R.zero-mul 𝓡 (whole b)))
-      (λ k h. ap whole (suc_ℤ-*ℤ k b) ∙ whole-add (k *ℤ b) b ∙ simp (h, whole-suc, distrib, R.one-mul 𝓡))
-      (λ k h. ap whole (pred_ℤ-*ℤ k b) ∙ whole-add (k *ℤ b) (neg_ℤ b) ∙ simp (h, whole-pred, whole_neg, distrib, R.neg-mul 𝓡, R.one-mul 𝓡))
+      (λ k h. ap whole (suc_ℤ-*ℤ k b) ∙ whole_add (k *ℤ b) b ∙ simp (h, whole_suc, distrib, R.one-mul 𝓡))
+      (λ k h. ap whole (pred_ℤ-*ℤ k b) ∙ whole_add (k *ℤ b) (neg_ℤ b) ∙ simp (h, whole_pred, whole_neg, distrib, R.neg_mul 𝓡, R.one-mul 𝓡))
       a
 
   -- ---- each step to the normal form keeps the value
 
-  valueNormal : List A → Normal → A
-  valueNormal ρ (constant c) = whole c
-  valueNormal ρ (horner p q) = valueNormal (tail ρ) p ⊕ head ρ ⊗ valueNormal ρ q
+  value_normal : List A → Normal → A
+  value_normal ρ (constant c) = whole c
+  value_normal ρ (horner p q) = value_normal (tail ρ) p ⊕ head ρ ⊗ value_normal ρ q
 
-  shortest-is : (ρ : List A) (p q : Normal) → valueNormal ρ (shortest p q) ≡ valueNormal (tail ρ) p ⊕ head ρ ⊗ valueNormal ρ q
-  unfolding valueNormal
-  shortest-is ρ (constant a) (constant (pos zero)) = sym (simp (R.mul-zero 𝓡, add-zero))
-  shortest-is ρ (constant a) (constant (pos (suc c))) = refl
-  shortest-is ρ (constant a) (constant (negsuc c)) = refl
-  shortest-is ρ (constant a) (horner p q) = refl
-  shortest-is ρ (horner r s) q = refl
+  shortest_is : (ρ : List A) (p q : Normal) → value_normal ρ (shortest p q) ≡ value_normal (tail ρ) p ⊕ head ρ ⊗ value_normal ρ q
+  unfolding value_normal
+  shortest_is ρ (constant a) (constant (pos zero)) = sym (simp (R.mul_zero 𝓡, add-zero))
+  shortest_is ρ (constant a) (constant (pos (suc c))) = refl
+  shortest_is ρ (constant a) (constant (negsuc c)) = refl
+  shortest_is ρ (constant a) (horner p q) = refl
+  shortest_is ρ (horner r s) q = refl
 
-  addNumber-is : (ρ : List A) (c : ℤ) (p : Normal) → valueNormal ρ (addNumber c p) ≡ whole c ⊕ valueNormal ρ p
-  unfolding valueNormal
-  addNumber-is ρ c (constant a) = whole-add c a
-  addNumber-is ρ c (horner p q) =
-      ap (◌⊕ (head ρ ⊗ valueNormal ρ q)) (addNumber-is (tail ρ) c p) ∙ add_assoc (whole c) (valueNormal (tail ρ) p) (head ρ ⊗ valueNormal ρ q)
+  add_number_is : (ρ : List A) (c : ℤ) (p : Normal) → value_normal ρ (add_number c p) ≡ whole c ⊕ value_normal ρ p
+  unfolding value_normal
+  add_number_is ρ c (constant a) = whole_add c a
+  add_number_is ρ c (horner p q) =
+      ap (◌⊕ (head ρ ⊗ value_normal ρ q)) (add_number_is (tail ρ) c p) ∙ add_assoc (whole c) (value_normal (tail ρ) p) (head ρ ⊗ value_normal ρ q)
 
-  plus-is : (ρ : List A) (p q : Normal) → valueNormal ρ (plus p q) ≡ valueNormal ρ p ⊕ valueNormal ρ q
-  unfolding valueNormal
-  plus-is ρ (constant a) r = addNumber-is ρ a r
-  plus-is ρ (horner p q) (constant b) = addNumber-is ρ b (horner p q) ∙ add_comm (whole b) (valueNormal (tail ρ) p ⊕ head ρ ⊗ valueNormal ρ q)
-  plus-is ρ (horner p q) (horner r s) =
-      shortest-is ρ (plus p r) (plus q s)
-      ∙ ap₂ (λ u v. u ⊕ head ρ ⊗ v) (plus-is (tail ρ) p r) (plus-is ρ q s)
-      ∙ ap (valueNormal (tail ρ) p ⊕ valueNormal (tail ρ) r ⊕◌) (R.distrib-left 𝓡 (head ρ) (valueNormal ρ q) (valueNormal ρ s))
-      ∙ R.add-add 𝓡 (valueNormal (tail ρ) p) (valueNormal (tail ρ) r) (head ρ ⊗ valueNormal ρ q) (head ρ ⊗ valueNormal ρ s)
+  plus_is : (ρ : List A) (p q : Normal) → value_normal ρ (plus p q) ≡ value_normal ρ p ⊕ value_normal ρ q
+  unfolding value_normal
+  plus_is ρ (constant a) r = add_number_is ρ a r
+  plus_is ρ (horner p q) (constant b) = add_number_is ρ b (horner p q) ∙ add_comm (whole b) (value_normal (tail ρ) p ⊕ head ρ ⊗ value_normal ρ q)
+  plus_is ρ (horner p q) (horner r s) =
+      shortest_is ρ (plus p r) (plus q s)
+      ∙ ap₂ (λ u v. u ⊕ head ρ ⊗ v) (plus_is (tail ρ) p r) (plus_is ρ q s)
+      ∙ ap (value_normal (tail ρ) p ⊕ value_normal (tail ρ) r ⊕◌) (R.distrib_left 𝓡 (head ρ) (value_normal ρ q) (value_normal ρ s))
+      ∙ R.add_add 𝓡 (value_normal (tail ρ) p) (value_normal (tail ρ) r) (head ρ ⊗ value_normal ρ q) (head ρ ⊗ value_normal ρ s)
 
   -- k times p + x·q, where u and v are k times p and q
-  horner-mul : (ρ : List A) (k u v : A) (p q : Normal)
-      → u ≡ k ⊗ valueNormal (tail ρ) p → v ≡ k ⊗ valueNormal ρ q → u ⊕ head ρ ⊗ v ≡ k ⊗ valueNormal ρ (horner p q)
-  unfolding valueNormal
-  horner-mul ρ k u v p q e f =
+  horner_mul : (ρ : List A) (k u v : A) (p q : Normal)
+      → u ≡ k ⊗ value_normal (tail ρ) p → v ≡ k ⊗ value_normal ρ q → u ⊕ head ρ ⊗ v ≡ k ⊗ value_normal ρ (horner p q)
+  unfolding value_normal
+  horner_mul ρ k u v p q e f =
       ap₂ (λ u v. u ⊕ head ρ ⊗ v) e f
-      ∙ ap (k ⊗ valueNormal (tail ρ) p ⊕◌) (R.mul_left_comm 𝓡 (head ρ) k (valueNormal ρ q))
-      ∙ sym (R.distrib-left 𝓡 k (valueNormal (tail ρ) p) (head ρ ⊗ valueNormal ρ q))
+      ∙ ap (k ⊗ value_normal (tail ρ) p ⊕◌) (R.mul_left_comm 𝓡 (head ρ) k (value_normal ρ q))
+      ∙ sym (R.distrib_left 𝓡 k (value_normal (tail ρ) p) (head ρ ⊗ value_normal ρ q))
 
-  each-is : (ρ : List A) (f : Normal → Normal) (k : A) → ((p : Normal) → valueNormal (tail ρ) (f p) ≡ k ⊗ valueNormal (tail ρ) p)
-      → (p : Normal) → valueNormal ρ (each f p) ≡ k ⊗ valueNormal ρ p
-  unfolding valueNormal
-  each-is ρ f k e (constant a) = shortest-is ρ (f (constant a)) (constant (pos 0)) ∙ ap (◌⊕ (head ρ ⊗ 𝟘)) (e (constant a)) ∙ simp (R.mul-zero 𝓡, add-zero)
-  each-is ρ f k e (horner p q) =
-      shortest-is ρ (f p) (each f q)
-      ∙ horner-mul ρ k (valueNormal (tail ρ) (f p)) (valueNormal ρ (each f q)) p q (e p) (each-is ρ f k e q)
+  each_is : (ρ : List A) (f : Normal → Normal) (k : A) → ((p : Normal) → value_normal (tail ρ) (f p) ≡ k ⊗ value_normal (tail ρ) p)
+      → (p : Normal) → value_normal ρ (each f p) ≡ k ⊗ value_normal ρ p
+  unfolding value_normal
+  each_is ρ f k e (constant a) = shortest_is ρ (f (constant a)) (constant (pos 0)) ∙ ap (◌⊕ (head ρ ⊗ 𝟘)) (e (constant a)) ∙ simp (R.mul_zero 𝓡, add-zero)
+  each_is ρ f k e (horner p q) =
+      shortest_is ρ (f p) (each f q)
+      ∙ horner_mul ρ k (value_normal (tail ρ) (f p)) (value_normal ρ (each f q)) p q (e p) (each_is ρ f k e q)
 
-  scale-is : (ρ : List A) (c : ℤ) (p : Normal) → valueNormal ρ (scale c p) ≡ whole c ⊗ valueNormal ρ p
-  unfolding valueNormal
-  scale-is ρ c (constant a) = whole-mul c a
-  scale-is ρ c (horner p q) =
-      shortest-is ρ (scale c p) (scale c q)
-      ∙ horner-mul ρ (whole c) (valueNormal (tail ρ) (scale c p)) (valueNormal ρ (scale c q)) p q (scale-is (tail ρ) c p) (scale-is ρ c q)
+  scale_is : (ρ : List A) (c : ℤ) (p : Normal) → value_normal ρ (scale c p) ≡ whole c ⊗ value_normal ρ p
+  unfolding value_normal
+  scale_is ρ c (constant a) = whole_mul c a
+  scale_is ρ c (horner p q) =
+      shortest_is ρ (scale c p) (scale c q)
+      ∙ horner_mul ρ (whole c) (value_normal (tail ρ) (scale c p)) (value_normal ρ (scale c q)) p q (scale_is (tail ρ) c p) (scale_is ρ c q)
 
-  times-is : (ρ : List A) (p q : Normal) → valueNormal ρ (times p q) ≡ valueNormal ρ p ⊗ valueNormal ρ q
-  unfolding valueNormal
-  times-is ρ (constant a) r = scale-is ρ a r
-  times-is ρ (horner p q) r =
-      plus-is ρ (each (λ s. times p s) r) (shortest (constant (pos 0)) (times q r))
-      ∙ ap₂ ◌⊕◌ (each-is ρ (λ s. times p s) (valueNormal (tail ρ) p) (λ s. times-is (tail ρ) p s) r)
-      (shortest-is ρ (constant (pos 0)) (times q r)
-      ∙ R.zero-add 𝓡 (head ρ ⊗ valueNormal ρ (times q r))
-      ∙ ap (head ρ ⊗◌) (times-is ρ q r)
-      ∙ sym (mul_assoc (head ρ) (valueNormal ρ q) (valueNormal ρ r)))
-      ∙ sym (distrib (valueNormal (tail ρ) p) (head ρ ⊗ valueNormal ρ q) (valueNormal ρ r))
+  times_is : (ρ : List A) (p q : Normal) → value_normal ρ (times p q) ≡ value_normal ρ p ⊗ value_normal ρ q
+  unfolding value_normal
+  times_is ρ (constant a) r = scale_is ρ a r
+  times_is ρ (horner p q) r =
+      plus_is ρ (each (λ s. times p s) r) (shortest (constant (pos 0)) (times q r))
+      ∙ ap₂ ◌⊕◌ (each_is ρ (λ s. times p s) (value_normal (tail ρ) p) (λ s. times_is (tail ρ) p s) r)
+      (shortest_is ρ (constant (pos 0)) (times q r)
+      ∙ R.zero-add 𝓡 (head ρ ⊗ value_normal ρ (times q r))
+      ∙ ap (head ρ ⊗◌) (times_is ρ q r)
+      ∙ sym (mul_assoc (head ρ) (value_normal ρ q) (value_normal ρ r)))
+      ∙ sym (distrib (value_normal (tail ρ) p) (head ρ ⊗ value_normal ρ q) (value_normal ρ r))
 
-  variable-is : (ρ : List A) (i : ℕ) → valueNormal ρ (variable i) ≡ valueVar ρ i
-  unfolding valueNormal
-  variable-is ρ zero = R.zero-add 𝓡 (head ρ ⊗ 𝟙) ∙ mul-one (head ρ)
-  variable-is ρ (suc i) =
-      ap (valueNormal (tail ρ) (variable i) ⊕◌) (R.mul-zero 𝓡 (head ρ)) ∙ add-zero (valueNormal (tail ρ) (variable i)) ∙ variable-is (tail ρ) i
+  variable_is : (ρ : List A) (i : ℕ) → value_normal ρ (variable i) ≡ value_var ρ i
+  unfolding value_normal
+  variable_is ρ zero = R.zero-add 𝓡 (head ρ ⊗ 𝟙) ∙ mul-one (head ρ)
+  variable_is ρ (suc i) =
+      ap (value_normal (tail ρ) (variable i) ⊕◌) (R.mul_zero 𝓡 (head ρ)) ∙ add-zero (value_normal (tail ρ) (variable i)) ∙ variable_is (tail ρ) i
 
-  opposite-is : (ρ : List A) (p : Normal) → valueNormal ρ (scale (negsuc 0) p) ≡ ⊝ valueNormal ρ p
-  opposite-is ρ p = scale-is ρ (negsuc 0) p ∙ R.neg-mul 𝓡 𝟙 (valueNormal ρ p) ∙ ap ⊝◌ (R.one-mul 𝓡 (valueNormal ρ p))
+  opposite_is : (ρ : List A) (p : Normal) → value_normal ρ (scale (negsuc 0) p) ≡ ⊝ value_normal ρ p
+  opposite_is ρ p = scale_is ρ (negsuc 0) p ∙ R.neg_mul 𝓡 𝟙 (value_normal ρ p) ∙ ap ⊝◌ (R.one-mul 𝓡 (value_normal ρ p))
 
-  normal-is : (ρ : List A) (e : Exp) → valueNormal ρ (normal e) ≡ valueExp ρ e
-  unfolding valueNormal
-  normal-is ρ (var i) = variable-is ρ i
-  normal-is ρ (num n) = refl
-  normal-is ρ (a :+ b) = plus-is ρ (normal a) (normal b) ∙ ap₂ ◌⊕◌ (normal-is ρ a) (normal-is ρ b)
-  normal-is ρ (a :- b) =
-      plus-is ρ (normal a) (scale (negsuc 0) (normal b))
-      ∙ ap₂ ◌⊕◌ (normal-is ρ a) (opposite-is ρ (normal b) ∙ ap ⊝◌ (normal-is ρ b))
-      ∙ sym (sub-neg (valueExp ρ a) (valueExp ρ b))
-  normal-is ρ (a :* b) = times-is ρ (normal a) (normal b) ∙ ap₂ ◌⊗◌ (normal-is ρ a) (normal-is ρ b)
-  normal-is ρ (:- a) = opposite-is ρ (normal a) ∙ ap ⊝◌ (normal-is ρ a)
+  normal_is : (ρ : List A) (e : Exp) → value_normal ρ (normal e) ≡ value_exp ρ e
+  unfolding value_normal
+  normal_is ρ (var i) = variable_is ρ i
+  normal_is ρ (num n) = refl
+  normal_is ρ (a :+ b) = plus_is ρ (normal a) (normal b) ∙ ap₂ ◌⊕◌ (normal_is ρ a) (normal_is ρ b)
+  normal_is ρ (a :- b) =
+      plus_is ρ (normal a) (scale (negsuc 0) (normal b))
+      ∙ ap₂ ◌⊕◌ (normal_is ρ a) (opposite_is ρ (normal b) ∙ ap ⊝◌ (normal_is ρ b))
+      ∙ sym (sub_neg (value_exp ρ a) (value_exp ρ b))
+  normal_is ρ (a :* b) = times_is ρ (normal a) (normal b) ∙ ap₂ ◌⊗◌ (normal_is ρ a) (normal_is ρ b)
+  normal_is ρ (:- a) = opposite_is ρ (normal a) ∙ ap ⊝◌ (normal_is ρ a)
 
   -- expressions with one normal form have one value, in every ring and at all values of the variables
-  pub equal-of-normal : (ρ : List A) (l r : Exp) → normal l ≡ normal r → valueExp ρ l ≡ valueExp ρ r
-  equal-of-normal ρ l r h = sym (normal-is ρ l) ∙ ap (valueNormal ρ) h ∙ normal-is ρ r
+  pub equal_of_normal : (ρ : List A) (l r : Exp) → normal l ≡ normal r → value_exp ρ l ≡ value_exp ρ r
+  equal_of_normal ρ l r h = sym (normal_is ρ l) ∙ ap (value_normal ρ) h ∙ normal_is ρ r

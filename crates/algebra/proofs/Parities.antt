@@ -7,8 +7,8 @@ use Rattle.algebra.specs.declared.Parity.{Parity}
 use Rattle.algebra.specs.declared.Parity.TheVariants.{Full, Even, Odd}
 
 -- numbers with one remainder by 2 are allowed or not together
-pub allows-same : (parity : Parity) (i j : ℕ) → i % 2 ≡ j % 2 → allows parity i ≡ allows parity j
+pub allows_same : (parity : Parity) (i j : ℕ) → i % 2 ≡ j % 2 → allows parity i ≡ allows parity j
 unfolding allows
-allows-same Full i j e = refl
-allows-same Even i j e = ap (λ r. eqb r 0) e
-allows-same Odd i j e = ap (λ r. eqb r 1) e
+allows_same Full i j e = refl
+allows_same Even i j e = ap (λ r. eqb r 0) e
+allows_same Odd i j e = ap (λ r. eqb r 1) e

@@ -28,12 +28,12 @@ module _ {A : Type 0} (𝓡 : Ring A) (x : A) where
   pow-add (suc m) n = rw suc-add (ap (x ⊗◌) (pow-add m n) ∙ sym (mul_assoc x (pow ops x m) (pow ops x n)))
 
   -- X^(2k) = (X²)^k
-  pub pow-double : (k : ℕ) → pow ops x (k + k) ≡ pow ops (x ⊗ x) k
+  pub pow_double : (k : ℕ) → pow ops x (k + k) ≡ pow ops (x ⊗ x) k
   unfolding pow
-  pow-double zero = refl
-  pow-double (suc k) = rw (suc-add, add-suc) (sym (mul_assoc x x (pow ops x (k + k))) ∙ ap (x ⊗ x ⊗◌) (pow-double k))
+  pow_double zero = refl
+  pow_double (suc k) = rw (suc-add, add-suc) (sym (mul_assoc x x (pow ops x (k + k))) ∙ ap (x ⊗ x ⊗◌) (pow_double k))
 
   -- X^(2k+1) = x·(X²)^k
-  pub pow-odd : (k : ℕ) → pow ops x (suc (k + k)) ≡ x ⊗ pow ops (x ⊗ x) k
+  pub pow_odd : (k : ℕ) → pow ops x (suc (k + k)) ≡ x ⊗ pow ops (x ⊗ x) k
   unfolding pow
-  pow-odd k = ap (x ⊗◌) (pow-double k)
+  pow_odd k = ap (x ⊗◌) (pow_double k)

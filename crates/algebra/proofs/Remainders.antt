@@ -11,30 +11,30 @@ use Rattle.algebra.specs.Remainder.{rem}
 use Rattle.algebra.proofs.Integers.{induction}
 
 -- the first factor may be reduced before the product
-pub mod-mul-mod : (a b m : ℕ) → (a % m * b) % m ≡ (a * b) % m
-mod-mul-mod a b m = sym (ap (◌% m) parts ∙ add-mul-mod_self_right (a % m * b) (a / m * b) m)
+pub mod_mul_mod : (a b m : ℕ) → (a % m * b) % m ≡ (a * b) % m
+mod_mul_mod a b m = sym (ap (◌% m) parts ∙ add-mul-mod_self_right (a % m * b) (a / m * b) m)
   where
     parts : a * b ≡ a % m * b + a / m * b * m
     parts = ap (◌* b) (sym (mod-add-div' a m)) ∙ omega arith
 
 -- the second factor may be
-pub mul-mod-mod : (a b m : ℕ) → (a * (b % m)) % m ≡ (a * b) % m
-mul-mod-mod a b m = ap (◌% m) (N.mul_comm a (b % m)) ∙ mod-mul-mod b a m ∙ ap (◌% m) (N.mul_comm b a)
+pub mul_mod_mod : (a b m : ℕ) → (a * (b % m)) % m ≡ (a * b) % m
+mul_mod_mod a b m = ap (◌% m) (N.mul_comm a (b % m)) ∙ mod_mul_mod b a m ∙ ap (◌% m) (N.mul_comm b a)
 
 module _ (m : ℕ) (h : 0 < m) where
   -- what is added on both sides can be taken off
-  mod-cancel : (x y z : ℕ) → (x + z) % m ≡ (y + z) % m → x % m ≡ y % m
-  mod-cancel x y z e = added x ∙ ap (λ k. (k + z * (m - 1)) % m) e ∙ sym (added y)
+  mod_cancel : (x y z : ℕ) → (x + z) % m ≡ (y + z) % m → x % m ≡ y % m
+  mod_cancel x y z e = added x ∙ ap (λ k. (k + z * (m - 1)) % m) e ∙ sym (added y)
     where
       once_more : (x n : ℕ) → x + z * suc n ≡ (x + z) + z * n
       once_more x n = omega arith
 
-      m-times : suc (m - 1) ≡ m
-      m-times = omega arith
+      m_times : suc (m - 1) ≡ m
+      m_times = omega arith
 
       added : (x : ℕ) → x % m ≡ ((x + z) % m + z * (m - 1)) % m
       added x =
-          sym (mod-add-mod (x + z) m (z * (m - 1)) ∙ ap (◌% m) (sym (once_more x (m - 1)) ∙ ap (λ k. x + z * k) m-times) ∙ add-mul-mod_self_right x z m)
+          sym (mod-add-mod (x + z) m (z * (m - 1)) ∙ ap (◌% m) (sym (once_more x (m - 1)) ∙ ap (λ k. x + z * k) m_times) ∙ add-mul-mod_self_right x z m)
 
   -- a remainder is below m
   pub rem_lt : (z : ℤ) → rem m z < m
@@ -43,22 +43,22 @@ module _ (m : ℕ) (h : 0 < m) where
   rem_lt (negsuc n) = omega arith
 
   -- and so its own remainder
-  pub rem-mod : (z : ℤ) → rem m z % m ≡ rem m z
-  rem-mod z = mod-eq_of_lt (rem_lt z)
+  pub rem_mod : (z : ℤ) → rem m z % m ≡ rem m z
+  rem_mod z = mod-eq_of_lt (rem_lt z)
 
   -- the remainder of 0
-  pub rem-zero : rem m (pos 0) ≡ 0
+  pub rem_zero : rem m (pos 0) ≡ 0
   unfolding rem
-  rem-zero = zero-mod m
+  rem_zero = zero-mod m
 
   -- one up
-  rem-suc : (k : ℤ) → rem m (suc_ℤ k) ≡ suc (rem m k) % m
+  rem_suc : (k : ℤ) → rem m (suc_ℤ k) ≡ suc (rem m k) % m
   unfolding rem
-  rem-suc (pos n) = suc-mod n m
-  rem-suc (negsuc zero) =
+  rem_suc (pos n) = suc-mod n m
+  rem_suc (negsuc zero) =
       let top : suc (m - suc (0 % m)) ≡ m = omega (arith, zero-mod m) in
       zero-mod m ∙ sym (ap (◌% m) top ∙ mod_self m)
-  rem-suc (negsuc (suc n)) = by_size (dec_lt (suc (n % m)) m) ∙ sym (ap (λ r. suc (m - suc r) % m) (suc-mod n m))
+  rem_suc (negsuc (suc n)) = by_size (dec_lt (suc (n % m)) m) ∙ sym (ap (λ r. suc (m - suc r) % m) (suc-mod n m))
     where
       below : n % m < m
       below = mod-lt n h
@@ -75,46 +75,46 @@ module _ (m : ℕ) (h : 0 < m) where
           none ∙ sym (ap (λ r. suc (m - suc r) % m) (ap (◌% m) all ∙ mod_self m) ∙ ap (◌% m) top ∙ mod_self m)
 
   -- one down
-  rem-pred : (k : ℤ) → rem m (pred_ℤ k) ≡ (rem m k + (m - 1)) % m
-  rem-pred k =
+  rem_pred : (k : ℤ) → rem m (pred_ℤ k) ≡ (rem m k + (m - 1)) % m
+  rem_pred k =
       let round : suc (rem m (pred_ℤ k)) + (m - 1) ≡ rem m (pred_ℤ k) + m = omega arith in
       sym (ap (λ z. (rem m z + (m - 1)) % m) (sym (suc-pred k))
-      ∙ ap (λ r. (r + (m - 1)) % m) (rem-suc (pred_ℤ k))
+      ∙ ap (λ r. (r + (m - 1)) % m) (rem_suc (pred_ℤ k))
       ∙ mod-add-mod (suc (rem m (pred_ℤ k))) m (m - 1)
       ∙ ap (◌% m) round
       ∙ add-mod_right (rem m (pred_ℤ k)) m
-      ∙ rem-mod (pred_ℤ k))
+      ∙ rem_mod (pred_ℤ k))
 
   -- of a sum
-  pub rem-add : (a b : ℤ) → rem m (a +ℤ b) ≡ (rem m a + rem m b) % m
-  rem-add a b = induction (λ x. rem m (x +ℤ b) ≡ (rem m x + rem m b) % m)
-      (ap (rem m) (+ℤ_idl b) ∙ sym (ap (λ r. (r + rem m b) % m) rem-zero ∙ ap (◌% m) (N.zero-add (rem m b)) ∙ rem-mod b))
+  pub rem_add : (a b : ℤ) → rem m (a +ℤ b) ≡ (rem m a + rem m b) % m
+  rem_add a b = induction (λ x. rem m (x +ℤ b) ≡ (rem m x + rem m b) % m)
+      (ap (rem m) (+ℤ_idl b) ∙ sym (ap (λ r. (r + rem m b) % m) rem_zero ∙ ap (◌% m) (N.zero-add (rem m b)) ∙ rem_mod b))
       (λ k e. ap (rem m) (suc_ℤ-+ℤ k b)
-      ∙ rem-suc (k +ℤ b)
+      ∙ rem_suc (k +ℤ b)
       ∙ ap (λ r. suc r % m) e
       ∙ sym (suc-mod (rem m k + rem m b) m)
       ∙ ap (◌% m) (sym (N.suc-add (rem m k) (rem m b)))
       ∙ sym (mod-add-mod (suc (rem m k)) m (rem m b))
-      ∙ ap (λ r. (r + rem m b) % m) (sym (rem-suc k)))
+      ∙ ap (λ r. (r + rem m b) % m) (sym (rem_suc k)))
       (λ k e. ap (rem m) (pred_ℤ-+ℤ k b)
-      ∙ rem-pred (k +ℤ b)
+      ∙ rem_pred (k +ℤ b)
       ∙ ap (λ r. (r + (m - 1)) % m) e
       ∙ mod-add-mod (rem m k + rem m b) m (m - 1)
       ∙ ap (◌% m) (swap (rem m k) (rem m b) (m - 1))
       ∙ sym (mod-add-mod (rem m k + (m - 1)) m (rem m b))
-      ∙ ap (λ r. (r + rem m b) % m) (sym (rem-pred k)))
+      ∙ ap (λ r. (r + rem m b) % m) (sym (rem_pred k)))
       a
     where
       swap : (x y z : ℕ) → x + y + z ≡ x + z + y
       swap x y z = omega arith
 
   -- of a product
-  pub rem-mul : (a b : ℤ) → rem m (a *ℤ b) ≡ (rem m a * rem m b) % m
-  rem-mul a b = induction (λ x. rem m (x *ℤ b) ≡ (rem m x * rem m b) % m)
-      (ap (rem m) (zero-*ℤ b) ∙ rem-zero ∙ sym (ap (λ r. (r * rem m b) % m) rem-zero ∙ ap (◌% m) (N.zero-mul (rem m b)) ∙ zero-mod m))
+  pub rem_mul : (a b : ℤ) → rem m (a *ℤ b) ≡ (rem m a * rem m b) % m
+  rem_mul a b = induction (λ x. rem m (x *ℤ b) ≡ (rem m x * rem m b) % m)
+      (ap (rem m) (zero-*ℤ b) ∙ rem_zero ∙ sym (ap (λ r. (r * rem m b) % m) rem_zero ∙ ap (◌% m) (N.zero-mul (rem m b)) ∙ zero-mod m))
       (λ k e. up k ∙ ap (λ r. (r + rem m b) % m) e ∙ sym (up_apart k))
-      (λ k e. sym (rem-mod (pred_ℤ k *ℤ b))
-      ∙ mod-cancel (rem m (pred_ℤ k *ℤ b)) (rem m (pred_ℤ k) * rem m b) (rem m b)
+      (λ k e. sym (rem_mod (pred_ℤ k *ℤ b))
+      ∙ mod_cancel (rem m (pred_ℤ k *ℤ b)) (rem m (pred_ℤ k) * rem m b) (rem m b)
       (sym (up (pred_ℤ k))
       ∙ ap (λ z. rem m (z *ℤ b)) (suc-pred k)
       ∙ e
@@ -124,26 +124,26 @@ module _ (m : ℕ) (h : 0 < m) where
       a
     where
       up : (k : ℤ) → rem m (suc_ℤ k *ℤ b) ≡ (rem m (k *ℤ b) + rem m b) % m
-      up k = ap (rem m) (suc_ℤ-*ℤ k b) ∙ rem-add (k *ℤ b) b
+      up k = ap (rem m) (suc_ℤ-*ℤ k b) ∙ rem_add (k *ℤ b) b
 
       once_more : (x y : ℕ) → suc x * y ≡ x * y + y
       once_more x y = omega arith
 
       up_apart : (k : ℤ) → (rem m (suc_ℤ k) * rem m b) % m ≡ ((rem m k * rem m b) % m + rem m b) % m
       up_apart k =
-          ap (λ r. (r * rem m b) % m) (rem-suc k)
-          ∙ mod-mul-mod (suc (rem m k)) (rem m b) m
+          ap (λ r. (r * rem m b) % m) (rem_suc k)
+          ∙ mod_mul_mod (suc (rem m k)) (rem m b) m
           ∙ ap (◌% m) (once_more (rem m k) (rem m b))
           ∙ sym (mod-add-mod (rem m k * rem m b) m (rem m b))
 
   -- of an opposite
-  pub rem-neg : (a : ℤ) → rem m (neg_ℤ a) ≡ (m - rem m a) % m
-  rem-neg a =
+  pub rem_neg : (a : ℤ) → rem m (neg_ℤ a) ≡ (m - rem m a) % m
+  rem_neg a =
       let below : rem m a < m = rem_lt a in
       let all : m - rem m a + rem m a ≡ m = omega arith in
-      sym (rem-mod (neg_ℤ a))
-      ∙ mod-cancel (rem m (neg_ℤ a)) (m - rem m a) (rem m a) (sym (rem-add (neg_ℤ a) a) ∙ ap (rem m) (+ℤ_invl a) ∙ rem-zero ∙ sym (ap (◌% m) all ∙ mod_self m))
+      sym (rem_mod (neg_ℤ a))
+      ∙ mod_cancel (rem m (neg_ℤ a)) (m - rem m a) (rem m a) (sym (rem_add (neg_ℤ a) a) ∙ ap (rem m) (+ℤ_invl a) ∙ rem_zero ∙ sym (ap (◌% m) all ∙ mod_self m))
 
   -- of a difference
-  pub rem-sub : (a b : ℤ) → rem m (a -ℤ b) ≡ (rem m a + (m - rem m b)) % m
-  rem-sub a b = rem-add a (neg_ℤ b) ∙ ap (λ r. (rem m a + r) % m) (rem-neg b) ∙ add-mod-mod (rem m a) (m - rem m b) m
+  pub rem_sub : (a b : ℤ) → rem m (a -ℤ b) ≡ (rem m a + (m - rem m b)) % m
+  rem_sub a b = rem_add a (neg_ℤ b) ∙ ap (λ r. (rem m a + r) % m) (rem_neg b) ∙ add-mod-mod (rem m a) (m - rem m b) m

@@ -13,7 +13,7 @@ use Prim.Native.Nat.{ℕ, zero, suc}
 use lib.ListN.{length}
 use Rattle.algebra.specs.Ring.{Ring}
 use Rattle.algebra.proofs.RingLaws as R
-use Rattle.algebra.proofs.Normal.{normal, valueExp, equal-of-normal, var}
+use Rattle.algebra.proofs.Normal.{normal, value_exp, equal_of_normal, var}
 pub use Rattle.algebra.proofs.Normal.{Exp, num, ◌:+◌, ◌:-◌, ◌:*◌, :-◌}
 
 -- an equation between two expressions
@@ -57,7 +57,7 @@ module _ {A : Type 0} (𝓡 : Ring A) where
   infixl 7 ◌⊗◌
   -- what an equation says of the terms in ρ
   abbrev pub Holds : List A → Equation → Type 0
-  Holds ρ (l := r) = valueExp 𝓡 ρ l ≡ valueExp 𝓡 ρ r
+  Holds ρ (l := r) = value_exp 𝓡 ρ l ≡ value_exp 𝓡 ρ r
 
   -- what a list of equations says
   abbrev pub AllHold : List A → List (Exp × Equation) → Type 0
@@ -65,25 +65,25 @@ module _ {A : Type 0} (𝓡 : Ring A) where
   AllHold ρ (t ∷ ts) = Holds ρ t.1 × AllHold ρ ts
 
   holds : (ρ : List A) (e : Equation) → Identity e → Holds ρ e
-  holds ρ (l := r) h = equal-of-normal 𝓡 ρ l r h
+  holds ρ (l := r) h = equal_of_normal 𝓡 ρ l r h
 
   -- an identity of rings
   pub ring : (ρ : List A) (f : Naming (length ρ) Equation) → Identity (at ρ f) → Holds ρ (at ρ f)
   ring ρ f h = holds ρ (at ρ f) h
 
-  factor-zero : (c l r s : A) → l ≡ r → s ≡ 𝟘 → c ⊗ (l ⊖ r) ⊕ s ≡ 𝟘
-  factor-zero c l r s p q = simp (p, q, R.sub_self 𝓡, R.mul-zero 𝓡, R.zero-add 𝓡)
+  factor_zero : (c l r s : A) → l ≡ r → s ≡ 𝟘 → c ⊗ (l ⊖ r) ⊕ s ≡ 𝟘
+  factor_zero c l r s p q = simp (p, q, R.sub_self 𝓡, R.mul_zero 𝓡, R.zero-add 𝓡)
 
-  combined-zero : (ρ : List A) (ts : List (Exp × Equation)) → AllHold ρ ts → valueExp 𝓡 ρ (combined ts) ≡ 𝟘
-  combined-zero ρ [] h = refl
-  combined-zero ρ (t ∷ ts) h = with_first t.1 h.0 (combined-zero ρ ts h.1)
+  combined_zero : (ρ : List A) (ts : List (Exp × Equation)) → AllHold ρ ts → value_exp 𝓡 ρ (combined ts) ≡ 𝟘
+  combined_zero ρ [] h = refl
+  combined_zero ρ (t ∷ ts) h = with_first t.1 h.0 (combined_zero ρ ts h.1)
     where
-      with_first : (e : Equation) → Holds ρ e → valueExp 𝓡 ρ (combined ts) ≡ 𝟘
-          → valueExp 𝓡 ρ (elim e as (λ x. Exp) [ l := r ↦ t.0 :* (l :- r) :+ combined ts ]) ≡ 𝟘
-      with_first (l := r) p q = factor-zero (valueExp 𝓡 ρ t.0) (valueExp 𝓡 ρ l) (valueExp 𝓡 ρ r) (valueExp 𝓡 ρ (combined ts)) p q
+      with_first : (e : Equation) → Holds ρ e → value_exp 𝓡 ρ (combined ts) ≡ 𝟘
+          → value_exp 𝓡 ρ (elim e as (λ x. Exp) [ l := r ↦ t.0 :* (l :- r) :+ combined ts ]) ≡ 𝟘
+      with_first (l := r) p q = factor_zero (value_exp 𝓡 ρ t.0) (value_exp 𝓡 ρ l) (value_exp 𝓡 ρ r) (value_exp 𝓡 ρ (combined ts)) p q
 
   follows : (ρ : List A) (e : Equation) (ts : List (Exp × Equation)) → Follows e ts → AllHold ρ ts → Holds ρ e
-  follows ρ (l := r) ts s h = R.equal-of-sub 𝓡 (valueExp 𝓡 ρ l) (valueExp 𝓡 ρ r) (equal-of-normal 𝓡 ρ (l :- r) (combined ts) s ∙ combined-zero ρ ts h)
+  follows ρ (l := r) ts s h = R.equal_of_sub 𝓡 (value_exp 𝓡 ρ l) (value_exp 𝓡 ρ r) (equal_of_normal 𝓡 ρ (l :- r) (combined ts) s ∙ combined_zero ρ ts h)
 
   -- an equation from others
   pub from : (ρ : List A) (f : Naming (length ρ) Equation) (g : Naming (length ρ) (List (Exp × Equation)))

@@ -2,6 +2,6 @@
 use Rattle.std.specs.Prelude.{List, [], ◌∷◌, ℕ, ◌+◌, ℤ, nat_abs}
 
 -- the sum of the magnitudes
-unfoldable pub sumAbs : List ℤ → ℕ
-sumAbs [] = 0
-sumAbs (x ∷ xs) = nat_abs x + sumAbs xs
+unfoldable pub sum_abs : List ℤ → ℕ
+sum_abs [] = 0
+sum_abs (x ∷ xs) = nat_abs x + sum_abs xs

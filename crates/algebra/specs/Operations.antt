@@ -10,8 +10,8 @@ pub record Operations (A : Type 0) : Type 0 where
   pub neg : A → A
 
 -- the whole numbers
-abbrev pub wholeOps : Operations ℤ
-wholeOps = record { zero = pos 0; one = pos 1; add = ◌+ℤ◌; sub = ◌-ℤ◌; mul = ◌*ℤ◌; neg = neg_ℤ }
+abbrev pub whole_ops : Operations ℤ
+whole_ops = record { zero = pos 0; one = pos 1; add = ◌+ℤ◌; sub = ◌-ℤ◌; mul = ◌*ℤ◌; neg = neg_ℤ }
 
 module _ {A : Type 0} (𝓞 : Operations A) where
   -- 1 + 1

@@ -8,5 +8,5 @@ module _ {A : Type 0} (𝓞 : Operations A) where
   sum_of c d = zip_with 𝓞.add c d
 
   -- k·c_j
-  abbrev pub multipleOf : (k : A) → List A → List A
-  multipleOf k c = map (𝓞.mul k) c
+  abbrev pub multiple_of : (k : A) → List A → List A
+  multiple_of k c = map (𝓞.mul k) c

@@ -8,12 +8,12 @@ use Rattle.algebra.specs.declared.Basis.{Basis}
 use Rattle.algebra.specs.declared.Basis.TheVariants.{Monomial, Chebyshev}
 
 -- what a basis makes of the powers a and b, and of the power at their distance, which only Chebyshev uses
-abbrev pub productOf : {A : Type 0} → Operations A → Basis → A → A → A → A
-productOf 𝓞 Monomial u v w = 𝓞.mul u v
-productOf 𝓞 Chebyshev u v w = 𝓞.sub (double 𝓞 (𝓞.mul u v)) w
+abbrev pub product_of : {A : Type 0} → Operations A → Basis → A → A → A → A
+product_of 𝓞 Monomial u v w = 𝓞.mul u v
+product_of 𝓞 Chebyshev u v w = 𝓞.sub (double 𝓞 (𝓞.mul u v)) w
 
 -- over every ring it is power a + b
 abbrev pub ProductLaw : {A : Type 0} → Ring A → Type 0
 ProductLaw {A} 𝓡 = (x : A) (basis : Basis) (a b : ℕ)
     → power 𝓡.ops basis x (a + b)
-    ≡ productOf 𝓡.ops basis (power 𝓡.ops basis x a) (power 𝓡.ops basis x b) (power 𝓡.ops basis x (distance_of a b))
+    ≡ product_of 𝓡.ops basis (power 𝓡.ops basis x a) (power 𝓡.ops basis x b) (power 𝓡.ops basis x (distance_of a b))

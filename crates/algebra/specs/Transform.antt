@@ -8,12 +8,12 @@ use Rattle.algebra.specs.declared.PolynomialInputTransform.{PolynomialInputTrans
 use Rattle.algebra.specs.declared.PolynomialInputTransform.TheVariants.{Identity, Square, SquareTimesInput, ChebyshevT2, ChebyshevT2TimesInput}
 
 -- the transform of a fold, by parity and basis; Full has no fold, and nothing is transformed
-unfoldable pub transformOf : Parity → Basis → PolynomialInputTransform
-transformOf Full basis = Identity
-transformOf Even Monomial = Square
-transformOf Even Chebyshev = ChebyshevT2
-transformOf Odd Monomial = SquareTimesInput
-transformOf Odd Chebyshev = ChebyshevT2TimesInput
+unfoldable pub transform_of : Parity → Basis → PolynomialInputTransform
+transform_of Full basis = Identity
+transform_of Even Monomial = Square
+transform_of Even Chebyshev = ChebyshevT2
+transform_of Odd Monomial = SquareTimesInput
+transform_of Odd Chebyshev = ChebyshevT2TimesInput
 
 module _ {A : Type 0} (𝓞 : Operations A) where
   -- y is x, x² or 2x² - 1 by transform
@@ -25,9 +25,9 @@ module _ {A : Type 0} (𝓞 : Operations A) where
   input_of ChebyshevT2TimesInput x = 𝓞.sub (double 𝓞 (𝓞.mul x x)) 𝓞.one
 
   -- a TimesInput transform multiplies the value that is left by x
-  unfoldable pub outputOf : PolynomialInputTransform → A → A → A
-  outputOf Identity x v = v
-  outputOf Square x v = v
-  outputOf SquareTimesInput x v = 𝓞.mul x v
-  outputOf ChebyshevT2 x v = v
-  outputOf ChebyshevT2TimesInput x v = 𝓞.mul x v
+  unfoldable pub output_of : PolynomialInputTransform → A → A → A
+  output_of Identity x v = v
+  output_of Square x v = v
+  output_of SquareTimesInput x v = 𝓞.mul x v
+  output_of ChebyshevT2 x v = v
+  output_of ChebyshevT2TimesInput x v = 𝓞.mul x v

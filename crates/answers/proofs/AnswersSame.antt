@@ -1,8 +1,8 @@
 -- Lines with the same settings and coefficients get the same text: a refusal, and the lines of a plan, are made of these alone.
-use Rattle.answers.specs.Answer.{answerRefusal, plannedLines, answerLines, answerText}
+use Rattle.answers.specs.Answer.{answer_refusal, planned_lines, answer_lines, answer_text}
 use Rattle.answers.specs.AnswersSame.{AnswersSame}
 
-pub answers-same : AnswersSame
-unfolding answerText answerLines answerRefusal plannedLines
-answers-same one other same =
-    rw (same.one-is, same.other-is, same.basis, same.parity, same.strategy, same.fold, same.coefficients)
+pub answers_same : AnswersSame
+unfolding answer_text answer_lines answer_refusal planned_lines
+answers_same one other same =
+    rw (same.one_is, same.other_is, same.basis, same.parity, same.strategy, same.fold, same.coefficients)

@@ -2,8 +2,8 @@
 use mathlib.Core.Path.{refl}
 use lib.Ieee.{lt, neg}
 use Rattle.number.specs.Interval.{Ordered}
-use Rattle.answers.specs.LineInterval.{minusOne, plusOne}
+use Rattle.answers.specs.LineInterval.{minus_one, plus_one}
 
-pub ones-ordered : Ordered minusOne plusOne
+pub ones_ordered : Ordered minus_one plus_one
 unfolding lt neg
-ones-ordered = refl
+ones_ordered = refl

@@ -7,10 +7,10 @@ use native.Mathlib.Omega.{arith}
 use lib.Dec.{eqb}
 use lib.ListN.{length, get_or, take, drop, set, length-drop}
 use lib.Seq.{take-suc, take-suc-set, take-append-add, length-take-le, get_or-drop}
-use Rattle.lines.specs.Bytes.{lineFeed}
-use Rattle.texts.proofs.PartLaws.{first-is}
-use Rattle.answers.specs.InputLines.{noFeed}
-use Rattle.answers.specs.Limits.{lineRoom}
+use Rattle.lines.specs.Bytes.{line_feed}
+use Rattle.texts.proofs.PartLaws.{first_is}
+use Rattle.answers.specs.InputLines.{no_feed}
+use Rattle.answers.specs.Limits.{line_room}
 use Rattle.answers.specs.Turns.{held_of}
 use Rattle.answers.specs.inside.Pieces.{between, FeedFrom, Held, Taken}
 
@@ -27,8 +27,8 @@ between_more block at i h within =
     ∙ take-suc (drop at block) (i - at) 0 (omega (arith, length-drop at block))
     ∙ ap (λ (b : ℕ). between at i block ++ (b ∷ [])) (get_or-drop at block (i - at) 0 ∙ ap (λ (n : ℕ). get_or block n 0) there)
 
-pub no_bytes : noFeed [] ≡ true
-unfolding noFeed
+pub no_bytes : no_feed [] ≡ true
+unfolding no_feed
 no_bytes = refl
 
 -- a byte that is no line feed behind bytes without one
@@ -36,10 +36,10 @@ and_keeps : (p q r : Bool) → (q ≡ true → r ≡ true) → (p && q) ≡ true
 and_keeps true q r follows h = follows h
 and_keeps false q r follows h = h
 
-pub free_more : (xs : List ℕ) (b : ℕ) → noFeed xs ≡ true → eqb b lineFeed ≡ false → noFeed (xs ++ (b ∷ [])) ≡ true
-unfolding noFeed
+pub free_more : (xs : List ℕ) (b : ℕ) → no_feed xs ≡ true → eqb b line_feed ≡ false → no_feed (xs ++ (b ∷ [])) ≡ true
+unfolding no_feed
 free_more [] b free other = rw other refl
-free_more (x ∷ xs) b free other = and_keeps (not (eqb x lineFeed)) (noFeed xs) (noFeed (xs ++ (b ∷ []))) (λ rest. free_more xs b rest other) free
+free_more (x ∷ xs) b free other = and_keeps (not (eqb x line_feed)) (no_feed xs) (no_feed (xs ++ (b ∷ []))) (λ rest. free_more xs b rest other) free
 
 -- ---- bytes behind those that are held
 
@@ -65,20 +65,20 @@ pub held_all : (line₀ bytes : List ℕ) (held count : ℕ) → held ≤ length
 held_all line₀ bytes held count within counted =
     let front : length (take held line₀) ≡ held = length-take-le held line₀ within in
     let whole : length (take held line₀) + (length line₀ - held) ≡ length line₀ = omega arith in
-    ap (λ (l : List ℕ). take held line₀ ++ l) (first-is bytes (length line₀ - held) count (omega arith))
+    ap (λ (l : List ℕ). take held line₀ ++ l) (first_is bytes (length line₀ - held) count (omega arith))
     ∙ sym (take-append-add (take held line₀) bytes (length line₀ - held))
     ∙ ap (λ (n : ℕ). take n (take held line₀ ++ bytes)) whole
 
 -- ---- a piece
 
 module _ {block line line' : List ℕ} {at held end r : ℕ} (found : FeedFrom block at end) (put : Held line held (between at end block) line' r)
-    (room : length line ≡ lineRoom) where
-  text-held : take r line' ≡ held_of (take held line ++ between at end block)
-  text-held = put.text ∙ ap (λ (n : ℕ). take n (take held line ++ between at end block)) room
+    (room : length line ≡ line_room) where
+  text_held : take r line' ≡ held_of (take held line ++ between at end block)
+  text_held = put.text ∙ ap (λ (n : ℕ). take n (take held line ++ between at end block)) room
 
   -- a line feed ends it
-  pub piece-whole : end < length block → Taken block at line held line' (record { next = end + 1; held = r; whole = true })
-  piece-whole there =
+  pub piece_whole : end < length block → Taken block at line held line' (record { next = end + 1; held = r; whole = true })
+  piece_whole there =
       record {
         bytes = between at end block;
         free = found.free;
@@ -86,20 +86,20 @@ module _ {block line line' : List ℕ} {at held end r : ℕ} (found : FeedFrom b
             between_more block at end found.onward there
             ∙ ap (λ (b : ℕ). between at end block ++ (b ∷ [])) (found.feed there);
         onward = λ h. omega (arith, found.onward);
-        next-within = omega arith;
-        held-within = put.within;
-        text = text-held;
+        next_within = omega arith;
+        held_within = put.within;
+        text = text_held;
       }
 
   -- the block's end does
-  pub piece-rest : length block ≤ end → Taken block at line held line' (record { next = end; held = r; whole = false })
-  piece-rest past =
+  pub piece_rest : length block ≤ end → Taken block at line held line' (record { next = end; held = r; whole = false })
+  piece_rest past =
       record {
         bytes = between at end block;
         free = found.free;
         part = refl;
         onward = λ h. omega arith;
-        next-within = found.within;
-        held-within = put.within;
-        text = text-held;
+        next_within = found.within;
+        held_within = put.within;
+        text = text_held;
       }

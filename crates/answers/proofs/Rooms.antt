@@ -11,61 +11,61 @@ use lib.ListN.{length}
 use Rattle.algebra.specs.declared.Basis.{Basis}
 use Rattle.algebra.specs.declared.Parity.{Parity}
 use Rattle.number.specs.Interval.{Ordered}
-use Rattle.number.specs.Limits.{planLimit}
+use Rattle.number.specs.Limits.{plan_limit}
 use Rattle.number.specs.inside.Between.{Between}
-use Rattle.counts.specs.Choice.{splitFor}
+use Rattle.counts.specs.Choice.{split_for}
 use Rattle.counts.specs.declared.choice.SplitStrategy.{SplitStrategy}
 use Rattle.lists.specs.Tree.{relists}
 use Rattle.plan.specs.PlanHead.{head_of}
-use Rattle.plan.specs.PlanCall.{plannedParity, Accepted, plannedDegree, headFor}
+use Rattle.plan.specs.PlanCall.{planned_parity, Accepted, planned_degree, head_for}
 use Rattle.plan.specs.PlanSizes.{HasSizes}
-use Rattle.plan.specs.inside.Outlines.{outlineFor}
+use Rattle.plan.specs.inside.Outlines.{outline_for}
 use Rattle.plan.specs.declared.sizes.PlanSizes.{PlanSizes}
-use Rattle.plan.proofs.StepCounts.{steps-counted}
-use Rattle.plan.proofs.HeadCounts.{OutlineRange, outline-range}
+use Rattle.plan.proofs.StepCounts.{steps_counted}
+use Rattle.plan.proofs.HeadCounts.{OutlineRange, outline_range}
 use Rattle.demands.specs.Accepts.{BringsPlan}
 use Rattle.demands.proofs.Accepts.{plannable}
-use Rattle.demands.proofs.Refusals.{sizes-told}
-use Rattle.answers.specs.Limits.{listRoom, stepRoom}
+use Rattle.demands.proofs.Refusals.{sizes_told}
+use Rattle.answers.specs.Limits.{list_room, step_room}
 
 module _ (strategy : SplitStrategy) (parity : Parity) (basis : Basis) (folded : Bool) (c : List ℤ) (accepted : Accepted folded parity c) where
   abbrev degree : ℕ
-  degree = plannedDegree strategy parity basis folded c
+  degree = planned_degree strategy parity basis folded c
 
-  pub degree-range : Between 1 (plannedDegree strategy parity basis folded c) planLimit
-  degree-range =
+  pub degree_range : Between 1 (planned_degree strategy parity basis folded c) plan_limit
+  degree_range =
       let facts = plannable folded parity basis c accepted in
       record { from = omega (arith, facts.several); to = facts.few }
 
   -- powers, lists, and allowed powers over all lists
-  pub counts-range : OutlineRange (outlineFor strategy (plannedParity folded parity) basis (plannedDegree strategy parity basis folded c))
-  counts-range = outline-range strategy (plannedParity folded parity) basis degree degree-range refl
+  pub counts_range : OutlineRange (outline_for strategy (planned_parity folded parity) basis (planned_degree strategy parity basis folded c))
+  counts_range = outline_range strategy (planned_parity folded parity) basis degree degree_range refl
 
   module _ (a b : Float) where
-    pub coefficients-most : (headFor strategy parity basis folded c a b).coefficients ≤ 4096
+    pub coefficients_most : (head_for strategy parity basis folded c a b).coefficients ≤ 4096
     unfolding head_of
-    coefficients-most = omega (arith, degree-range.to)
+    coefficients_most = omega (arith, degree_range.to)
 
-    pub lists-most : (headFor strategy parity basis folded c a b).lists ≤ 4096
+    pub lists_most : (head_for strategy parity basis folded c a b).lists ≤ 4096
     unfolding head_of
-    lists-most = omega (arith, counts-range.at_most)
+    lists_most = omega (arith, counts_range.at_most)
 
-    pub steps-most : (headFor strategy parity basis folded c a b).steps ≤ 12287
+    pub steps_most : (head_for strategy parity basis folded c a b).steps ≤ 12287
     unfolding head_of
-    steps-most =
-        let counted = steps-counted (relists strategy) (plannedParity folded parity) basis degree (splitFor strategy (plannedParity folded parity) basis degree)
-        in omega (arith, counted.steps, counts-range.powers, counts-range.at_most)
+    steps_most =
+        let counted = steps_counted (relists strategy) (planned_parity folded parity) basis degree (split_for strategy (planned_parity folded parity) basis degree)
+        in omega (arith, counted.steps, counts_range.powers, counts_range.at_most)
 
-pub rooms-enough : (strategy : SplitStrategy) (parity : Parity) (basis : Basis) (folded : Bool) (c : List ℤ) (a b : Float) (out : List ℤ)
-    (bounds steps : List ℕ) → Accepted folded parity c → Ordered a b → listRoom ≤ length out → listRoom ≤ length bounds → stepRoom ≤ length steps
+pub rooms_enough : (strategy : SplitStrategy) (parity : Parity) (basis : Basis) (folded : Bool) (c : List ℤ) (a b : Float) (out : List ℤ)
+    (bounds steps : List ℕ) → Accepted folded parity c → Ordered a b → list_room ≤ length out → list_room ≤ length bounds → step_room ≤ length steps
     → BringsPlan strategy parity basis folded c a b out bounds steps
-rooms-enough strategy parity basis folded c a b out bounds steps accepted ordered out-room bounds-room steps-room = record {
+rooms_enough strategy parity basis folded c a b out bounds steps accepted ordered out_room bounds_room steps_room = record {
   accepted = accepted;
   ordered = ordered;
-  long-enough = subst (λ (s : PlanSizes). HasSizes s (length out) (length bounds) (length steps)) (sizes-told strategy parity basis folded c a b)
+  long_enough = subst (λ (s : PlanSizes). HasSizes s (length out) (length bounds) (length steps)) (sizes_told strategy parity basis folded c a b)
       (record {
-        coefficients = omega (arith, coefficients-most strategy parity basis folded c accepted a b);
-        boundaries = omega (arith, lists-most strategy parity basis folded c accepted a b);
-        numbers = omega (arith, steps-most strategy parity basis folded c accepted a b);
+        coefficients = omega (arith, coefficients_most strategy parity basis folded c accepted a b);
+        boundaries = omega (arith, lists_most strategy parity basis folded c accepted a b);
+        numbers = omega (arith, steps_most strategy parity basis folded c accepted a b);
       });
 }

@@ -6,9 +6,9 @@ use Rattle.counts.specs.declared.choice.SplitStrategy.{SplitStrategy}
 use Rattle.lists.specs.Lists.{joined}
 use Rattle.plan.specs.PlanCall.{Accepted}
 use Rattle.texts.specs.ReadBack.{ReadBack}
-use Rattle.demands.specs.Right.{listsFor}
+use Rattle.demands.specs.Right.{lists_for}
 
 -- place k of the lists, one after another
 abbrev pub PrintedBack : Type 0
 PrintedBack = (strategy : SplitStrategy) (parity : Parity) (basis : Basis) (folded : Bool) (c : List ℤ) (k : ℕ) → Accepted folded parity c
-    → ReadBack (get_or (joined (listsFor strategy parity basis folded c)) k (pos 0))
+    → ReadBack (get_or (joined (lists_for strategy parity basis folded c)) k (pos 0))

@@ -1,9 +1,9 @@
 // The answer to a line.
 ghost use Rattle.std.specs.Prelude.{◌≤◌, ◌<◌, ◌^◌, length};
 ghost use Rattle.texts.specs.Put.{Put};
-ghost use Rattle.answers.specs.Answer.{answerText};
+ghost use Rattle.answers.specs.Answer.{answer_text};
 ghost use Rattle.answers.specs.inside.Rooms.{PlanRoom, AnswerRoom};
-ghost use Rattle.answers.specs.inside.TextFor.{textFor};
+ghost use Rattle.answers.specs.inside.TextFor.{text_for};
 
 use lines::{Line, read_line};
 use plan::plan;
@@ -22,7 +22,7 @@ fn put_planned(
     out: &mut [u8],
 ) -> usize
     requires { PlanRoom planned.old bounds.old steps.old at }
-    ensures { Put out.old at (textFor line.strategy line.parity line.basis line.fold c.now)
+    ensures { Put out.old at (text_for line.strategy line.parity line.basis line.fold c.now)
         out.new result }
 {
     let strategy = line.strategy;
@@ -50,7 +50,7 @@ pub fn put_answer(
     out: &mut [u8],
 ) -> usize
     requires { AnswerRoom coefficients.old planned.old bounds.old steps.old at }
-    ensures { Put out.old at (answerText line.now) out.new result }
+    ensures { Put out.old at (answer_text line.now) out.new result }
 {
     let read = read_line(line, coefficients);
     let refusal = read.refusal;

@@ -1,6 +1,6 @@
 // The bytes of a line that has not ended, held in a buffer.
 ghost use Rattle.std.specs.Prelude.{◌≤◌, ◌≡◌, length};
-ghost use Rattle.answers.specs.Limits.{lineRoom};
+ghost use Rattle.answers.specs.Limits.{line_room};
 ghost use Rattle.answers.specs.inside.Pieces.{FeedFrom, Held, Taken};
 
 use texts::line::least;
@@ -46,7 +46,7 @@ fn hold(line: &mut [u8], held: usize, bytes: &[u8]) -> usize
 pub fn take_piece(block: &[u8], at: usize, line: &mut [u8], held: usize) -> Piece
     requires at_in_bounds { at ≤ length block.now }
     requires held_in_bounds { held ≤ length line.old }
-    requires line_len { length line.old ≡ lineRoom }
+    requires line_len { length line.old ≡ line_room }
     ensures { Taken block.now at line.old held line.new result }
 {
     let end = feed_from(block, at);

@@ -1,10 +1,10 @@
 // The lines of a block: each is answered when its line feed is there.
 ghost use Rattle.std.specs.Prelude.{◌≡◌, ◌≤◌, length, take};
 ghost use Rattle.texts.specs.Put.{Put};
-ghost use Rattle.answers.specs.Turns.{endText};
+ghost use Rattle.answers.specs.Turns.{end_text};
 ghost use Rattle.answers.specs.TakeTurn.{TurnRoom, TakeTurn};
 ghost use Rattle.answers.specs.inside.Rooms.{AnswerRoom};
-ghost use Rattle.answers.specs.inside.Pieces.{pieceText, heldAfter};
+ghost use Rattle.answers.specs.inside.Pieces.{piece_text, held_after};
 
 use crate::answer::put_answer;
 use crate::hold::{Piece, take_piece};
@@ -31,7 +31,7 @@ fn put_piece(
 ) -> usize
     requires answer_room { AnswerRoom coefficients.old planned.old bounds.old steps.old at }
     requires held_in_bounds { piece.held ≤ length line.now }
-    ensures { Put out.old at (pieceText piece line.now) out.new result }
+    ensures { Put out.old at (piece_text piece line.now) out.new result }
 {
     if !piece.whole {
         return at;
@@ -42,7 +42,7 @@ fn put_piece(
 
 // How many bytes are held behind a piece.
 fn held_after(piece: Piece) -> usize
-    ensures { result ≡ heldAfter piece }
+    ensures { result ≡ held_after piece }
 {
     if piece.whole { 0 } else { piece.held }
 }
@@ -95,7 +95,7 @@ pub fn put_end(
 ) -> usize
     requires answer_room { AnswerRoom coefficients.old planned.old bounds.old steps.old 0 }
     requires held_in_bounds { held ≤ length line.now }
-    ensures { Put out.old 0 (endText (take held line.now)) out.new result }
+    ensures { Put out.old 0 (end_text (take held line.now)) out.new result }
 {
     if held == 0 {
         return 0;

@@ -2,8 +2,8 @@
 use Rattle.std.specs.Prelude.{◌≡◌, true, false, ◌↔◌, List, map, ℕ, ◌≤◌, ◌<◌, ◌%◌, ℤ, pos, nat_abs, length, get_or}
 use Rattle.algebra.specs.Allowed.{HasParity}
 use Rattle.algebra.specs.Homomorphism.{Homomorphism}
-use Rattle.algebra.specs.Magnitude.{sumAbs}
-use Rattle.algebra.specs.Operations.{wholeOps}
+use Rattle.algebra.specs.Magnitude.{sum_abs}
+use Rattle.algebra.specs.Operations.{whole_ops}
 use Rattle.algebra.specs.Ring.{Ring}
 use Rattle.algebra.specs.Value.{value}
 use Rattle.algebra.specs.declared.Basis.{Basis}
@@ -14,11 +14,11 @@ use Rattle.bases.specs.Convert.{is_whole, converted}
 
 -- d, written in `to`, has the value of c, written in the other basis, at every whole number
 abbrev pub SameAtWholes : (to : Basis) → (c d : List ℤ) → Type 0
-SameAtWholes to c d = (x : ℤ) → value wholeOps to x d ≡ value wholeOps (other to) x c
+SameAtWholes to c d = (x : ℤ) → value whole_ops to x d ≡ value whole_ops (other to) x c
 
 -- and at every point of every ring that the whole numbers map to, such as the fractions
 abbrev pub SameEverywhere : (to : Basis) → (c d : List ℤ) → Type 1
-SameEverywhere to c d = (B : Type 0) (𝓡 : Ring B) (φ : ℤ → B) → Homomorphism wholeOps 𝓡.ops φ → (x : B)
+SameEverywhere to c d = (B : Type 0) (𝓡 : Ring B) (φ : ℤ → B) → Homomorphism whole_ops 𝓡.ops φ → (x : B)
     → value 𝓡.ops to x (map φ d) ≡ value 𝓡.ops (other to) x (map φ c)
 
 -- ---- the value is kept
@@ -26,7 +26,7 @@ SameEverywhere to c d = (B : Type 0) (𝓡 : Ring B) (φ : ℤ → B) → Homomo
 -- a conversion keeps the length, and the value everywhere
 pub record Kept (to : Basis) (c : List ℤ) : Type 1 where
   pub same_length : length (converted to c) ≡ length c
-  pub at-wholes : SameAtWholes to c (converted to c)
+  pub at_wholes : SameAtWholes to c (converted to c)
   pub everywhere : SameEverywhere to c (converted to c)
 
 abbrev pub ValuesKept : Type 1
@@ -34,7 +34,7 @@ ValuesKept = (to : Basis) (c : List ℤ) → is_whole to c ≡ true → Kept to 
 
 -- a polynomial of a parity in one basis has it in the other
 abbrev pub ParityKept : Type 0
-ParityKept = (to : Basis) (parity : Parity) (c : List ℤ) → HasParity wholeOps parity c → HasParity wholeOps parity (converted to c)
+ParityKept = (to : Basis) (parity : Parity) (c : List ℤ) → HasParity whole_ops parity c → HasParity whole_ops parity (converted to c)
 
 -- ---- there are no others
 
@@ -68,4 +68,4 @@ ThereAndBack = (to : Basis) (c : List ℤ) → is_whole to c ≡ true → Back t
 
 -- written in the T_i, the magnitudes sum to no more than before
 abbrev pub NoLarger : Type 0
-NoLarger = (c : List ℤ) → is_whole Chebyshev c ≡ true → sumAbs (converted Chebyshev c) ≤ sumAbs c
+NoLarger = (c : List ℤ) → is_whole Chebyshev c ≡ true → sum_abs (converted Chebyshev c) ≤ sum_abs c

@@ -6,63 +6,63 @@ use Prim.Native.Nat.{ℕ, zero, suc, ◌≤◌, ◌<◌}
 use native.Mathlib.Omega.{arith}
 use lib.IntN.{ℤ, pos}
 use lib.ListN.{length, replicate, length-replicate}
-use Rattle.algebra.specs.Magnitude.{sumAbs}
+use Rattle.algebra.specs.Magnitude.{sum_abs}
 use Rattle.algebra.specs.declared.Parity.{Parity}
-use Rattle.number.specs.Tests.{degreeOf}
+use Rattle.number.specs.Tests.{degree_of}
 use Rattle.walk.proofs.RunLaws.{get_d_replicate}
-use Rattle.plan.specs.PlanCall.{Accepted, planAnswer, planCoefficients, planBoundaries, planNumbers}
-use Rattle.demands.proofs.Accepts.{covered-accepted}
-use Rattle.demands.proofs.Weighed.{plans-weighed}
-use Rattle.answers.specs.Limits.{listRoom, stepRoom}
-use Rattle.answers.specs.LineInterval.{minusOne, plusOne}
-use Rattle.answers.proofs.LineInterval.{ones-ordered}
-use Rattle.answers.proofs.Rooms.{rooms-enough}
-use Rattle.chains.specs.ZeroChain.{noCoefficients, noBounds, noSteps, basisOf, parityOf, strategyOf, zeroCurve}
+use Rattle.plan.specs.PlanCall.{Accepted, plan_answer, plan_coefficients, plan_boundaries, plan_numbers}
+use Rattle.demands.proofs.Accepts.{covered_accepted}
+use Rattle.demands.proofs.Weighed.{plans_weighed}
+use Rattle.answers.specs.Limits.{list_room, step_room}
+use Rattle.answers.specs.LineInterval.{minus_one, plus_one}
+use Rattle.answers.proofs.LineInterval.{ones_ordered}
+use Rattle.answers.proofs.Rooms.{rooms_enough}
+use Rattle.chains.specs.ZeroChain.{no_coefficients, no_bounds, no_steps, basis_of, parity_of, strategy_of, zero_curve}
 use Rattle.chains.specs.ZerosWeighed.{ZerosWeighed}
 
-zeros-sum : (n : ℕ) → sumAbs (replicate n (pos 0)) ≡ 0
-unfolding sumAbs
-zeros-sum zero = refl
-zeros-sum (suc n) = omega (arith, zeros-sum n)
+zeros_sum : (n : ℕ) → sum_abs (replicate n (pos 0)) ≡ 0
+unfolding sum_abs
+zeros_sum zero = refl
+zeros_sum (suc n) = omega (arith, zeros_sum n)
 
-zeros-degree : (degree : ℕ) → degreeOf (zeroCurve degree) ≡ degree
-zeros-degree degree = let places = length-replicate {A = ℤ} degree (pos 0) in omega arith
+zeros_degree : (degree : ℕ) → degree_of (zero_curve degree) ≡ degree
+zeros_degree degree = let places = length-replicate {A = ℤ} degree (pos 0) in omega arith
 
-zeros-accepted : (parity : Parity) (degree : ℕ) → 1 ≤ degree → degree < listRoom → Accepted false parity (zeroCurve degree)
-zeros-accepted parity degree from to =
-    (covered-accepted false parity (zeroCurve degree)).1 (record {
-      degree-from = omega (arith, zeros-degree degree);
-      degree-to = omega (arith, zeros-degree degree);
-      magnitudes = rw (zeros-sum (suc degree)) (omega arith);
-      right-parity = λ j left_out. get_d_replicate (pos 0) (suc degree) j;
+zeros_accepted : (parity : Parity) (degree : ℕ) → 1 ≤ degree → degree < list_room → Accepted false parity (zero_curve degree)
+zeros_accepted parity degree from to =
+    (covered_accepted false parity (zero_curve degree)).1 (record {
+      degree_from = omega (arith, zeros_degree degree);
+      degree_to = omega (arith, zeros_degree degree);
+      magnitudes = rw (zeros_sum (suc degree)) (omega arith);
+      right_parity = λ j left_out. get_d_replicate (pos 0) (suc degree) j;
       foldable = λ folded. absurd (false≢true folded);
     })
 
 -- the lengths of the buffers
-list-places : length noCoefficients ≡ listRoom
-unfolding noCoefficients
-list-places = length-replicate {A = ℤ} listRoom (pos 0)
+list_places : length no_coefficients ≡ list_room
+unfolding no_coefficients
+list_places = length-replicate {A = ℤ} list_room (pos 0)
 
-bound-places : length noBounds ≡ listRoom
-unfolding noBounds
-bound-places = length-replicate {A = ℕ} listRoom 0
+bound_places : length no_bounds ≡ list_room
+unfolding no_bounds
+bound_places = length-replicate {A = ℕ} list_room 0
 
-step-places : length noSteps ≡ stepRoom
-unfolding noSteps
-step-places = length-replicate {A = ℕ} stepRoom 0
+step_places : length no_steps ≡ step_room
+unfolding no_steps
+step_places = length-replicate {A = ℕ} step_room 0
 
-pub zeros-weighed : ZerosWeighed
-zeros-weighed letters degree from to =
-    let strategy = strategyOf letters in
-    let parity = parityOf letters in
-    let basis = basisOf letters in
-    let curve = zeroCurve degree in
-    let accepted = zeros-accepted parity degree from to in
-    let brings = rooms-enough strategy parity basis false curve minusOne plusOne noCoefficients noBounds noSteps accepted ones-ordered
-    (omega (arith, list-places)) (omega (arith, bound-places)) (omega (arith, step-places)) in
-    plans-weighed strategy parity basis false curve minusOne plusOne noCoefficients noBounds noSteps
-    (planAnswer strategy parity basis false curve minusOne plusOne noCoefficients noBounds noSteps)
-    (planCoefficients strategy parity basis false curve minusOne plusOne noCoefficients noBounds noSteps)
-    (planBoundaries strategy parity basis false curve minusOne plusOne noCoefficients noBounds noSteps)
-    (planNumbers strategy parity basis false curve minusOne plusOne noCoefficients noBounds noSteps) 30 20 brings
+pub zeros_weighed : ZerosWeighed
+zeros_weighed letters degree from to =
+    let strategy = strategy_of letters in
+    let parity = parity_of letters in
+    let basis = basis_of letters in
+    let curve = zero_curve degree in
+    let accepted = zeros_accepted parity degree from to in
+    let brings = rooms_enough strategy parity basis false curve minus_one plus_one no_coefficients no_bounds no_steps accepted ones_ordered
+    (omega (arith, list_places)) (omega (arith, bound_places)) (omega (arith, step_places)) in
+    plans_weighed strategy parity basis false curve minus_one plus_one no_coefficients no_bounds no_steps
+    (plan_answer strategy parity basis false curve minus_one plus_one no_coefficients no_bounds no_steps)
+    (plan_coefficients strategy parity basis false curve minus_one plus_one no_coefficients no_bounds no_steps)
+    (plan_boundaries strategy parity basis false curve minus_one plus_one no_coefficients no_bounds no_steps)
+    (plan_numbers strategy parity basis false curve minus_one plus_one no_coefficients no_bounds no_steps) 30 20 brings
     (record { answer = refl; coefficients = refl; boundaries = refl; numbers = refl }) (omega arith) (omega arith)

@@ -1,6 +1,6 @@
 // The settings without folding, by their letters: strategy changes fastest, then parity, then basis.
 ghost use Rattle.std.specs.Prelude.{◌≡◌};
-ghost use Rattle.chains.specs.Letters.{lettersAt};
+ghost use Rattle.chains.specs.Letters.{letters_at};
 
 // The letters of basis, parity and strategy.
 #[derive(Drop)]
@@ -12,7 +12,7 @@ pub struct Letters {
 
 // The letters of setting k.
 pub fn letters_at(k: usize) -> Letters
-    ensures { result ≡ lettersAt k }
+    ensures { result ≡ letters_at k }
 {
     let bases = [b'M', b'C'];
     let parities = [b'F', b'E', b'O'];

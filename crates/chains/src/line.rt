@@ -2,7 +2,7 @@
 ghost use Rattle.std.specs.Prelude.{[], ◌∷◌, ◌+◌, ◌≤◌, ◌<◌, ◌^◌};
 ghost use Rattle.lines.specs.Bytes.{tab};
 ghost use Rattle.texts.specs.Put.{Put};
-ghost use Rattle.chains.specs.Line.{lineRoom, settingText, chainLine};
+ghost use Rattle.chains.specs.Line.{line_room, setting_text, chain_line};
 
 use crate::letters::Letters;
 use texts::decimal::{put, put_number};
@@ -20,7 +20,7 @@ fn put_letter_field(out: &mut [u8], at: usize, letter: u8) -> usize
 // Puts the degree and the letters, at most 26 bytes, and returns the place behind them.
 fn put_setting(out: &mut [u8], at: usize, degree: usize, letters: Letters) -> usize
     requires { at < 2 ^ 62 }
-    ensures { Put out.old at (settingText degree letters) out.new result × (result ≤ at + 26) }
+    ensures { Put out.old at (setting_text degree letters) out.new result × (result ≤ at + 26) }
 {
     let behind = put_number(out, at, degree as u64);
     let basis = put_letter_field(out, behind, letters.basis);
@@ -38,7 +38,7 @@ pub fn put_line(
     bits: u64,
 ) -> usize
     requires { at < 2 ^ 62 }
-    ensures { Put out.old at (chainLine degree letters chain bits) out.new result × (result ≤ at + lineRoom) }
+    ensures { Put out.old at (chain_line degree letters chain bits) out.new result × (result ≤ at + line_room) }
 {
     let setting = put_setting(out, at, degree, letters);
     let weight = put_number_field(out, setting, chain);

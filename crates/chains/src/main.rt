@@ -6,7 +6,7 @@ mod table;
 mod weigh;
 
 ghost use Rattle.std.specs.Prelude.{◌≡◌, length};
-ghost use Rattle.chains.specs.Table.{tableRoom};
+ghost use Rattle.chains.specs.Table.{table_room};
 
 use streams::write_text;
 use table::put_chains;
@@ -16,7 +16,7 @@ const TABLE_ROOM: usize = 489600;
 
 // A buffer for all lines. The contract keeps its length alone, so that no proof looks at half a million zeros.
 fn text_buffer() -> [u8; TABLE_ROOM]
-    ensures { tableRoom ≡ length result }
+    ensures { table_room ≡ length result }
 {
     [0; TABLE_ROOM]
 }

@@ -1,7 +1,7 @@
 // The two numbers of a line.
 ghost use Rattle.std.specs.Prelude.{◌≡◌, ◌<◌};
-ghost use Rattle.answers.specs.Limits.{listRoom};
-ghost use Rattle.chains.specs.ZeroChain.{noCoefficients, noBounds, noSteps, zeroChain, closedBits};
+ghost use Rattle.answers.specs.Limits.{list_room};
+ghost use Rattle.chains.specs.ZeroChain.{no_coefficients, no_bounds, no_steps, zero_chain, closed_bits};
 
 use crate::letters::Letters;
 use answers::{LIST_ROOM, STEP_ROOM};
@@ -15,27 +15,27 @@ const COEFF: usize = 20;
 
 // Buffers of zeros.
 fn no_coefficients() -> [i64; LIST_ROOM]
-    ensures { result ≡ noCoefficients }
+    ensures { result ≡ no_coefficients }
 {
     [0; LIST_ROOM]
 }
 
 fn no_bounds() -> [u16; LIST_ROOM]
-    ensures { result ≡ noBounds }
+    ensures { result ≡ no_bounds }
 {
     [0; LIST_ROOM]
 }
 
 fn no_steps() -> [u16; STEP_ROOM]
-    ensures { result ≡ noSteps }
+    ensures { result ≡ no_steps }
 {
     [0; STEP_ROOM]
 }
 
 // The heaviest chain of the zero curve's plan, which is made in buffers of its own.
 pub fn weigh_zeros(letters: Letters, degree: usize) -> u64
-    requires { degree < listRoom }
-    ensures { result ≡ (zeroChain letters degree).weight }
+    requires { degree < list_room }
+    ensures { result ≡ (zero_chain letters degree).weight }
 {
     let curve = no_coefficients();
     let mut coefficients = no_coefficients();
@@ -60,7 +60,7 @@ pub fn weigh_zeros(letters: Letters, degree: usize) -> u64
 
 // The bits of the closed form.
 pub fn closed_bits(letters: Letters, degree: usize) -> u64
-    ensures { result ≡ (closedBits letters degree).bits }
+    ensures { result ≡ (closed_bits letters degree).bits }
 {
     let consumed = bsgs_consumed_bits(strategy_of(letters.strategy), degree, INPUT, COEFF);
     consumed.bits as u64

@@ -8,38 +8,38 @@ use lib.IntN.{ℤ, pos, negsuc, neg_ℤ, nat_abs, ◌+ℤ◌, ◌*ℤ◌}
 use lib.ListN.{length, replicate, take}
 use lib.Pow.{pow_pos, pow_mono}
 use lib.Signed.{mag, quot_z}
-use Rattle.algebra.specs.Magnitude.{sumAbs}
-use Rattle.algebra.specs.Operations.{wholeOps}
+use Rattle.algebra.specs.Magnitude.{sum_abs}
+use Rattle.algebra.specs.Operations.{whole_ops}
 use Rattle.algebra.specs.declared.Basis.{Basis}
 use Rattle.algebra.specs.declared.Basis.TheVariants.{Monomial, Chebyshev}
-use Rattle.algebra.proofs.Magnitudes.{abs-add, abs-mul, abs-getD, sumAbs-take, sumAbs-take-suc}
-use Rattle.algebra.proofs.Sums.{sum-none, sum-suc}
+use Rattle.algebra.proofs.Magnitudes.{abs_add, abs_mul, abs_get_d, sum_abs_take, sum_abs_take_suc}
+use Rattle.algebra.proofs.Sums.{sum_none, sum_suc}
 use Rattle.bases.specs.Rows.{denominator, row_of}
-use Rattle.bases.specs.Convert.{quotient_of, newCoefficient, tabulate, converted}
-use Rattle.bases.proofs.Convert.{length-tabulate, get_d_tabulate, tabulate-ext, tabulate-constant, quotient-small}
+use Rattle.bases.specs.Convert.{quotient_of, new_coefficient, tabulate, converted}
+use Rattle.bases.proofs.Convert.{length_tabulate, get_d_tabulate, tabulate_ext, tabulate_constant, quotient_small}
 use Rattle.conversion.specs.inside.Converting.{places_of, IsRow, Convertible, with_row, TermsFit, part_of}
 use Rattle.conversion.proofs.Growth.{row_small}
 
 -- ---- denominators
 
-pub denominator-some : (to : Basis) (n : ℕ) → 0 < denominator to n
-denominator-some Monomial n = omega arith
-denominator-some Chebyshev n = pow_pos (n - 1)
+pub denominator_some : (to : Basis) (n : ℕ) → 0 < denominator to n
+denominator_some Monomial n = omega arith
+denominator_some Chebyshev n = pow_pos (n - 1)
 
-pub denominator-small : (to : Basis) (n : ℕ) → n ≤ 20 → denominator to n ≤ 2 ^ 20
-denominator-small Monomial n low = omega arith
-denominator-small Chebyshev n low = let less : n - 1 ≤ 20 = omega arith in pow_mono less
+pub denominator_small : (to : Basis) (n : ℕ) → n ≤ 20 → denominator to n ≤ 2 ^ 20
+denominator_small Monomial n low = omega arith
+denominator_small Chebyshev n low = let less : n - 1 ≤ 20 = omega arith in pow_mono less
 
 -- ---- quotients
 
-mag-neg : (k n : ℕ) → k ≤ suc n → mag (neg_ℤ (pos k)) ≤ n
-mag-neg zero n h = omega arith
-mag-neg (suc k) n h = omega arith
+mag_neg : (k n : ℕ) → k ≤ suc n → mag (neg_ℤ (pos k)) ≤ n
+mag_neg zero n h = omega arith
+mag_neg (suc k) n h = omega arith
 
 -- a quotient fits where the number does
-pub quotient-mag : (z : ℤ) (m : ℕ) → mag (quot_z z (pos m)) ≤ mag z
-quotient-mag (pos n) m = div-le_self n m
-quotient-mag (negsuc n) m = mag-neg (suc n / m) n (div-le_self (suc n) m)
+pub quotient_mag : (z : ℤ) (m : ℕ) → mag (quot_z z (pos m)) ≤ mag z
+quotient_mag (pos n) m = div-le_self n m
+quotient_mag (negsuc n) m = mag_neg (suc n / m) n (div-le_self (suc n) m)
 
 -- ---- the sums of the first n terms
 
@@ -50,51 +50,51 @@ module _ (to : Basis) (c : List ℤ) where
 
   -- term k of the new coefficient i
   abbrev term : (i k : ℕ) → ℤ
-  term i k = q k *ℤ row_of wholeOps to k i
+  term i k = q k *ℤ row_of whole_ops to k i
 
-  pub sums-start : replicate (length c) (pos 0) ≡ tabulate (length c) (part_of to c 0)
-  sums-start =
-      sym (tabulate-constant (length c) (pos 0))
-      ∙ tabulate-ext (length c) (λ i. pos 0) (part_of to c 0) (λ i below. sym (sum-none wholeOps (term i)))
+  pub sums_start : replicate (length c) (pos 0) ≡ tabulate (length c) (part_of to c 0)
+  sums_start =
+      sym (tabulate_constant (length c) (pos 0))
+      ∙ tabulate_ext (length c) (λ i. pos 0) (part_of to c 0) (λ i below. sym (sum_none whole_ops (term i)))
 
-  pub sums-step : (n : ℕ) (row : List ℤ) → IsRow to n row
+  pub sums_step : (n : ℕ) (row : List ℤ) → IsRow to n row
       → with_row (q n) row (tabulate (length c) (part_of to c n)) ≡ tabulate (length c) (part_of to c (suc n))
-  sums-step n row is =
+  sums_step n row is =
       ap (λ (k : ℕ). tabulate k (λ i. places_of (tabulate (length c) (part_of to c n)) i +ℤ q n *ℤ places_of row i))
-      (length-tabulate (length c) (part_of to c n))
-      ∙ tabulate-ext (length c) _ (part_of to c (suc n))
-      (λ i below. ap₂ ◌+ℤ◌ (get_d_tabulate (length c) (part_of to c n) i (pos 0) below) (ap (q n *ℤ◌) (is.each i)) ∙ sym (sum-suc wholeOps (term i) n))
+      (length_tabulate (length c) (part_of to c n))
+      ∙ tabulate_ext (length c) _ (part_of to c (suc n))
+      (λ i below. ap₂ ◌+ℤ◌ (get_d_tabulate (length c) (part_of to c n) i (pos 0) below) (ap (q n *ℤ◌) (is.each i)) ∙ sym (sum_suc whole_ops (term i) n))
 
-  pub sums-end : (n : ℕ) → n ≡ length c → tabulate (length c) (part_of to c n) ≡ converted to c
-  unfolding newCoefficient
-  sums-end n is = ap (λ (k : ℕ). tabulate (length c) (part_of to c k)) is
+  pub sums_end : (n : ℕ) → n ≡ length c → tabulate (length c) (part_of to c n) ≡ converted to c
+  unfolding new_coefficient
+  sums_end n is = ap (λ (k : ℕ). tabulate (length c) (part_of to c k)) is
 
   module _ (ready : Convertible c) where
     -- a term is at most its coefficient times 3^20
-    term-small : (i n : ℕ) → n < length c → nat_abs (q n) * nat_abs (row_of wholeOps to n i) ≤ nat_abs (places_of c n) * 3486784401
-    term-small i n within =
+    term_small : (i n : ℕ) → n < length c → nat_abs (q n) * nat_abs (row_of whole_ops to n i) ≤ nat_abs (places_of c n) * 3486784401
+    term_small i n within =
         let few = ready.few in
         let low : n ≤ 20 = omega arith in
-        mul-le-mul (quotient-small (places_of c n) (denominator to n)) (row_small to n i low)
+        mul-le-mul (quotient_small (places_of c n) (denominator to n)) (row_small to n i low)
 
-    part_small : (i n : ℕ) → n ≤ length c → nat_abs (part_of to c n i) ≤ sumAbs (take n c) * 3486784401
-    part_small i zero within = omega (arith, ap nat_abs (sum-none wholeOps (term i)))
+    part_small : (i n : ℕ) → n ≤ length c → nat_abs (part_of to c n i) ≤ sum_abs (take n c) * 3486784401
+    part_small i zero within = omega (arith, ap nat_abs (sum_none whole_ops (term i)))
     part_small i (suc n) within =
         omega (
           arith,
-          ap nat_abs (sum-suc wholeOps (term i) n),
-          abs-add (part_of to c n i) (term i n),
-          abs-mul (q n) (row_of wholeOps to n i),
+          ap nat_abs (sum_suc whole_ops (term i) n),
+          abs_add (part_of to c n i) (term i n),
+          abs_mul (q n) (row_of whole_ops to n i),
           part_small i n (omega arith),
-          term-small i n (omega arith),
-          sumAbs-take-suc c n (omega arith),
+          term_small i n (omega arith),
+          sum_abs_take_suc c n (omega arith),
         )
 
     -- a sum and the next term fit, since 2^31·3^20 is below 2^63
-    pub terms-fit : (n : ℕ) (row : List ℤ) → n < length c → length row ≡ 21 → IsRow to n row → TermsFit (q n) row (tabulate (length c) (part_of to c n))
-    terms-fit n row within long is =
+    pub terms_fit : (n : ℕ) (row : List ℤ) → n < length c → length row ≡ 21 → IsRow to n row → TermsFit (q n) row (tabulate (length c) (part_of to c n))
+    terms_fit n row within long is =
         let few = ready.few in
-        let sums-long : length (tabulate (length c) (part_of to c n)) ≡ length c = length-tabulate (length c) (part_of to c n) in
+        let sums_long : length (tabulate (length c) (part_of to c n)) ≡ length c = length_tabulate (length c) (part_of to c n) in
         record { reaches = omega arith; fits = λ i below. at_place i (omega arith) }
       where
         at_place : (i : ℕ) → i < length c
@@ -102,4 +102,4 @@ module _ (to : Basis) (c : List ℤ) where
         at_place i below =
             let small = ready.small in
             rw (get_d_tabulate (length c) (part_of to c n) i (pos 0) below, is.each i)
-            (omega (arith, part_small i n (omega arith), term-small i n within, sumAbs-take n c, abs-getD c n))
+            (omega (arith, part_small i n (omega arith), term_small i n within, sum_abs_take n c, abs_get_d c n))

@@ -9,100 +9,100 @@ use lib.Dec.{ltb}
 use lib.IntN.{ℤ}
 use lib.ListN.{length}
 use lib.Seq.{sets}
-use Rattle.algebra.specs.Magnitude.{sumAbs}
+use Rattle.algebra.specs.Magnitude.{sum_abs}
 use Rattle.algebra.specs.declared.Basis.{Basis}
-use Rattle.number.specs.Limits.{sumLimit}
-use Rattle.number.specs.Numbers.{wholeNumbers}
-use Rattle.number.specs.Refusal.{firstRefusal, unlessRefused}
-use Rattle.number.specs.Tests.{tooLarge, noRoom}
-use Rattle.number.proofs.Refusal.{none-holds, first-kept, first-of-more}
-use Rattle.bases.specs.Convert.{is_whole, newCoefficient, converted}
-use Rattle.bases.proofs.Convert.{length-tabulate}
-use Rattle.conversion.specs.ConvertCall.{refusalFor, convertAnswer, convertBuffer, ConvertCall}
+use Rattle.number.specs.Limits.{sum_limit}
+use Rattle.number.specs.Numbers.{whole_numbers}
+use Rattle.number.specs.Refusal.{first_refusal, unless_refused}
+use Rattle.number.specs.Tests.{too_large, no_room}
+use Rattle.number.proofs.Refusal.{none_holds, first_kept, first_of_more}
+use Rattle.bases.specs.Convert.{is_whole, new_coefficient, converted}
+use Rattle.bases.proofs.Convert.{length_tabulate}
+use Rattle.conversion.specs.ConvertCall.{refusal_for, convert_answer, convert_buffer, ConvertCall}
 use Rattle.conversion.specs.inside.Converting.{Convertible}
-use Rattle.conversion.specs.inside.Tested.{inputTests, inputRefusal, outputTests, outputRefusal}
+use Rattle.conversion.specs.inside.Tested.{input_tests, input_refusal, output_tests, output_refusal}
 
 -- ---- the ways out
 
 module _ (to : Basis) (c : List ℤ) where
-  pub too-high : ltb 20 (length c - 1) ≡ true → 37 ≡ inputRefusal to c
-  unfolding inputRefusal
-  too-high h = rw h
+  pub too_high_lem : ltb 20 (length c - 1) ≡ true → 37 ≡ input_refusal to c
+  unfolding input_refusal
+  too_high_lem h = rw h
 
   module _ (low : ltb 20 (length c - 1) ≡ false) where
-    pub too_large : not (wholeNumbers.small c) ≡ true → 3 ≡ inputRefusal to c
-    unfolding inputRefusal
-    too_large s = rw (low, s)
+    pub too_large_lem : not (whole_numbers.small c) ≡ true → 3 ≡ input_refusal to c
+    unfolding input_refusal
+    too_large_lem s = rw (low, s)
 
-    module _ (small : not (wholeNumbers.small c) ≡ false) where
-      pub not-whole : is_whole to c ≡ false → 38 ≡ inputRefusal to c
-      unfolding inputRefusal
-      not-whole w = rw (low, small, w)
+    module _ (small : not (whole_numbers.small c) ≡ false) where
+      pub not_whole_lem : is_whole to c ≡ false → 38 ≡ input_refusal to c
+      unfolding input_refusal
+      not_whole_lem w = rw (low, small, w)
 
-      pub whole : is_whole to c ≡ true → 0 ≡ inputRefusal to c
-      unfolding inputRefusal
+      pub whole : is_whole to c ≡ true → 0 ≡ input_refusal to c
+      unfolding input_refusal
       whole w = rw (low, small, w)
 
 module _ (new : List ℤ) (room : ℕ) where
-  pub new-too-large : not (wholeNumbers.small new) ≡ true → 3 ≡ outputRefusal new room
-  unfolding outputRefusal
-  new-too-large s = rw s
+  pub new_too_large : not (whole_numbers.small new) ≡ true → 3 ≡ output_refusal new room
+  unfolding output_refusal
+  new_too_large s = rw s
 
-  module _ (small : not (wholeNumbers.small new) ≡ false) where
-    pub no_room : ltb room (length new) ≡ true → 21 ≡ outputRefusal new room
-    unfolding outputRefusal
-    no_room o = rw (small, o)
+  module _ (small : not (whole_numbers.small new) ≡ false) where
+    pub no_room_lem : ltb room (length new) ≡ true → 21 ≡ output_refusal new room
+    unfolding output_refusal
+    no_room_lem o = rw (small, o)
 
-    pub enough-room : ltb room (length new) ≡ false → 0 ≡ outputRefusal new room
-    unfolding outputRefusal
-    enough-room o = rw (small, o)
+    pub enough_room : ltb room (length new) ≡ false → 0 ≡ output_refusal new room
+    unfolding output_refusal
+    enough_room o = rw (small, o)
 
 -- ---- the two parts are all tests
 
 module _ (to : Basis) (c : List ℤ) (room : ℕ) where
-  pub refused-early : 0 < inputRefusal to c → refusalFor to c room ≡ inputRefusal to c
-  unfolding inputRefusal refusalFor
-  refused-early some = first-kept (inputTests to c) (tooLarge wholeNumbers (converted to c) ∷ noRoom room (length c) ∷ []) some
+  pub refused_early : 0 < input_refusal to c → refusal_for to c room ≡ input_refusal to c
+  unfolding input_refusal refusal_for
+  refused_early some = first_kept (input_tests to c) (too_large whole_numbers (converted to c) ∷ no_room room (length c) ∷ []) some
 
-  pub tested-late : inputRefusal to c ≡ 0 → refusalFor to c room ≡ outputRefusal (converted to c) room
-  unfolding inputRefusal outputRefusal refusalFor
-  tested-late none =
-      first-of-more (inputTests to c) (tooLarge wholeNumbers (converted to c) ∷ noRoom room (length c) ∷ [])
+  pub tested_late : input_refusal to c ≡ 0 → refusal_for to c room ≡ output_refusal (converted to c) room
+  unfolding input_refusal output_refusal refusal_for
+  tested_late none =
+      first_of_more (input_tests to c) (too_large whole_numbers (converted to c) ∷ no_room room (length c) ∷ [])
       (omega arith, (omega arith, (omega arith, tt))) none
-      ∙ ap (λ (n : ℕ). firstRefusal (tooLarge wholeNumbers (converted to c) ∷ noRoom room n ∷ []))
-      (sym (length-tabulate (length c) (newCoefficient to c)))
+      ∙ ap (λ (n : ℕ). first_refusal (too_large whole_numbers (converted to c) ∷ no_room room n ∷ []))
+      (sym (length_tabulate (length c) (new_coefficient to c)))
 
 -- ---- what a call that every test passes knows
 
-pub ready : (c : List ℤ) → ltb 20 (length c - 1) ≡ false → wholeNumbers.small c ≡ true → Convertible c
+pub ready : (c : List ℤ) → ltb 20 (length c - 1) ≡ false → whole_numbers.small c ≡ true → Convertible c
 ready c low small =
-    let few = ltb-false 20 (length c - 1) low in record { few = omega arith; small = leb-true (sumAbs c) sumLimit small }
+    let few = ltb-false 20 (length c - 1) low in record { few = omega arith; small = leb-true (sum_abs c) sum_limit small }
 
-pub input-ready : (to : Basis) (c : List ℤ) → inputRefusal to c ≡ 0 → Convertible c
-unfolding inputRefusal
-input-ready to c none =
-    let all = none-holds (inputTests to c) (omega arith, (omega arith, (omega arith, tt))) none in
-    ready c all.0 (not-false (wholeNumbers.small c) all.1.0)
+pub input_ready : (to : Basis) (c : List ℤ) → input_refusal to c ≡ 0 → Convertible c
+unfolding input_refusal
+input_ready to c none =
+    let all = none_holds (input_tests to c) (omega arith, (omega arith, (omega arith, tt))) none in
+    ready c all.0 (not-false (whole_numbers.small c) all.1.0)
 
-pub output-room : (new : List ℤ) (room : ℕ) → outputRefusal new room ≡ 0 → length new ≤ room
-unfolding outputRefusal
-output-room new room none =
-    let all = none-holds (outputTests new room) (omega arith, (omega arith, tt)) none in
+pub output_room : (new : List ℤ) (room : ℕ) → output_refusal new room ≡ 0 → length new ≤ room
+unfolding output_refusal
+output_room new room none =
+    let all = none_holds (output_tests new room) (omega arith, (omega arith, tt)) none in
     ltb-false room (length new) all.1.0
 
 -- ---- what it answers and leaves
 
-pub call-refused : (to : Basis) (c out : List ℤ) (k : ℕ) → k ≡ refusalFor to c (length out) → 0 < k
+pub call_refused : (to : Basis) (c out : List ℤ) (k : ℕ) → k ≡ refusal_for to c (length out) → 0 < k
     → ConvertCall to c out (record { refusal = k; count = 0 }) out
-unfolding convertAnswer convertBuffer unlessRefused
-call-refused to c out zero is some = absurd (omega arith)
-call-refused to c out (suc k) is some = record { answer = rw (sym is); buffer = rw (sym is) }
+unfolding convert_answer convert_buffer unless_refused
+call_refused to c out zero is some = absurd (omega arith)
+call_refused to c out (suc k) is some = record { answer = rw (sym is); buffer = rw (sym is) }
 
-pub call-refused-early : (to : Basis) (c out : List ℤ) (k : ℕ) → k ≡ inputRefusal to c → 0 < k → ConvertCall to c out (record { refusal = k; count = 0 }) out
-call-refused-early to c out k is some =
-    call-refused to c out k (is ∙ sym (refused-early to c (length out) (omega (arith, is)))) some
+pub call_refused_early : (to : Basis) (c out : List ℤ) (k : ℕ) → k ≡ input_refusal to c → 0 < k → ConvertCall to c out (record { refusal = k; count = 0 }) out
+call_refused_early to c out k is some =
+    call_refused to c out k (is ∙ sym (refused_early to c (length out) (omega (arith, is)))) some
 
-pub call-done : (to : Basis) (c out left : List ℤ) → refusalFor to c (length out) ≡ 0 → left ≡ sets out 0 (converted to c)
+pub call_done : (to : Basis) (c out left : List ℤ) → refusal_for to c (length out) ≡ 0 → left ≡ sets out 0 (converted to c)
     → ConvertCall to c out (record { refusal = 0; count = length c }) left
-unfolding convertAnswer convertBuffer unlessRefused
-call-done to c out left none is = record { answer = rw none; buffer = rw none is }
+unfolding convert_answer convert_buffer unless_refused
+call_done to c out left none is = record { answer = rw none; buffer = rw none is }

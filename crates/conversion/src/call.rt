@@ -1,7 +1,7 @@
 // The call that converts.
 ghost use Rattle.std.specs.Prelude.{◌≡◌, pos, length, replicate};
 ghost use Rattle.conversion.specs.ConvertCall.{ConvertCall};
-ghost use Rattle.conversion.specs.inside.Tested.{inputRefusal, outputRefusal};
+ghost use Rattle.conversion.specs.inside.Tested.{input_refusal, output_refusal};
 
 use super::sums::new_coeffs;
 use super::whole::is_whole;
@@ -19,7 +19,7 @@ pub const CONVERT_LIMIT: usize = 20;
 
 // The first test of the coefficients that holds, or 0.
 fn input_refusal(to: Basis, c: &[i64]) -> u8
-    ensures { result ≡ inputRefusal to c.now }
+    ensures { result ≡ input_refusal to c.now }
 {
     if CONVERT_LIMIT < degree_of(c.len()) {
         return 37;
@@ -32,7 +32,7 @@ fn input_refusal(to: Basis, c: &[i64]) -> u8
 
 // The first test of the new coefficients that holds, with `room` places for them, or 0.
 fn output_refusal(new: &[i64], room: usize) -> u8
-    ensures { result ≡ outputRefusal new.now room }
+    ensures { result ≡ output_refusal new.now room }
 {
     if !sum_fits(new) {
         return 3;
@@ -52,7 +52,7 @@ fn refused(refusal: u8) -> Converted
 
 // Converts coefficients that pass the tests of the input. `new` holds as many zeros, and takes the new coefficients ahead of the tests of the output.
 fn convert_passed(to: Basis, c: &[i64], new: &mut [i64], out: &mut [i64]) -> Converted
-    requires { (inputRefusal to c.now ≡ 0) × (new.old ≡ replicate (length c.now) (pos 0)) }
+    requires { (input_refusal to c.now ≡ 0) × (new.old ≡ replicate (length c.now) (pos 0)) }
     ensures { ConvertCall to c.now out.old result out.new }
 {
     new_coeffs(to, c, new);

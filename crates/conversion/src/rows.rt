@@ -1,6 +1,6 @@
 // The rows of a conversion: each from the last one and the one before.
 ghost use Rattle.std.specs.Prelude.{◌≡◌, true, cond, ◌≤◌, ◌<◌, ◌^◌, ◌+◌, pos, nat_abs, length, get_or};
-ghost use Rattle.conversion.specs.inside.Converting.{left_of, twiceAtOne, place_of, nextPlaces, RowsFit};
+ghost use Rattle.conversion.specs.inside.Converting.{left_of, twice_at_one, place_of, next_places, RowsFit};
 
 use number::Basis;
 use number::arithmetic::{minus, plus, twice};
@@ -24,7 +24,7 @@ fn right_of(row: &[i64], i: usize) -> i64
 // Twice x at place 1, and x elsewhere.
 fn twice_at_one(i: usize, x: i64) -> i64
     requires { nat_abs x ≤ 2 ^ 32 }
-    ensures { result ≡ twiceAtOne i x }
+    ensures { result ≡ twice_at_one i x }
 {
     if i == 1 { twice(x) } else { x }
 }
@@ -43,7 +43,7 @@ fn place(to: Basis, i: usize, left: i64, right: i64, before: i64) -> i64
 // Writes the next row over the row before the last.
 fn next_row(to: Basis, last: &[i64], row: &mut [i64])
     requires { RowsFit last.now row.old }
-    ensures { row.new ≡ nextPlaces to last.now row.old }
+    ensures { row.new ≡ next_places to last.now row.old }
 {
     let mut i: usize = 0;
     while i < row.len() {
@@ -55,7 +55,7 @@ fn next_row(to: Basis, last: &[i64], row: &mut [i64])
 // Writes the next row over the row before the last, if it is needed.
 pub fn advance(to: Basis, needed: bool, last: &[i64], row: &mut [i64])
     requires { needed ≡ true → RowsFit last.now row.old }
-    ensures { row.new ≡ cond needed (nextPlaces to last.now row.old) row.old }
+    ensures { row.new ≡ cond needed (next_places to last.now row.old) row.old }
 {
     if needed {
         next_row(to, last, row);

@@ -6,63 +6,63 @@ use mathlib.Core.Logic.{◌⊎◌, inl, inr, ⊎_elim}
 use Prim.Native.Nat.{ℕ, ◌+◌, ◌≤◌, ◌<◌}
 use native.Mathlib.Nat.{eq-or-lt_of_le}
 use native.Mathlib.Omega.{arith}
-use Rattle.counts.specs.MinMult.{AtMost, Smallest, lessPair}
+use Rattle.counts.specs.MinMult.{AtMost, Smallest, less_pair}
 use Rattle.counts.specs.declared.pair.Pair.{Pair}
 use Rattle.counts.specs.declared.choice.Best.{Best}
-use Rattle.counts.specs.inside.BetterOf.{Below, AsGood, BetterOf, withPair}
-use Rattle.counts.proofs.MinMultLaws.{less-is, less-not, below-most, below-not, same-most, at-most-both}
+use Rattle.counts.specs.inside.BetterOf.{Below, AsGood, BetterOf, with_pair}
+use Rattle.counts.proofs.MinMultLaws.{less_is, less_not, below_most, below_not, same_most, at_most_both}
 
 -- ---- the order
 
-below-trans : (p q r : Pair) → Below p q → Below q r → Below p r
-below-trans p q r (inl pq) (inl qr) = inl (omega arith)
-below-trans p q r (inl pq) (inr qr) = inl (omega arith)
-below-trans p q r (inr pq) (inl qr) = inl (omega arith)
-below-trans p q r (inr pq) (inr qr) = inr (omega arith, omega arith)
+below_trans : (p q r : Pair) → Below p q → Below q r → Below p r
+below_trans p q r (inl pq) (inl qr) = inl (omega arith)
+below_trans p q r (inl pq) (inr qr) = inl (omega arith)
+below_trans p q r (inr pq) (inl qr) = inl (omega arith)
+below_trans p q r (inr pq) (inr qr) = inr (omega arith, omega arith)
 
-good-self : (best : Best) → AsGood best best
-good-self best = inr (refl, omega arith)
+good_self : (best : Best) → AsGood best best
+good_self best = inr (refl, omega arith)
 
-good-trans : (a b c : Best) → AsGood a b → AsGood b c → AsGood a c
-good-trans a b c (inl ab) (inl bc) = inl (below-trans a.pair b.pair c.pair ab bc)
-good-trans a b c (inl ab) (inr bc) = inl (subst (Below a.pair) bc.0 ab)
-good-trans a b c (inr ab) (inl bc) = inl (subst (λ (p : Pair). Below p c.pair) (sym ab.0) bc)
-good-trans a b c (inr ab) (inr bc) = inr (ab.0 ∙ bc.0, omega arith)
+good_trans : (a b c : Best) → AsGood a b → AsGood b c → AsGood a c
+good_trans a b c (inl ab) (inl bc) = inl (below_trans a.pair b.pair c.pair ab bc)
+good_trans a b c (inl ab) (inr bc) = inl (subst (Below a.pair) bc.0 ab)
+good_trans a b c (inr ab) (inl bc) = inl (subst (λ (p : Pair). Below p c.pair) (sym ab.0) bc)
+good_trans a b c (inr ab) (inr bc) = inr (ab.0 ∙ bc.0, omega arith)
 
 -- ---- the better of two
 
 module _ (one other : Best) where
-  first-better : AsGood one other → BetterOf one other one
-  first-better good = record { either = inl refl; first = good-self one; second = good }
+  first_better : AsGood one other → BetterOf one other one
+  first_better good = record { either = inl refl; first = good_self one; second = good }
 
-  second-better : AsGood other one → BetterOf one other other
-  second-better good = record { either = inr refl; first = good; second = good-self other }
+  second_better : AsGood other one → BetterOf one other other
+  second_better good = record { either = inr refl; first = good; second = good_self other }
 
   -- by the test of the pairs
-  pub second-less : lessPair other.pair one.pair ≡ true → BetterOf one other other
-  second-less test = second-better (inl (less-is other.pair one.pair test))
+  pub second_less : less_pair other.pair one.pair ≡ true → BetterOf one other other
+  second_less test = second_better (inl (less_is other.pair one.pair test))
 
-  pub first-less : lessPair one.pair other.pair ≡ true → BetterOf one other one
-  first-less test = first-better (inl (less-is one.pair other.pair test))
+  pub first_less : less_pair one.pair other.pair ≡ true → BetterOf one other one
+  first_less test = first_better (inl (less_is one.pair other.pair test))
 
   -- neither pair is less, so they are equal
-  module _ (not-second : lessPair other.pair one.pair ≡ false) (not_first : lessPair one.pair other.pair ≡ false) where
-    same-pair : one.pair ≡ other.pair
-    same-pair = at-most-both one.pair other.pair (less-not other.pair one.pair not-second) (less-not one.pair other.pair not_first)
+  module _ (not-second : less_pair other.pair one.pair ≡ false) (not_first : less_pair one.pair other.pair ≡ false) where
+    same_pair : one.pair ≡ other.pair
+    same_pair = at_most_both one.pair other.pair (less_not other.pair one.pair not-second) (less_not one.pair other.pair not_first)
 
-    pub second-smaller : other.split < one.split → BetterOf one other other
-    second-smaller less = second-better (inr (sym same-pair, omega arith))
+    pub second_smaller : other.split < one.split → BetterOf one other other
+    second_smaller less = second_better (inr (sym same_pair, omega arith))
 
-    pub first-smaller : one.split ≤ other.split → BetterOf one other one
-    first-smaller less = first-better (inr (same-pair, less))
+    pub first_smaller : one.split ≤ other.split → BetterOf one other one
+    first_smaller less = first_better (inr (same_pair, less))
 
   -- a split that takes more ct-ct multiplications
   pub passed_over : one.pair.ct < other.pair.ct → BetterOf one other one
-  passed_over more = first-better (inl (inl more))
+  passed_over more = first_better (inl (inl more))
 
   -- the same split again
-  pub met-again : one.pair ≡ other.pair → one.split ≡ other.split → BetterOf one other one
-  met-again pair split = first-better (inr (pair, omega arith))
+  pub met_again : one.pair ≡ other.pair → one.split ≡ other.split → BetterOf one other one
+  met_again pair split = first_better (inr (pair, omega arith))
 
 -- ---- the best so far
 
@@ -72,19 +72,19 @@ module _ (pairs : ℕ → Pair) (bits : ℕ) where
     pub from : 1 ≤ best.split
     pub to : best.split ≤ bits
     pub pair : best.pair ≡ pairs best.split
-    pub good : (split : ℕ) → 1 ≤ split → split < next → AsGood best (withPair pairs split)
+    pub good : (split : ℕ) → 1 ≤ split → split < next → AsGood best (with_pair pairs split)
 
   pub begins : (best : Best) → 1 ≤ best.split → best.split ≤ bits → best.pair ≡ pairs best.split → BestSoFar 1 best
   begins best from to pair = record { from = from; to = to; pair = pair; good = λ split above below. absurd (omega arith) }
 
-  pub goes_on : {next : ℕ} {best r : Best} → 1 ≤ next → next ≤ bits → BestSoFar next best → BetterOf best (withPair pairs next) r
+  pub goes_on : {next : ℕ} {best r : Best} → 1 ≤ next → next ≤ bits → BestSoFar next best → BetterOf best (with_pair pairs next) r
       → BestSoFar (next + 1) r
   goes_on {next} {best} {r} above within so_far better = ⊎_elim stays taken better.either
     where
-      good : (split : ℕ) → 1 ≤ split → split < next + 1 → AsGood r (withPair pairs split)
+      good : (split : ℕ) → 1 ≤ split → split < next + 1 → AsGood r (with_pair pairs split)
       good split from below =
-          ⊎_elim (λ same. subst (λ (s : ℕ). AsGood r (withPair pairs s)) (sym same) better.second)
-          (λ earlier. good-trans r best (withPair pairs split) better.first (so_far.good split from earlier))
+          ⊎_elim (λ same. subst (λ (s : ℕ). AsGood r (with_pair pairs s)) (sym same) better.second)
+          (λ earlier. good_trans r best (with_pair pairs split) better.first (so_far.good split from earlier))
           (eq-or-lt_of_le {n = split} {m = next} (omega arith))
 
       stays : r ≡ best → BestSoFar (next + 1) r
@@ -95,7 +95,7 @@ module _ (pairs : ℕ → Pair) (bits : ℕ) where
         good = good;
       }
 
-      taken : r ≡ withPair pairs next → BestSoFar (next + 1) r
+      taken : r ≡ with_pair pairs next → BestSoFar (next + 1) r
       taken is = record { from = rw is above; to = rw is within; pair = rw is; good = good }
 
   pub ends : {next : ℕ} {best : Best} → bits < next → BestSoFar next best → Smallest pairs bits best.split
@@ -107,8 +107,8 @@ module _ (pairs : ℕ → Pair) (bits : ℕ) where
 
       least : (split : ℕ) → 1 ≤ split → split ≤ bits → AtMost (pairs best.split) (pairs split)
       least split from to =
-          ⊎_elim (λ under. below-most _ _ under) (λ same. same-most _ _ same.0) (good split from to)
+          ⊎_elim (λ under. below_most _ _ under) (λ same. same_most _ _ same.0) (good split from to)
 
       first : (split : ℕ) → 1 ≤ split → split ≤ bits → pairs split ≡ pairs best.split → best.split ≤ split
       first split from to equal =
-          ⊎_elim (λ under. absurd (below-not _ _ under (same-most _ _ equal))) (λ same. same.1) (good split from to)
+          ⊎_elim (λ under. absurd (below_not _ _ under (same_most _ _ equal))) (λ same. same.1) (good split from to)

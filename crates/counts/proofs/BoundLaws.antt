@@ -12,133 +12,133 @@ use lib.Pow.{pow_pos}
 use Rattle.algebra.specs.Allowed.{allows}
 use Rattle.algebra.specs.declared.Basis.{Basis}
 use Rattle.algebra.specs.declared.Parity.{Parity}
-use Rattle.number.specs.Bits.{bitLen, topPower}
-use Rattle.needed.specs.Needed.{babyLimit}
-use Rattle.needed.specs.NeededList.{neededCount}
-use Rattle.needed.specs.inside.Marks.{Marked, neededMarks, countMarks}
-use Rattle.counts.specs.Slices.{slicesOf, last_of}
-use Rattle.counts.specs.PlainCount.{allowedTo, plainCount}
-use Rattle.counts.specs.Pair.{lastIsPlain, onePlain, pair_of, pair_at}
+use Rattle.number.specs.Bits.{bit_len, top_power}
+use Rattle.needed.specs.Needed.{baby_limit}
+use Rattle.needed.specs.NeededList.{needed_count}
+use Rattle.needed.specs.inside.Marks.{Marked, needed_marks, count_marks}
+use Rattle.counts.specs.Slices.{slices_of, last_of}
+use Rattle.counts.specs.PlainCount.{allowed_to, plain_count}
+use Rattle.counts.specs.Pair.{last_is_plain, one_plain, pair_of, pair_at}
 use Rattle.counts.specs.declared.pair.Pair.{Pair}
-use Rattle.number.proofs.Bits.{top-power, sides-fall}
-use Rattle.needed.proofs.Flags.{by-test}
-use Rattle.needed.proofs.Needed.{allowed-needed}
-use Rattle.needed.proofs.NeededMarks.{marked-needed}
-use Rattle.needed.proofs.MarkedPowers.{needed-counted}
-use Rattle.needed.proofs.PlaceLaws.{count-take, count-place, count-marked}
-use Rattle.needed.proofs.BaseLaws.{needed-from-base}
-use Rattle.counts.proofs.SliceRule.{no-digits, slices-one, slices-cut}
-use Rattle.counts.proofs.PairLaws.{plain-two, plain-power}
+use Rattle.number.proofs.Bits.{top_power_lem, sides_fall}
+use Rattle.needed.proofs.Flags.{by_test}
+use Rattle.needed.proofs.Needed.{allowed_needed}
+use Rattle.needed.proofs.NeededMarks.{marked_needed}
+use Rattle.needed.proofs.MarkedPowers.{needed_counted}
+use Rattle.needed.proofs.PlaceLaws.{count_take, count_place, count_marked}
+use Rattle.needed.proofs.BaseLaws.{needed_from_base}
+use Rattle.counts.proofs.SliceRule.{no_digits, slices_one, slices_cut}
+use Rattle.counts.proofs.PairLaws.{plain_two, plain_power}
 
 -- ---- slices
 
 -- there are at most as many places in each as the base
 abbrev Covered : (degree split : ℕ) → Type 0
-Covered degree split = degree < length (slicesOf degree split) * 2 ^ split
+Covered degree split = degree < length (slices_of degree split) * 2 ^ split
 
-one-covered : (degree split : ℕ) → degree < 2 ^ split → Covered degree split
-one-covered degree split under = rw (slices-one split degree under) (omega arith)
+one_covered : (degree split : ℕ) → degree < 2 ^ split → Covered degree split
+one_covered degree split under = rw (slices_one split degree under) (omega arith)
 
-cut-covered : (degree split : ℕ) → 2 ^ split ≤ degree → Covered (topPower degree - 1) split → Covered (degree - topPower degree) split
+cut_covered : (degree split : ℕ) → 2 ^ split ≤ degree → Covered (top_power degree - 1) split → Covered (degree - top_power degree) split
     → Covered degree split
-cut-covered degree split reached low high =
-    let top = top-power degree (omega (arith, pow_pos split)) in
-    let low-slices = slicesOf (topPower degree - 1) split in
-    let high-slices = slicesOf (degree - topPower degree) split in
-    rw (slices-cut split degree reached, length-append low-slices high-slices, add-mul (length low-slices) (length high-slices) (2 ^ split))
+cut_covered degree split reached low high =
+    let top = top_power_lem degree (omega (arith, pow_pos split)) in
+    let low_slices = slices_of (top_power degree - 1) split in
+    let high_slices = slices_of (degree - top_power degree) split in
+    rw (slices_cut split degree reached, length-append low_slices high_slices, add-mul (length low_slices) (length high_slices) (2 ^ split))
     (omega arith)
 
-covered : (cuts degree split : ℕ) → bitLen degree ≤ cuts → Covered degree split
-covered zero degree split enough = one-covered degree split (no-digits degree enough (pow_pos split))
+covered : (cuts degree split : ℕ) → bit_len degree ≤ cuts → Covered degree split
+covered zero degree split enough = one_covered degree split (no_digits degree enough (pow_pos split))
 covered (suc cuts) degree split enough = by_size (covered cuts) (dec_lt degree (2 ^ split))
   where
-    by_size : ((d s : ℕ) → bitLen d ≤ cuts → Covered d s) → Dec (degree < 2 ^ split) → Covered degree split
-    by_size sides (yes under) = one-covered degree split under
+    by_size : ((d s : ℕ) → bit_len d ≤ cuts → Covered d s) → Dec (degree < 2 ^ split) → Covered degree split
+    by_size sides (yes under) = one_covered degree split under
     by_size sides (no reached) =
         let positive : 0 < degree = omega (arith, pow_pos split) in
-        let fall = sides-fall degree positive in
-        cut-covered degree split (omega arith) (sides (topPower degree - 1) split (omega arith)) (sides (degree - topPower degree) split (omega arith))
+        let fall = sides_fall degree positive in
+        cut_covered degree split (omega arith) (sides (top_power degree - 1) split (omega arith)) (sides (degree - top_power degree) split (omega arith))
 
-slices-least : (degree split : ℕ) → degree / 2 ^ split < length (slicesOf degree split)
-slices-least degree split = (div-lt_iff_lt-mul (pow_pos split)).1 (covered (bitLen degree) degree split (omega arith))
+slices_least : (degree split : ℕ) → degree / 2 ^ split < length (slices_of degree split)
+slices_least degree split = (div-lt_iff_lt-mul (pow_pos split)).1 (covered (bit_len degree) degree split (omega arith))
 
 -- ---- needed powers
 
-pub allowed-one : (parity : Parity) (d : ℕ) → 1 ≤ d → allowedTo parity 1 ≤ allowedTo parity d
-unfolding allowedTo
-allowed-one parity zero from = absurd (omega arith)
-allowed-one parity (suc zero) from = omega arith
-allowed-one parity (suc (suc d)) from = omega (arith, allowed-one parity (suc d) (omega arith))
+pub allowed_one : (parity : Parity) (d : ℕ) → 1 ≤ d → allowed_to parity 1 ≤ allowed_to parity d
+unfolding allowed_to
+allowed_one parity zero from = absurd (omega arith)
+allowed_one parity (suc zero) from = omega arith
+allowed_one parity (suc (suc d)) from = omega (arith, allowed_one parity (suc d) (omega arith))
 
 module _ (parity : Parity) (basis : Basis) (degree split : ℕ) where
   abbrev marks : List Bool
-  marks = neededMarks parity basis degree split
+  marks = needed_marks parity basis degree split
 
   -- the allowed powers up to k below the limit are needed, but for 1
-  allowed-first : (k : ℕ) → k < babyLimit degree split → allowedTo parity k ≤ countMarks (take (suc k) marks) + allowedTo parity 1
-  unfolding allowedTo
-  allowed-first zero under = omega arith
-  allowed-first (suc zero) under = omega arith
-  allowed-first (suc (suc k)) under =
-      let before = allowed-first (suc k) (omega arith) in
-      by-test
-      (λ (b : Bool). allowedTo parity (suc k) + cond b 1 0 ≤ countMarks (take (suc (suc (suc k))) marks) + allowedTo parity 1)
+  allowed_first : (k : ℕ) → k < baby_limit degree split → allowed_to parity k ≤ count_marks (take (suc k) marks) + allowed_to parity 1
+  unfolding allowed_to
+  allowed_first zero under = omega arith
+  allowed_first (suc zero) under = omega arith
+  allowed_first (suc (suc k)) under =
+      let before = allowed_first (suc k) (omega arith) in
+      by_test
+      (λ (b : Bool). allowed_to parity (suc k) + cond b 1 0 ≤ count_marks (take (suc (suc (suc k))) marks) + allowed_to parity 1)
       (allows parity (suc (suc k)))
       (λ is.
-      let needed = allowed-needed parity basis degree split (suc (suc k)) (omega arith) under is in
-      let marked : Marked marks (suc (suc k)) = (marked-needed parity basis degree split (suc (suc k))).1 needed in
-      omega (arith, count-marked marks (suc (suc k)) marked))
-      (λ is. omega (arith, count-place marks (suc (suc k))))
+      let needed = allowed_needed parity basis degree split (suc (suc k)) (omega arith) under is in
+      let marked : Marked marks (suc (suc k)) = (marked_needed parity basis degree split (suc (suc k))).1 needed in
+      omega (arith, count_marked marks (suc (suc k)) marked))
+      (λ is. omega (arith, count_place marks (suc (suc k))))
 
-  allowed-most : (k : ℕ) → k < babyLimit degree split → allowedTo parity k ≤ neededCount parity basis degree split + allowedTo parity 1
-  allowed-most k under = omega (arith, allowed-first k under, count-take (suc k) marks, needed-counted parity basis degree split)
+  allowed_most : (k : ℕ) → k < baby_limit degree split → allowed_to parity k ≤ needed_count parity basis degree split + allowed_to parity 1
+  allowed_most k under = omega (arith, allowed_first k under, count_take (suc k) marks, needed_counted parity basis degree split)
 
 -- ---- the pair
 
 module _ (parity : Parity) (basis : Basis) (degree split : ℕ) where
   abbrev slices : List ℕ
-  slices = slicesOf degree split
+  slices = slices_of degree split
 
   abbrev whole : Pair
-  whole = record { ct = length slices - 1 + neededCount parity basis degree split; pt = plainCount parity slices }
+  whole = record { ct = length slices - 1 + needed_count parity basis degree split; pt = plain_count parity slices }
 
   -- one multiplication may move to pt-ct
-  pair-least : whole.ct ≤ (pair_at parity basis degree split).ct + 1
+  pair_least : whole.ct ≤ (pair_at parity basis degree split).ct + 1
   unfolding pair_at pair_of
-  pair-least =
-      by-test (λ (b : Bool). whole.ct ≤ (cond b (onePlain whole) whole).ct + 1) (lastIsPlain degree (length slices) (last_of slices))
+  pair_least =
+      by_test (λ (b : Bool). whole.ct ≤ (cond b (one_plain whole) whole).ct + 1) (last_is_plain degree (length slices) (last_of slices))
       (λ is. omega arith)
       (λ is. omega arith)
 
   -- none moves
-  pair-whole-least : (lastIsPlain degree (length slices) (last_of slices) ≡ true → ⊥) → whole.ct ≤ (pair_at parity basis degree split).ct
+  pair_whole_least : (last_is_plain degree (length slices) (last_of slices) ≡ true → ⊥) → whole.ct ≤ (pair_at parity basis degree split).ct
   unfolding pair_at pair_of
-  pair-whole-least never =
-      by-test (λ (b : Bool). whole.ct ≤ (cond b (onePlain whole) whole).ct) (lastIsPlain degree (length slices) (last_of slices))
+  pair_whole_least never =
+      by_test (λ (b : Bool). whole.ct ≤ (cond b (one_plain whole) whole).ct) (last_is_plain degree (length slices) (last_of slices))
       (λ is. absurd (never is))
       (λ is. omega arith)
 
   -- below the base there is one slice
-  pub fewest-below : {n : ℕ} → degree < 2 ^ split → n + allowedTo parity 1 ≡ allowedTo parity degree → n ≤ (pair_at parity basis degree split).ct
-  fewest-below under counted =
-      let never : lastIsPlain degree (length slices) (last_of slices) ≡ true → ⊥ = λ is. one-slice (plain-two _ _ _ is) in
-      omega (arith, allowed-most parity basis degree split degree (omega arith), pair-whole-least never)
+  pub fewest_below : {n : ℕ} → degree < 2 ^ split → n + allowed_to parity 1 ≡ allowed_to parity degree → n ≤ (pair_at parity basis degree split).ct
+  fewest_below under counted =
+      let never : last_is_plain degree (length slices) (last_of slices) ≡ true → ⊥ = λ is. one_slice (plain_two _ _ _ is) in
+      omega (arith, allowed_most parity basis degree split degree (omega arith), pair_whole_least never)
     where
-      one-slice : 2 ≤ length slices → ⊥
-      one-slice two = let two-or-more = rw (slices-one split degree under) at two in omega arith
+      one_slice : 2 ≤ length slices → ⊥
+      one_slice two = let two_or_more = rw (slices_one split degree under) at two in omega arith
 
   -- ---- from the base on
 
-  module _ (n : ℕ) (some : 0 < split) {base bits : ℕ} (base-is : base ≡ 2 ^ split) (bits_is : bits ≡ bitLen degree) (reached : base ≤ degree)
-      (counted : n + allowedTo parity 1 ≡ allowedTo parity (base - 1)) where
-    fewest-whole : degree / 2 ^ split + (n + (bits - split)) ≤ whole.ct
-    fewest-whole =
-        let powers = needed-from-base parity basis degree split some (omega arith) in
-        let below = rw base-is at counted in
-        omega (arith, allowed-most parity basis (2 ^ split - 1) split (2 ^ split - 1) (omega (arith, pow_pos split)), slices-least degree split)
+  module _ (n : ℕ) (some : 0 < split) {base bits : ℕ} (base_is : base ≡ 2 ^ split) (bits_is : bits ≡ bit_len degree) (reached : base ≤ degree)
+      (counted : n + allowed_to parity 1 ≡ allowed_to parity (base - 1)) where
+    fewest_whole : degree / 2 ^ split + (n + (bits - split)) ≤ whole.ct
+    fewest_whole =
+        let powers = needed_from_base parity basis degree split some (omega arith) in
+        let below = rw base_is at counted in
+        omega (arith, allowed_most parity basis (2 ^ split - 1) split (2 ^ split - 1) (omega (arith, pow_pos split)), slices_least degree split)
 
-    pub fewest-plain : degree / 2 ^ split + (n + (bits - split)) - 1 ≤ (pair_at parity basis degree split).ct
-    fewest-plain = omega (arith, fewest-whole, pair-least)
+    pub fewest_plain : degree / 2 ^ split + (n + (bits - split)) - 1 ≤ (pair_at parity basis degree split).ct
+    fewest_plain = omega (arith, fewest_whole, pair_least)
 
-    pub fewest-other : (degree ≡ topPower degree → ⊥) → degree / 2 ^ split + (n + (bits - split)) ≤ (pair_at parity basis degree split).ct
-    fewest-other not-power = omega (arith, fewest-whole, pair-whole-least (λ is. not-power (plain-power _ _ _ is)))
+    pub fewest_other : (degree ≡ top_power degree → ⊥) → degree / 2 ^ split + (n + (bits - split)) ≤ (pair_at parity basis degree split).ct
+    fewest_other not_power = omega (arith, fewest_whole, pair_whole_least (λ is. not_power (plain_power _ _ _ is)))

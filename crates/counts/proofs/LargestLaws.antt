@@ -2,30 +2,30 @@
 use mathlib.Core.Path.{◌≡◌}
 use Prim.Native.Nat.{ℕ, ◌≤◌, ◌<◌}
 use borrow.Author.Tests.{lt-ltb, le-ltb, eq-eqb, ne_eqb}
-use Rattle.number.specs.Limits.{planLimit, scaleLimit}
-use Rattle.number.specs.Refusal.{unlessRefused}
-use Rattle.counts.specs.LargestDegree.{greatestWithin}
-use Rattle.counts.specs.Calls.{noLargest, largestCall}
+use Rattle.number.specs.Limits.{plan_limit, scale_limit}
+use Rattle.number.specs.Refusal.{unless_refused}
+use Rattle.counts.specs.LargestDegree.{greatest_within}
+use Rattle.counts.specs.Calls.{no_largest, largest_call}
 use Rattle.counts.specs.declared.choice.SplitStrategy.{SplitStrategy}
 
 module _ (strategy : SplitStrategy) (budget input coeff : ℕ) where
-  pub input-wide : scaleLimit < input → noLargest 10 ≡ largestCall strategy budget input coeff
-  unfolding largestCall unlessRefused
-  input-wide above = rw (lt-ltb scaleLimit input above)
+  pub input_wide : scale_limit < input → no_largest 10 ≡ largest_call strategy budget input coeff
+  unfolding largest_call unless_refused
+  input_wide above = rw (lt-ltb scale_limit input above)
 
-  pub coeff-wide : input ≤ scaleLimit → scaleLimit < coeff → noLargest 10 ≡ largestCall strategy budget input coeff
-  unfolding largestCall unlessRefused
-  coeff-wide within above = rw (le-ltb scaleLimit input within, lt-ltb scaleLimit coeff above)
+  pub coeff_wide : input ≤ scale_limit → scale_limit < coeff → no_largest 10 ≡ largest_call strategy budget input coeff
+  unfolding largest_call unless_refused
+  coeff_wide within above = rw (le-ltb scale_limit input within, lt-ltb scale_limit coeff above)
 
   -- past the tests of the scales the greatest degree within the budget decides
-  module _ (input-within : input ≤ scaleLimit) (coeff-within : coeff ≤ scaleLimit) {degree : ℕ}
-      (is : degree ≡ greatestWithin strategy budget input coeff planLimit) where
-    pub none_found : degree ≡ 0 → noLargest 31 ≡ largestCall strategy budget input coeff
-    unfolding largestCall unlessRefused
+  module _ (input_within : input ≤ scale_limit) (coeff_within : coeff ≤ scale_limit) {degree : ℕ}
+      (is : degree ≡ greatest_within strategy budget input coeff plan_limit) where
+    pub none_found : degree ≡ 0 → no_largest 31 ≡ largest_call strategy budget input coeff
+    unfolding largest_call unless_refused
     none_found none =
-        rw (le-ltb scaleLimit input input-within, le-ltb scaleLimit coeff coeff-within, ← is, eq-eqb degree 0 none)
+        rw (le-ltb scale_limit input input_within, le-ltb scale_limit coeff coeff_within, ← is, eq-eqb degree 0 none)
 
-    pub one_found : (degree ≡ 0 → ⊥) → record { refusal = 0; degree = degree } ≡ largestCall strategy budget input coeff
-    unfolding largestCall unlessRefused
+    pub one_found : (degree ≡ 0 → ⊥) → record { refusal = 0; degree = degree } ≡ largest_call strategy budget input coeff
+    unfolding largest_call unless_refused
     one_found some =
-        rw (le-ltb scaleLimit input input-within, le-ltb scaleLimit coeff coeff-within, ← is, ne_eqb degree 0 some)
+        rw (le-ltb scale_limit input input_within, le-ltb scale_limit coeff coeff_within, ← is, ne_eqb degree 0 some)

@@ -9,14 +9,14 @@ use borrow.Author.Count.{below_more}
 use lib.Dec.{eqb}
 use Rattle.algebra.specs.declared.Basis.{Basis}
 use Rattle.algebra.specs.declared.Parity.{Parity}
-use Rattle.number.specs.Bits.{bitLen}
-use Rattle.number.specs.Limits.{degreeLimit}
-use Rattle.counts.specs.MinDepth.{minDepth, aExceedsB, publishedMinDepth}
-use Rattle.counts.specs.Choice.{splitFor}
+use Rattle.number.specs.Bits.{bit_len}
+use Rattle.number.specs.Limits.{degree_limit}
+use Rattle.counts.specs.MinDepth.{min_depth, a_exceeds_b, published_min_depth}
+use Rattle.counts.specs.Choice.{split_for}
 use Rattle.counts.specs.Promises.{CasePublished}
 use Rattle.counts.specs.declared.choice.SplitStrategy.TheVariants.{MinDepth}
 use Rattle.number.proofs.BothHold.{and_left, and_right}
-use Rattle.number.proofs.Bits.{digits-range, power-range}
+use Rattle.number.proofs.Bits.{digits_range, power_range}
 
 -- every number below n passes a test
 passes : (test : ℕ → Bool) → (n : ℕ) → Bool
@@ -32,32 +32,32 @@ passed test (suc n) all m below =
 
 -- whether the case of a bit length is what the formulas give
 agrees : (bits : ℕ) → Bool
-agrees bits = eqb (minDepth bits) (publishedMinDepth bits)
+agrees bits = eqb (min_depth bits) (published_min_depth bits)
 
-to-32 : passes agrees 33 ≡ true
-unfolding passes agrees minDepth publishedMinDepth aExceedsB
-to-32 = refl
+to_32 : passes agrees 33 ≡ true
+unfolding passes agrees min_depth published_min_depth a_exceeds_b
+to_32 = refl
 
-same : (bits : ℕ) → bits ≤ 32 → minDepth bits ≡ publishedMinDepth bits
+same : (bits : ℕ) → bits ≤ 32 → min_depth bits ≡ published_min_depth bits
 unfolding agrees
-same bits few = eqb-true (minDepth bits) (publishedMinDepth bits) (passed agrees 33 to-32 bits (omega arith))
+same bits few = eqb-true (min_depth bits) (published_min_depth bits) (passed agrees 33 to_32 bits (omega arith))
 
-pub case-published : (bits : ℕ) → 1 ≤ bits → bits ≤ 32 → CasePublished bits
-case-published bits some few =
-    let low = power-range {k = bits / 2} (omega arith) refl in
-    let high = power-range {k = bits - bits / 2} (omega arith) refl in
-    let low' = power-range {k = bits / 2 + 1} (omega arith) refl in
-    let high' = power-range {k = bits - bits / 2 - 1} (omega arith) refl in
+pub case_published : (bits : ℕ) → 1 ≤ bits → bits ≤ 32 → CasePublished bits
+case_published bits some few =
+    let low = power_range {k = bits / 2} (omega arith) refl in
+    let high = power_range {k = bits - bits / 2} (omega arith) refl in
+    let low' = power_range {k = bits / 2 + 1} (omega arith) refl in
+    let high' = power_range {k = bits - bits / 2 - 1} (omega arith) refl in
     record {
       same = same bits few;
       exponents = omega arith;
-      a-from-zero = omega (arith, low, high);
-      b-from-zero = omega (arith, low', high');
-      a-fits = omega (arith, low, high);
-      b-fits = omega (arith, low', high');
+      a_from_zero = omega (arith, low, high);
+      b_from_zero = omega (arith, low', high');
+      a_fits = omega (arith, low, high);
+      b_fits = omega (arith, low', high');
     }
 
-pub split-published : (parity : Parity) (basis : Basis) (degree : ℕ) → 1 ≤ degree → degree ≤ degreeLimit
-    → splitFor MinDepth parity basis degree ≡ publishedMinDepth (bitLen degree)
-unfolding splitFor
-split-published parity basis degree some most = same (bitLen degree) (digits-range degree (record { from = some; to = most })).to
+pub split_published : (parity : Parity) (basis : Basis) (degree : ℕ) → 1 ≤ degree → degree ≤ degree_limit
+    → split_for MinDepth parity basis degree ≡ published_min_depth (bit_len degree)
+unfolding split_for
+split_published parity basis degree some most = same (bit_len degree) (digits_range degree (record { from = some; to = most })).to

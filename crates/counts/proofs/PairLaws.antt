@@ -7,38 +7,38 @@ use lib.Dec.{leb, eqb}
 use lib.ListN.{length}
 use Rattle.algebra.specs.declared.Basis.{Basis}
 use Rattle.algebra.specs.declared.Parity.{Parity}
-use Rattle.number.specs.Bits.{topPower}
-use Rattle.needed.specs.NeededList.{neededCount}
-use Rattle.counts.specs.Slices.{slicesOf, last_of}
-use Rattle.counts.specs.Pair.{lastIsPlain, pair_of, pair_at}
+use Rattle.number.specs.Bits.{top_power}
+use Rattle.needed.specs.NeededList.{needed_count}
+use Rattle.counts.specs.Slices.{slices_of, last_of}
+use Rattle.counts.specs.Pair.{last_is_plain, pair_of, pair_at}
 use Rattle.counts.specs.inside.Tallies.{tally_of}
 use Rattle.counts.specs.declared.slices.Tally.{Tally}
-use Rattle.number.proofs.Bits.{power-is}
+use Rattle.number.proofs.Bits.{power_is}
 use Rattle.needed.proofs.Flags.{both}
 
 -- the last combine is plain only where there are two or more slices
-pub plain-two : (degree slices last : ℕ) → lastIsPlain degree slices last ≡ true → 2 ≤ slices
-unfolding lastIsPlain
-plain-two degree slices last holds = leb-true 2 slices (both (leb 2 slices) _ holds).0
+pub plain_two : (degree slices last : ℕ) → last_is_plain degree slices last ≡ true → 2 ≤ slices
+unfolding last_is_plain
+plain_two degree slices last holds = leb-true 2 slices (both (leb 2 slices) _ holds).0
 
 -- and the degree is a power of two
-pub plain-power : (degree slices last : ℕ) → lastIsPlain degree slices last ≡ true → degree ≡ topPower degree
-unfolding lastIsPlain
-plain-power degree slices last holds = power-is degree (both (eqb last 0) _ (both (leb 2 slices) _ holds).1).1
+pub plain_power : (degree slices last : ℕ) → last_is_plain degree slices last ≡ true → degree ≡ top_power degree
+unfolding last_is_plain
+plain_power degree slices last holds = power_is degree (both (eqb last 0) _ (both (leb 2 slices) _ holds).1).1
 
 module _ (parity : Parity) (basis : Basis) (degree split : ℕ) {needed : ℕ} {tally : Tally} {test : Bool}
-    (tally-is : tally ≡ tally_of parity (slicesOf degree split)) (needed-is : needed ≡ neededCount parity basis degree split)
-    (test-is : test ≡ lastIsPlain degree tally.slices tally.last) where
-  test-of-slices : lastIsPlain degree (length (slicesOf degree split)) (last_of (slicesOf degree split)) ≡ test
+    (tally_is : tally ≡ tally_of parity (slices_of degree split)) (needed_is : needed ≡ needed_count parity basis degree split)
+    (test_is : test ≡ last_is_plain degree tally.slices tally.last) where
+  test_of_slices : last_is_plain degree (length (slices_of degree split)) (last_of (slices_of degree split)) ≡ test
   unfolding tally_of
-  test-of-slices = sym (rw tally-is at test-is)
+  test_of_slices = sym (rw tally_is at test_is)
 
   -- one multiplication is moved
-  pub pair-plain : test ≡ true → record { ct = tally.slices - 1 + needed - 1; pt = tally.pt + 1 } ≡ pair_at parity basis degree split
+  pub pair_plain : test ≡ true → record { ct = tally.slices - 1 + needed - 1; pt = tally.pt + 1 } ≡ pair_at parity basis degree split
   unfolding pair_at pair_of tally_of
-  pair-plain holds = let is = test-of-slices ∙ holds in rw (tally-is, needed-is, is)
+  pair_plain holds = let is = test_of_slices ∙ holds in rw (tally_is, needed_is, is)
 
   -- none is moved
-  pub pair-whole : test ≡ false → record { ct = tally.slices - 1 + needed; pt = tally.pt } ≡ pair_at parity basis degree split
+  pub pair_whole : test ≡ false → record { ct = tally.slices - 1 + needed; pt = tally.pt } ≡ pair_at parity basis degree split
   unfolding pair_at pair_of tally_of
-  pair-whole fails = let is = test-of-slices ∙ fails in rw (tally-is, needed-is, is)
+  pair_whole fails = let is = test_of_slices ∙ fails in rw (tally_is, needed_is, is)

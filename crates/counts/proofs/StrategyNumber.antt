@@ -4,8 +4,8 @@ use native.Mathlib.Omega.{arith}
 use Rattle.counts.specs.StrategyNumber.{StrategiesTold}
 use Rattle.counts.specs.declared.choice.SplitStrategy.TheVariants.{MinDepth, MinMult}
 
-pub strategies-told : StrategiesTold
-strategies-told MinDepth MinDepth same = refl
-strategies-told MinDepth MinMult same = absurd (omega arith)
-strategies-told MinMult MinDepth same = absurd (omega arith)
-strategies-told MinMult MinMult same = refl
+pub strategies_told : StrategiesTold
+strategies_told MinDepth MinDepth same = refl
+strategies_told MinDepth MinMult same = absurd (omega arith)
+strategies_told MinMult MinDepth same = absurd (omega arith)
+strategies_told MinMult MinMult same = refl

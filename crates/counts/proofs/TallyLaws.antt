@@ -10,14 +10,14 @@ use lib.Pow.{pow_pos}
 use lib.Dec.{ltb}
 use lib.ListN.{length, length-append}
 use Rattle.algebra.specs.declared.Parity.{Parity}
-use Rattle.number.specs.Bits.{bitLen, topPower}
-use Rattle.counts.specs.Slices.{slicesIn, slicesOf, last_of}
-use Rattle.counts.specs.PlainCount.{allowedTo, plainCount}
+use Rattle.number.specs.Bits.{bit_len, top_power}
+use Rattle.counts.specs.Slices.{slices_in, slices_of, last_of}
+use Rattle.counts.specs.PlainCount.{allowed_to, plain_count}
 use Rattle.counts.specs.inside.Tallies.{tally_of}
 use Rattle.counts.specs.declared.slices.Tally.{Tally}
-use Rattle.number.proofs.Bits.{top-power}
-use Rattle.counts.proofs.SliceRule.{slices-one, slices-cut}
-use Rattle.counts.proofs.PlainCount.{allowed-at-most, plain-append}
+use Rattle.number.proofs.Bits.{top_power_lem}
+use Rattle.counts.proofs.SliceRule.{slices_one, slices_cut}
+use Rattle.counts.proofs.PlainCount.{allowed_at_most, plain_append}
 
 -- ---- ranges
 
@@ -27,64 +27,64 @@ pub record TallyRange (degree : ℕ) (tally : Tally) : Type 0 where
   pub at_most : tally.slices + tally.pt ≤ degree + 1
 
 module _ (parity : Parity) where
-  one-range : (degree : ℕ) → TallyRange degree (tally_of parity (degree ∷ []))
-  unfolding tally_of plainCount
-  one-range degree = record { nonempty = omega arith; at_most = omega (arith, allowed-at-most parity degree) }
+  one_range : (degree : ℕ) → TallyRange degree (tally_of parity (degree ∷ []))
+  unfolding tally_of plain_count
+  one_range degree = record { nonempty = omega arith; at_most = omega (arith, allowed_at_most parity degree) }
 
   cut_range : {degree p : ℕ} (low high : List ℕ) → 0 < p → p ≤ degree → TallyRange (p - 1) (tally_of parity low)
       → TallyRange (degree - p) (tally_of parity high) → TallyRange degree (tally_of parity (low ++ high))
   unfolding tally_of
-  cut_range low high positive within low-range high-range =
+  cut_range low high positive within low_range high_range =
       let slices = length-append low high in
       record {
-        nonempty = omega (arith, low-range.nonempty);
-        at_most = omega (arith, plain-append parity low high, low-range.at_most, high-range.at_most);
+        nonempty = omega (arith, low_range.nonempty);
+        at_most = omega (arith, plain_append parity low high, low_range.at_most, high_range.at_most);
       }
 
-  in-range : (split cuts degree : ℕ) → TallyRange degree (tally_of parity (slicesIn cuts degree split))
-  unfolding slicesIn
-  in-range split zero degree = one-range degree
-  in-range split (suc cuts) degree = by-test (ltb degree (2 ^ split)) refl (in-range split cuts)
+  in_range_lem : (split cuts degree : ℕ) → TallyRange degree (tally_of parity (slices_in cuts degree split))
+  unfolding slices_in
+  in_range_lem split zero degree = one_range degree
+  in_range_lem split (suc cuts) degree = by_test (ltb degree (2 ^ split)) refl (in_range_lem split cuts)
     where
-      by-test : (test : Bool) → ltb degree (2 ^ split) ≡ test → ((d : ℕ) → TallyRange d (tally_of parity (slicesIn cuts d split)))
-          → TallyRange degree (tally_of parity (slicesIn (suc cuts) degree split))
-      by-test true is sides = rw (is, slicesIn) (one-range degree)
-      by-test false is sides =
-          let top = top-power degree (omega (arith, ltb-false degree (2 ^ split) is, pow_pos split)) in
-          rw (is, slicesIn) (cut_range _ _ top.positive top.within (sides (topPower degree - 1)) (sides (degree - topPower degree)))
+      by_test : (test : Bool) → ltb degree (2 ^ split) ≡ test → ((d : ℕ) → TallyRange d (tally_of parity (slices_in cuts d split)))
+          → TallyRange degree (tally_of parity (slices_in (suc cuts) degree split))
+      by_test true is sides = rw (is, slices_in) (one_range degree)
+      by_test false is sides =
+          let top = top_power_lem degree (omega (arith, ltb-false degree (2 ^ split) is, pow_pos split)) in
+          rw (is, slices_in) (cut_range _ _ top.positive top.within (sides (top_power degree - 1)) (sides (degree - top_power degree)))
 
-pub tally-range : {tally : Tally} (parity : Parity) (degree split : ℕ) → tally ≡ tally_of parity (slicesOf degree split) → TallyRange degree tally
-unfolding slicesOf
-tally-range parity degree split is = rw is (in-range parity split (bitLen degree) degree)
+pub tally_range : {tally : Tally} (parity : Parity) (degree split : ℕ) → tally ≡ tally_of parity (slices_of degree split) → TallyRange degree tally
+unfolding slices_of
+tally_range parity degree split is = rw is (in_range_lem parity split (bit_len degree) degree)
 
 -- ---- tallies
 
 -- the last of two lists one after another
-pub last-append : (low high : List ℕ) → 0 < length high → last_of (low ++ high) ≡ last_of high
+pub last_append : (low high : List ℕ) → 0 < length high → last_of (low ++ high) ≡ last_of high
 unfolding last_of
-last-append [] high nonempty = refl
-last-append (d ∷ []) [] nonempty = absurd (omega arith)
-last-append (d ∷ []) (e ∷ high) nonempty = refl
-last-append (d ∷ e ∷ low) high nonempty = last-append (e ∷ low) high nonempty
+last_append [] high nonempty = refl
+last_append (d ∷ []) [] nonempty = absurd (omega arith)
+last_append (d ∷ []) (e ∷ high) nonempty = refl
+last_append (d ∷ e ∷ low) high nonempty = last_append (e ∷ low) high nonempty
 
 module _ (parity : Parity) (degree split : ℕ) where
   -- below the base
-  pub tally-one : {n : ℕ} → degree < 2 ^ split → n ≡ allowedTo parity degree
-      → record { slices = 1; pt = n; last = degree } ≡ tally_of parity (slicesOf degree split)
-  unfolding tally_of plainCount last_of
-  tally-one {n} under counted =
-      rw (slices-one split degree under) (ap (λ (x : ℕ). record { slices = 1; pt = x; last = degree }) whole)
+  pub tally_one : {n : ℕ} → degree < 2 ^ split → n ≡ allowed_to parity degree
+      → record { slices = 1; pt = n; last = degree } ≡ tally_of parity (slices_of degree split)
+  unfolding tally_of plain_count last_of
+  tally_one {n} under counted =
+      rw (slices_one split degree under) (ap (λ (x : ℕ). record { slices = 1; pt = x; last = degree }) whole)
     where
-      whole : n ≡ allowedTo parity degree + 0
+      whole : n ≡ allowed_to parity degree + 0
       whole = omega arith
 
   -- from the base on: both sides together
-  pub tally-cut : {p : ℕ} {low high : Tally} → 2 ^ split ≤ degree → p ≡ topPower degree
-      → low ≡ tally_of parity (slicesOf (p - 1) split) → high ≡ tally_of parity (slicesOf (degree - p) split)
-      → record { slices = low.slices + high.slices; pt = low.pt + high.pt; last = high.last } ≡ tally_of parity (slicesOf degree split)
+  pub tally_cut : {p : ℕ} {low high : Tally} → 2 ^ split ≤ degree → p ≡ top_power degree
+      → low ≡ tally_of parity (slices_of (p - 1) split) → high ≡ tally_of parity (slices_of (degree - p) split)
+      → record { slices = low.slices + high.slices; pt = low.pt + high.pt; last = high.last } ≡ tally_of parity (slices_of degree split)
   unfolding tally_of
-  tally-cut reached p-is low-is high_is =
-      let low = slicesOf (topPower degree - 1) split in
-      let high = slicesOf (degree - topPower degree) split in
-      let nonempty = (tally-range parity (degree - topPower degree) split refl).nonempty in
-      rw (low-is, high_is, p-is, slices-cut split degree reached, length-append low high, plain-append parity low high, last-append low high nonempty)
+  tally_cut reached p_is low_is high_is =
+      let low = slices_of (top_power degree - 1) split in
+      let high = slices_of (degree - top_power degree) split in
+      let nonempty = (tally_range parity (degree - top_power degree) split refl).nonempty in
+      rw (low_is, high_is, p_is, slices_cut split degree reached, length-append low high, plain_append parity low high, last_append low high nonempty)

@@ -2,16 +2,16 @@
 use Rattle.std.specs.Prelude.{List, [], ◌∷◌, ℕ}
 use Rattle.algebra.specs.declared.Basis.{Basis}
 use Rattle.algebra.specs.declared.Parity.{Parity}
-use Rattle.number.specs.Bits.{bitLen}
-use Rattle.number.specs.Limits.{planLimit, degreeLimit}
-use Rattle.number.specs.Refusal.{Test, firstRefusal, unlessRefused}
-use Rattle.number.specs.Tests.{noDegree, tooHigh, tooWide}
-use Rattle.counts.specs.MinDepth.{minDepth}
-use Rattle.counts.specs.MinMult.{minMult}
-use Rattle.counts.specs.Choice.{countsOf}
+use Rattle.number.specs.Bits.{bit_len}
+use Rattle.number.specs.Limits.{plan_limit, degree_limit}
+use Rattle.number.specs.Refusal.{Test, first_refusal, unless_refused}
+use Rattle.number.specs.Tests.{no_degree, too_high, too_wide}
+use Rattle.counts.specs.MinDepth.{min_depth}
+use Rattle.counts.specs.MinMult.{min_mult}
+use Rattle.counts.specs.Choice.{counts_of}
 use Rattle.counts.specs.Depth.{depth_of}
 use Rattle.counts.specs.ConsumedBits.{bits_of}
-use Rattle.counts.specs.LargestDegree.{greatestWithin, noneWithin}
+use Rattle.counts.specs.LargestDegree.{greatest_within, none_within}
 use Rattle.counts.specs.declared.pair.Pair.{Pair}
 use Rattle.counts.specs.declared.choice.SplitStrategy.{SplitStrategy}
 use Rattle.counts.specs.declared.choice.SplitChoice.{SplitChoice}
@@ -23,90 +23,90 @@ use Rattle.counts.specs.declared.budget.LargestDegree.{LargestDegree}
 -- ---- the split
 
 -- after a refusal split 0
-abbrev pub noSplit : (refusal : ℕ) → SplitChoice
-noSplit refusal = record { refusal = refusal; split = 0 }
+abbrev pub no_split : (refusal : ℕ) → SplitChoice
+no_split refusal = record { refusal = refusal; split = 0 }
 
 -- the first test that holds for MinDepth's split: 2, then 1
-abbrev pub minDepthRefusal : (degree : ℕ) → ℕ
-minDepthRefusal degree = firstRefusal (tooHigh degreeLimit degree ∷ noDegree degree ∷ [])
+abbrev pub min_depth_refusal : (degree : ℕ) → ℕ
+min_depth_refusal degree = first_refusal (too_high degree_limit degree ∷ no_degree degree ∷ [])
 
 -- `min_depth_split`: MinDepth's split of a degree
-unfoldable pub minDepthCall : (degree : ℕ) → SplitChoice
-minDepthCall degree =
-    let refusal : ℕ = minDepthRefusal degree in
-    unlessRefused refusal (record { refusal = 0; split = minDepth (bitLen degree) }) (noSplit refusal)
+unfoldable pub min_depth_call : (degree : ℕ) → SplitChoice
+min_depth_call degree =
+    let refusal : ℕ = min_depth_refusal degree in
+    unless_refused refusal (record { refusal = 0; split = min_depth (bit_len degree) }) (no_split refusal)
 
 -- for MinMult's split: 2
-abbrev pub minMultRefusal : (degree : ℕ) → ℕ
-minMultRefusal degree = firstRefusal (tooHigh planLimit degree ∷ [])
+abbrev pub min_mult_refusal : (degree : ℕ) → ℕ
+min_mult_refusal degree = first_refusal (too_high plan_limit degree ∷ [])
 
 -- `min_mult_split`: MinMult's split of a degree
-unfoldable pub minMultCall : Parity → Basis → (degree : ℕ) → SplitChoice
-minMultCall parity basis degree =
-    let refusal : ℕ = minMultRefusal degree in
-    unlessRefused refusal (record { refusal = 0; split = minMult parity basis degree }) (noSplit refusal)
+unfoldable pub min_mult_call : Parity → Basis → (degree : ℕ) → SplitChoice
+min_mult_call parity basis degree =
+    let refusal : ℕ = min_mult_refusal degree in
+    unless_refused refusal (record { refusal = 0; split = min_mult parity basis degree }) (no_split refusal)
 
 -- ---- the pair at the chosen split
 
 -- after a refusal the pair (0, 0)
-abbrev pub noCounts : (refusal : ℕ) → OpCounts
-noCounts refusal = record { refusal = refusal; ct = 0; pt = 0 }
+abbrev pub no_counts : (refusal : ℕ) → OpCounts
+no_counts refusal = record { refusal = refusal; ct = 0; pt = 0 }
 
 -- the first test that holds: 2
-abbrev pub countsRefusal : (degree : ℕ) → ℕ
-countsRefusal degree = firstRefusal (tooHigh planLimit degree ∷ [])
+abbrev pub counts_refusal : (degree : ℕ) → ℕ
+counts_refusal degree = first_refusal (too_high plan_limit degree ∷ [])
 
 -- `bsgs_op_counts`: the pair at the split that the strategy chooses
-unfoldable pub countsCall : SplitStrategy → Parity → Basis → (degree : ℕ) → OpCounts
-countsCall strategy parity basis degree =
-    let refusal : ℕ = countsRefusal degree in
-    let pair : Pair = countsOf strategy parity basis degree in
-    unlessRefused refusal (record { refusal = 0; ct = pair.ct; pt = pair.pt }) (noCounts refusal)
+unfoldable pub counts_call : SplitStrategy → Parity → Basis → (degree : ℕ) → OpCounts
+counts_call strategy parity basis degree =
+    let refusal : ℕ = counts_refusal degree in
+    let pair : Pair = counts_of strategy parity basis degree in
+    unless_refused refusal (record { refusal = 0; ct = pair.ct; pt = pair.pt }) (no_counts refusal)
 
 -- ---- the depth
 
 -- after a refusal depth 0
-abbrev pub noDepth : (refusal : ℕ) → EvalDepth
-noDepth refusal = record { refusal = refusal; depth = 0 }
+abbrev pub no_depth : (refusal : ℕ) → EvalDepth
+no_depth refusal = record { refusal = refusal; depth = 0 }
 
 -- the first test that holds: 2
-abbrev pub depthRefusal : (degree : ℕ) → ℕ
-depthRefusal degree = firstRefusal (tooHigh degreeLimit degree ∷ [])
+abbrev pub depth_refusal : (degree : ℕ) → ℕ
+depth_refusal degree = first_refusal (too_high degree_limit degree ∷ [])
 
 -- `bsgs_eval_depth`: the depth of a degree
-unfoldable pub depthCall : SplitStrategy → (degree : ℕ) → EvalDepth
-depthCall strategy degree =
-    let refusal : ℕ = depthRefusal degree in
-    unlessRefused refusal (record { refusal = 0; depth = depth_of strategy degree }) (noDepth refusal)
+unfoldable pub depth_call : SplitStrategy → (degree : ℕ) → EvalDepth
+depth_call strategy degree =
+    let refusal : ℕ = depth_refusal degree in
+    unless_refused refusal (record { refusal = 0; depth = depth_of strategy degree }) (no_depth refusal)
 
 -- ---- the bits
 
 -- after a refusal no bits
-abbrev pub noBits : (refusal : ℕ) → ConsumedBits
-noBits refusal = record { refusal = refusal; bits = 0 }
+abbrev pub no_bits : (refusal : ℕ) → ConsumedBits
+no_bits refusal = record { refusal = refusal; bits = 0 }
 
 -- the first test that holds: 2, then 10 for either of the two scales
-abbrev pub bitsRefusal : (degree input coeff : ℕ) → ℕ
-bitsRefusal degree input coeff = firstRefusal (tooHigh degreeLimit degree ∷ tooWide input ∷ tooWide coeff ∷ [])
+abbrev pub bits_refusal : (degree input coeff : ℕ) → ℕ
+bits_refusal degree input coeff = first_refusal (too_high degree_limit degree ∷ too_wide input ∷ too_wide coeff ∷ [])
 
 -- `bsgs_consumed_bits`: the bits of a degree, with the scales of input and coefficients
-unfoldable pub bitsCall : SplitStrategy → (degree input coeff : ℕ) → ConsumedBits
-bitsCall strategy degree input coeff =
-    let refusal : ℕ = bitsRefusal degree input coeff in
-    unlessRefused refusal (record { refusal = 0; bits = bits_of strategy degree input coeff }) (noBits refusal)
+unfoldable pub bits_call : SplitStrategy → (degree input coeff : ℕ) → ConsumedBits
+bits_call strategy degree input coeff =
+    let refusal : ℕ = bits_refusal degree input coeff in
+    unless_refused refusal (record { refusal = 0; bits = bits_of strategy degree input coeff }) (no_bits refusal)
 
 -- ---- the largest degree for a budget
 
 -- after a refusal degree 0
-abbrev pub noLargest : (refusal : ℕ) → LargestDegree
-noLargest refusal = record { refusal = refusal; degree = 0 }
+abbrev pub no_largest : (refusal : ℕ) → LargestDegree
+no_largest refusal = record { refusal = refusal; degree = 0 }
 
 -- the tests in order: 10 for either of the two scales, 31
-abbrev pub largestTests : SplitStrategy → (budget input coeff : ℕ) → List Test
-largestTests strategy budget input coeff = tooWide input ∷ tooWide coeff ∷ noneWithin strategy budget input coeff ∷ []
+abbrev pub largest_tests : SplitStrategy → (budget input coeff : ℕ) → List Test
+largest_tests strategy budget input coeff = too_wide input ∷ too_wide coeff ∷ none_within strategy budget input coeff ∷ []
 
 -- `largest_degree`: the greatest degree from 1 to 4,095 whose bits are within the budget
-unfoldable pub largestCall : SplitStrategy → (budget input coeff : ℕ) → LargestDegree
-largestCall strategy budget input coeff =
-    let refusal : ℕ = firstRefusal (largestTests strategy budget input coeff) in
-    unlessRefused refusal (record { refusal = 0; degree = greatestWithin strategy budget input coeff planLimit }) (noLargest refusal)
+unfoldable pub largest_call : SplitStrategy → (budget input coeff : ℕ) → LargestDegree
+largest_call strategy budget input coeff =
+    let refusal : ℕ = first_refusal (largest_tests strategy budget input coeff) in
+    unless_refused refusal (record { refusal = 0; degree = greatest_within strategy budget input coeff plan_limit }) (no_largest refusal)

@@ -2,8 +2,8 @@
 use Rattle.std.specs.Prelude.{Bool, cond, List, [], ◌∷◌, ℕ, ◌+◌, ◌-◌, ◌/◌, ◌^◌, eqb, ltb}
 
 -- the cases: a bit length, and MinDepth's split of every degree of this length
-abbrev pub minDepthCases : List (ℕ × ℕ)
-minDepthCases =
+abbrev pub min_depth_cases : List (ℕ × ℕ)
+min_depth_cases =
     (1, 1)
     ∷ (2, 1)
     ∷ (3, 2)
@@ -39,24 +39,24 @@ minDepthCases =
     ∷ []
 
 -- the split that stands beside a bit length; one that isn't listed, which no accepted degree has, is its own split
-abbrev pub splitBeside : (bits : ℕ) → List (ℕ × ℕ) → ℕ
-splitBeside bits [] = bits
-splitBeside bits ((listed, split) ∷ cases) = cond (eqb bits listed) split (splitBeside bits cases)
+abbrev pub split_beside : (bits : ℕ) → List (ℕ × ℕ) → ℕ
+split_beside bits [] = bits
+split_beside bits ((listed, split) ∷ cases) = cond (eqb bits listed) split (split_beside bits cases)
 
 -- MinDepth's split at a bit length
-unfoldable pub minDepth : (bits : ℕ) → ℕ
-minDepth bits = splitBeside bits minDepthCases
+unfoldable pub min_depth : (bits : ℕ) → ℕ
+min_depth bits = split_beside bits min_depth_cases
 
 -- ---- the source's rule
 
 -- at bit length L, with s the half of L: whether a exceeds b
-unfoldable pub aExceedsB : (bits : ℕ) → Bool
-aExceedsB bits =
+unfoldable pub a_exceeds_b : (bits : ℕ) → Bool
+a_exceeds_b bits =
     let s : ℕ = bits / 2 in
     let a : ℕ = 2 ^ s + 2 ^ (bits - s) + bits - s - 3 in
     let b : ℕ = 2 ^ (s + 1) + 2 ^ (bits - s - 1) + bits - s - 4 in
     ltb b a
 
 -- the split is then s + 1, else s
-unfoldable pub publishedMinDepth : (bits : ℕ) → ℕ
-publishedMinDepth bits = cond (aExceedsB bits) (bits / 2 + 1) (bits / 2)
+unfoldable pub published_min_depth : (bits : ℕ) → ℕ
+published_min_depth bits = cond (a_exceeds_b bits) (bits / 2 + 1) (bits / 2)

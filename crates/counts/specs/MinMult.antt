@@ -2,7 +2,7 @@
 use Rattle.std.specs.Prelude.{◌≡◌, Bool, true, false, cond, ◌&&◌, ◌||◌, ◌⊎◌, ℕ, zero, suc, ◌-◌, ◌≤◌, ◌<◌, ltb, leb, eqb}
 use Rattle.algebra.specs.declared.Basis.{Basis}
 use Rattle.algebra.specs.declared.Parity.{Parity}
-use Rattle.number.specs.Bits.{bitLen}
+use Rattle.number.specs.Bits.{bit_len}
 use Rattle.counts.specs.Pair.{pair_at}
 use Rattle.counts.specs.declared.pair.Pair.{Pair}
 use Rattle.counts.specs.declared.choice.Best.{Best}
@@ -20,22 +20,22 @@ pub record Smallest (pairs : ℕ → Pair) (bits s : ℕ) : Type 0 where
   pub first : (split : ℕ) → 1 ≤ split → split ≤ bits → pairs split ≡ pairs s → s ≤ split
 
 -- whether a pair is less than another
-abbrev pub lessPair : Pair → Pair → Bool
-lessPair p q = ltb p.ct q.ct || (eqb p.ct q.ct && ltb p.pt q.pt)
+abbrev pub less_pair : Pair → Pair → Bool
+less_pair p q = ltb p.ct q.ct || (eqb p.ct q.ct && ltb p.pt q.pt)
 
 -- a greater split takes the place of the best so far if its pair is less
 unfoldable pub better : Best → (split : ℕ) → Pair → Best
-better best split pair = cond (lessPair pair best.pair) (record { split = split; pair = pair }) best
+better best split pair = cond (less_pair pair best.pair) (record { split = split; pair = pair }) best
 
 -- the best of the splits 1, .., k + 1
-unfoldable pub bestOf : (pairs : ℕ → Pair) → (k : ℕ) → Best
-bestOf pairs zero = record { split = 1; pair = pairs 1 }
-bestOf pairs (suc k) = better (bestOf pairs k) (suc (suc k)) (pairs (suc (suc k)))
+unfoldable pub best_of : (pairs : ℕ → Pair) → (k : ℕ) → Best
+best_of pairs zero = record { split = 1; pair = pairs 1 }
+best_of pairs (suc k) = better (best_of pairs k) (suc (suc k)) (pairs (suc (suc k)))
 
 -- 1 if L ≤ 1, also at degree 0; else the smallest split from 1 to L with the least pair
-unfoldable pub minMult : Parity → Basis → (degree : ℕ) → ℕ
-minMult parity basis degree =
-    elim (leb (bitLen degree) 1) [
+unfoldable pub min_mult : Parity → Basis → (degree : ℕ) → ℕ
+min_mult parity basis degree =
+    elim (leb (bit_len degree) 1) [
       | true ↦ 1
-      | false ↦ (bestOf (pair_at parity basis degree) (bitLen degree - 1)).split
+      | false ↦ (best_of (pair_at parity basis degree) (bit_len degree - 1)).split
     ]

@@ -5,17 +5,17 @@ use Rattle.algebra.specs.declared.Parity.{Parity}
 use Rattle.algebra.specs.declared.Parity.TheVariants.{Full, Even, Odd}
 
 -- how many of the powers from 1 to the degree the parity allows
-unfoldable pub allowedTo : Parity → (degree : ℕ) → ℕ
-allowedTo parity zero = 0
-allowedTo parity (suc d) = allowedTo parity d + cond (allows parity (suc d)) 1 0
+unfoldable pub allowed_to : Parity → (degree : ℕ) → ℕ
+allowed_to parity zero = 0
+allowed_to parity (suc d) = allowed_to parity d + cond (allows parity (suc d)) 1 0
 
 -- the pt-ct multiplications of all slices, given by their degrees
-unfoldable pub plainCount : Parity → (slices : List ℕ) → ℕ
-plainCount parity [] = 0
-plainCount parity (degree ∷ slices) = allowedTo parity degree + plainCount parity slices
+unfoldable pub plain_count : Parity → (slices : List ℕ) → ℕ
+plain_count parity [] = 0
+plain_count parity (degree ∷ slices) = allowed_to parity degree + plain_count parity slices
 
 -- all powers for Full, every second one for Even and Odd
 pub record AllowedCounts (degree : ℕ) : Type 0 where
-  pub full : allowedTo Full degree ≡ degree
-  pub even : allowedTo Even degree ≡ degree / 2
-  pub odd : allowedTo Odd degree ≡ (degree + 1) / 2
+  pub full : allowed_to Full degree ≡ degree
+  pub even : allowed_to Even degree ≡ degree / 2
+  pub odd : allowed_to Odd degree ≡ (degree + 1) / 2

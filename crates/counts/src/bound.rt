@@ -1,9 +1,9 @@
 // What a split takes at least, in closed form: by it the choice passes over most splits without counting their slices and needed powers.
 ghost use Rattle.std.specs.Prelude.{◌≡◌, ◌+◌};
-ghost use Rattle.number.specs.Limits.{planLimit};
+ghost use Rattle.number.specs.Limits.{plan_limit};
 ghost use Rattle.number.specs.inside.Between.{Between};
 ghost use Rattle.needed.specs.inside.Planned.{Planned};
-ghost use Rattle.counts.specs.PlainCount.{allowedTo};
+ghost use Rattle.counts.specs.PlainCount.{allowed_to};
 ghost use Rattle.counts.specs.inside.Fewest.{Fewest};
 
 use super::slices::allowed_to;
@@ -12,8 +12,8 @@ use number::{bit_len, power_of_two, top_power};
 
 // How many of the powers from 2 to the degree the parity allows.
 fn allowed_from_two(parity: Parity, degree: usize) -> usize
-    requires { Between 1 degree planLimit }
-    ensures { result + allowedTo parity 1 ≡ allowedTo parity degree }
+    requires { Between 1 degree plan_limit }
+    ensures { result + allowed_to parity 1 ≡ allowed_to parity degree }
 {
     allowed_to(parity, degree) - allowed_to(parity, 1)
 }

@@ -1,9 +1,9 @@
 // The largest degree whose bits are within a budget.
 ghost use Rattle.std.specs.Prelude.{◌≡◌, ◌≤◌};
-ghost use Rattle.number.specs.Limits.{degreeLimit, planLimit, scaleLimit};
+ghost use Rattle.number.specs.Limits.{degree_limit, plan_limit, scale_limit};
 ghost use Rattle.number.specs.inside.Between.{Between};
-ghost use Rattle.counts.specs.LargestDegree.{greatestWithin};
-ghost use Rattle.counts.specs.Calls.{noLargest, largestCall};
+ghost use Rattle.counts.specs.LargestDegree.{greatest_within};
+ghost use Rattle.counts.specs.Calls.{no_largest, largest_call};
 ghost use Rattle.counts.specs.inside.SameBits.{SameDownTo};
 
 use super::choice::SplitStrategy;
@@ -20,14 +20,14 @@ pub struct LargestDegree {
 
 // A refusal.
 fn no_largest(refusal: u8) -> LargestDegree
-    ensures { result ≡ noLargest refusal }
+    ensures { result ≡ no_largest refusal }
 {
     LargestDegree { refusal, degree: 0 }
 }
 
 // The next lower degree whose bits may differ. Up to degree 8 it is the next one, since degree 5 is an exception.
 fn lower_degree(strategy: SplitStrategy, degree: usize) -> usize
-    requires { Between 1 degree degreeLimit }
+    requires { Between 1 degree degree_limit }
     ensures { SameDownTo strategy degree result }
 {
     if degree <= 8 {
@@ -53,8 +53,8 @@ fn lower_degree(strategy: SplitStrategy, degree: usize) -> usize
 // The greatest degree from 1 to 4,095 within the budget, 0 if there is none. Bits need not rise with the degree, so it is looked for from above,
 // and only degrees are passed over that have the bits of one that does not fit.
 fn greatest_within(strategy: SplitStrategy, budget: u64, input: usize, coeff: usize) -> usize
-    requires { (input ≤ scaleLimit) × (coeff ≤ scaleLimit) }
-    ensures { result ≡ greatestWithin strategy budget input coeff planLimit }
+    requires { (input ≤ scale_limit) × (coeff ≤ scale_limit) }
+    ensures { result ≡ greatest_within strategy budget input coeff plan_limit }
 {
     let mut degree = PLAN_LIMIT;
     while 0 < degree {
@@ -74,7 +74,7 @@ pub fn largest_degree(
     input: usize,
     coeff: usize,
 ) -> LargestDegree
-    ensures { result ≡ largestCall strategy budget input coeff }
+    ensures { result ≡ largest_call strategy budget input coeff }
 {
     if SCALE_LIMIT < input {
         return no_largest(10);

@@ -1,14 +1,14 @@
 // The choice of the split by either strategy, and the pair at the chosen split.
 ghost use Rattle.std.specs.Prelude.{◌≡◌, ◌≤◌};
-ghost use Rattle.number.specs.Limits.{planLimit};
+ghost use Rattle.number.specs.Limits.{plan_limit};
 ghost use Rattle.number.specs.inside.Between.{Between};
 ghost use Rattle.needed.specs.inside.Planned.{Planned};
 ghost use Rattle.counts.specs.Pair.{pair_at};
-ghost use Rattle.counts.specs.MinDepth.{minDepth};
-ghost use Rattle.counts.specs.MinMult.{Smallest, lessPair, minMult};
-ghost use Rattle.counts.specs.Choice.{splitFor};
-ghost use Rattle.counts.specs.Calls.{minDepthCall, minMultCall, countsCall};
-ghost use Rattle.counts.specs.inside.BetterOf.{withPair, BetterOf};
+ghost use Rattle.counts.specs.MinDepth.{min_depth};
+ghost use Rattle.counts.specs.MinMult.{Smallest, less_pair, min_mult};
+ghost use Rattle.counts.specs.Choice.{split_for};
+ghost use Rattle.counts.specs.Calls.{min_depth_call, min_mult_call, counts_call};
+ghost use Rattle.counts.specs.inside.BetterOf.{with_pair, BetterOf};
 
 use super::bound::fewest_ct;
 use super::pair::{Pair, estimate_op_counts};
@@ -47,7 +47,7 @@ pub struct Best {
 // MinDepth's split at a bit length, a case for each from 1 to 32. No accepted degree has another.
 fn min_depth(bits: usize) -> usize
     requires { Between 1 bits 32 }
-    ensures { result ≡ minDepth bits }
+    ensures { result ≡ min_depth bits }
 {
     match bits {
         1 => 1,
@@ -88,7 +88,7 @@ fn min_depth(bits: usize) -> usize
 
 // Whether a pair is less: ct-ct is compared first.
 fn less_pair(p: Pair, q: Pair) -> bool
-    ensures { result ≡ lessPair p q }
+    ensures { result ≡ less_pair p q }
 {
     if p.ct < q.ct {
         return true;
@@ -121,7 +121,7 @@ fn better_of(best: Best, other: Best) -> Best
 // The better of the best so far and another split, which is passed over if it takes more ct-ct multiplications than the best.
 fn better_at(parity: Parity, basis: Basis, degree: usize, best: Best, split: usize) -> Best
     requires { Planned degree split × (best.pair ≡ pair_at parity basis degree best.split) }
-    ensures { BetterOf best (withPair (pair_at parity basis degree) split) result }
+    ensures { BetterOf best (with_pair (pair_at parity basis degree) split) result }
 {
     if split == best.split {
         return best;
@@ -136,7 +136,7 @@ fn better_at(parity: Parity, basis: Basis, degree: usize, best: Best, split: usi
 
 // The smallest split from 1 to the bit length with the least pair. It begins with a likely one, MinDepth's.
 fn best_split(parity: Parity, basis: Basis, degree: usize, bits: usize) -> Best
-    requires { Between 1 degree planLimit × Between 1 bits 12 }
+    requires { Between 1 degree plan_limit × Between 1 bits 12 }
     ensures { Smallest (pair_at parity basis degree) bits result.split }
 {
     let likely = min_depth(bits);
@@ -155,8 +155,8 @@ fn best_split(parity: Parity, basis: Basis, degree: usize, bits: usize) -> Best
 
 // MinMult's split.
 fn min_mult(parity: Parity, basis: Basis, degree: usize) -> usize
-    requires { degree ≤ planLimit }
-    ensures { result ≡ minMult parity basis degree }
+    requires { degree ≤ plan_limit }
+    ensures { result ≡ min_mult parity basis degree }
 {
     let bits = bit_len(degree);
     if bits <= 1 {
@@ -173,8 +173,8 @@ pub fn split_for_strategy(
     basis: Basis,
     degree: usize,
 ) -> usize
-    requires { Between 1 degree planLimit }
-    ensures { result ≡ splitFor strategy parity basis degree }
+    requires { Between 1 degree plan_limit }
+    ensures { result ≡ split_for strategy parity basis degree }
 {
     match strategy {
         SplitStrategy::MinDepth => min_depth(bit_len(degree)),
@@ -184,7 +184,7 @@ pub fn split_for_strategy(
 
 // MinDepth's split of a degree: refusal 2 above 4,294,967,295, then 1 at degree 0.
 pub fn min_depth_split(degree: usize) -> SplitChoice
-    ensures { result ≡ minDepthCall degree }
+    ensures { result ≡ min_depth_call degree }
 {
     if DEGREE_LIMIT < degree {
         return SplitChoice {
@@ -204,7 +204,7 @@ pub fn min_depth_split(degree: usize) -> SplitChoice
 
 // MinMult's split of a degree: refusal 2 above 4,095.
 pub fn min_mult_split(parity: Parity, basis: Basis, degree: usize) -> SplitChoice
-    ensures { result ≡ minMultCall parity basis degree }
+    ensures { result ≡ min_mult_call parity basis degree }
 {
     if PLAN_LIMIT < degree {
         return SplitChoice {
@@ -223,7 +223,7 @@ pub fn bsgs_op_counts(
     basis: Basis,
     degree: usize,
 ) -> OpCounts
-    ensures { result ≡ countsCall strategy parity basis degree }
+    ensures { result ≡ counts_call strategy parity basis degree }
 {
     if PLAN_LIMIT < degree {
         return OpCounts {

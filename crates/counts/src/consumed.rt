@@ -1,9 +1,9 @@
 // The bits that an evaluation consumes: its heaviest chain, by the closed form.
 ghost use Rattle.std.specs.Prelude.{◌≡◌, ◌≤◌, max};
-ghost use Rattle.number.specs.Limits.{degreeLimit, scaleLimit};
+ghost use Rattle.number.specs.Limits.{degree_limit, scale_limit};
 ghost use Rattle.number.specs.inside.Between.{Between};
-ghost use Rattle.counts.specs.ConsumedBits.{pureChain, chainBefore, bits_of};
-ghost use Rattle.counts.specs.Calls.{bitsCall};
+ghost use Rattle.counts.specs.ConsumedBits.{pure_chain, chain_before, bits_of};
+ghost use Rattle.counts.specs.Calls.{bits_call};
 
 use super::choice::SplitStrategy;
 use super::depth::depth_from_one;
@@ -18,8 +18,8 @@ pub struct ConsumedBits {
 
 // The ct-ct multiplications of the longest chain without a pt-ct.
 fn pure_chain(degree: usize) -> usize
-    requires { Between 1 degree degreeLimit }
-    ensures { result ≡ pureChain degree }
+    requires { Between 1 degree degree_limit }
+    ensures { result ≡ pure_chain degree }
 {
     let bits = bit_len(degree);
     if degree == top_power(degree) {
@@ -31,8 +31,8 @@ fn pure_chain(degree: usize) -> usize
 
 // The ct-ct multiplications of the longest chain with a pt-ct.
 fn chain_before(strategy: SplitStrategy, degree: usize) -> usize
-    requires { Between 1 degree degreeLimit }
-    ensures { result ≡ chainBefore strategy degree }
+    requires { Between 1 degree degree_limit }
+    ensures { result ≡ chain_before strategy degree }
 {
     let depth = depth_from_one(strategy, degree);
     match strategy {
@@ -50,7 +50,7 @@ fn greatest(a: usize, b: usize) -> usize
 
 // The bits of a degree from 1: the heavier of the two chains.
 pub fn bits_from_one(strategy: SplitStrategy, degree: usize, input: usize, coeff: usize) -> usize
-    requires { Between 1 degree degreeLimit × (input ≤ scaleLimit) × (coeff ≤ scaleLimit) }
+    requires { Between 1 degree degree_limit × (input ≤ scale_limit) × (coeff ≤ scale_limit) }
     ensures { result ≡ bits_of strategy degree input coeff }
 {
     let pure = pure_chain(degree);
@@ -65,7 +65,7 @@ pub fn bsgs_consumed_bits(
     input: usize,
     coeff: usize,
 ) -> ConsumedBits
-    ensures { result ≡ bitsCall strategy degree input coeff }
+    ensures { result ≡ bits_call strategy degree input coeff }
 {
     if DEGREE_LIMIT < degree {
         return ConsumedBits {

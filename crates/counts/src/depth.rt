@@ -1,9 +1,9 @@
 // The depth of an evaluation.
 ghost use Rattle.std.specs.Prelude.{◌≡◌};
-ghost use Rattle.number.specs.Limits.{degreeLimit};
+ghost use Rattle.number.specs.Limits.{degree_limit};
 ghost use Rattle.number.specs.inside.Between.{Between};
 ghost use Rattle.counts.specs.Depth.{threshold, depth_of};
-ghost use Rattle.counts.specs.Calls.{depthCall};
+ghost use Rattle.counts.specs.Calls.{depth_call};
 
 use super::choice::SplitStrategy;
 use number::{DEGREE_LIMIT, bit_len, power_of_two};
@@ -25,7 +25,7 @@ pub fn depth_threshold(bits: usize) -> usize
 
 // The depth of a degree from 1.
 pub fn depth_from_one(strategy: SplitStrategy, degree: usize) -> usize
-    requires { Between 1 degree degreeLimit }
+    requires { Between 1 degree degree_limit }
     ensures { result ≡ depth_of strategy degree }
 {
     let bits = bit_len(degree);
@@ -41,7 +41,7 @@ pub fn depth_from_one(strategy: SplitStrategy, degree: usize) -> usize
 
 // The depth of a degree, 0 at degree 0: refusal 2 above 4,294,967,295.
 pub fn bsgs_eval_depth(strategy: SplitStrategy, degree: usize) -> EvalDepth
-    ensures { result ≡ depthCall strategy degree }
+    ensures { result ≡ depth_call strategy degree }
 {
     if DEGREE_LIMIT < degree {
         return EvalDepth {

@@ -1,9 +1,9 @@
 // The pair (ct-ct, pt-ct) of a degree at a split.
 ghost use Rattle.std.specs.Prelude.{◌≡◌};
-ghost use Rattle.number.specs.Limits.{degreeLimit};
+ghost use Rattle.number.specs.Limits.{degree_limit};
 ghost use Rattle.number.specs.inside.Between.{Between};
 ghost use Rattle.needed.specs.inside.Planned.{Planned};
-ghost use Rattle.counts.specs.Pair.{lastIsPlain, pair_at};
+ghost use Rattle.counts.specs.Pair.{last_is_plain, pair_at};
 
 use super::slices::count_slices;
 use algebra::{Basis, Parity};
@@ -19,8 +19,8 @@ pub struct Pair {
 
 // Whether the estimate takes the last combine to be plain: one multiplication then moves from ct-ct to pt-ct.
 fn last_is_plain(degree: usize, slices: usize, last: usize) -> bool
-    requires { Between 1 degree degreeLimit }
-    ensures { result ≡ lastIsPlain degree slices last }
+    requires { Between 1 degree degree_limit }
+    ensures { result ≡ last_is_plain degree slices last }
 {
     if slices < 2 {
         return false;

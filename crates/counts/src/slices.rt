@@ -1,9 +1,9 @@
 // The slices of a degree, counted together with the plain multiplications that they take.
 ghost use Rattle.std.specs.Prelude.{◌≤◌, ◌≡◌};
-ghost use Rattle.number.specs.Limits.{planLimit};
+ghost use Rattle.number.specs.Limits.{plan_limit};
 ghost use Rattle.number.specs.inside.Between.{Between};
-ghost use Rattle.counts.specs.Slices.{slicesOf};
-ghost use Rattle.counts.specs.PlainCount.{allowedTo};
+ghost use Rattle.counts.specs.Slices.{slices_of};
+ghost use Rattle.counts.specs.PlainCount.{allowed_to};
 ghost use Rattle.counts.specs.inside.Tallies.{tally_of};
 
 use algebra::Parity;
@@ -19,8 +19,8 @@ pub struct Tally {
 
 // How many of the powers 1 to the degree the parity allows.
 pub fn allowed_to(parity: Parity, degree: usize) -> usize
-    requires { degree ≤ planLimit }
-    ensures { result ≡ allowedTo parity degree }
+    requires { degree ≤ plan_limit }
+    ensures { result ≡ allowed_to parity degree }
 {
     match parity {
         Parity::Full => degree,
@@ -31,8 +31,8 @@ pub fn allowed_to(parity: Parity, degree: usize) -> usize
 
 // The slices at a split, counted over the low and the high part of each cut.
 pub fn count_slices(parity: Parity, degree: usize, split: usize) -> Tally
-    requires { (degree ≤ planLimit) × Between 1 split 12 }
-    ensures { result ≡ tally_of parity (slicesOf degree split) }
+    requires { (degree ≤ plan_limit) × Between 1 split 12 }
+    ensures { result ≡ tally_of parity (slices_of degree split) }
 {
     let base = power_of_two(split);
     if degree < base {

@@ -9,68 +9,68 @@ use lib.Ieee.{Float}
 use lib.IntN.{ℤ}
 use lib.ListN.{length, take}
 use lib.Seq.{take_at}
-use Rattle.algebra.specs.Transform.{transformOf}
+use Rattle.algebra.specs.Transform.{transform_of}
 use Rattle.algebra.specs.declared.Basis.{Basis}
 use Rattle.algebra.specs.declared.Basis.TheVariants.{Monomial, Chebyshev}
 use Rattle.algebra.specs.declared.Parity.{Parity}
 use Rattle.counts.specs.declared.choice.SplitStrategy.{SplitStrategy}
-use Rattle.lists.specs.Arrange.{lengthsOf}
-use Rattle.lists.specs.Lists.{endsFrom}
+use Rattle.lists.specs.Arrange.{lengths_of}
+use Rattle.lists.specs.Lists.{ends_from}
 use Rattle.plan.specs.Reported.{reported}
 use Rattle.plan.specs.PlanHead.{head_of}
-use Rattle.plan.specs.PlanCall.{Accepted, planned, plannedDegree, tree, headFor, boundariesFor}
+use Rattle.plan.specs.PlanCall.{Accepted, planned, planned_degree, tree, head_for, boundaries_for}
 use Rattle.demands.specs.Counted.{lengths_from, PlansReport, TransformCosts}
-use Rattle.demands.specs.Right.{listsFor, Stored}
+use Rattle.demands.specs.Right.{lists_for, Stored}
 use Rattle.demands.proofs.Accepts.{plannable}
-use Rattle.demands.proofs.Right.{ordered, boundaries-length, lent-steps, plans-right}
+use Rattle.demands.proofs.Right.{ordered, boundaries_length, lent_steps_lem, plans_right}
 
 -- ---- the steps that stand in the buffer
 
 -- lists that stand one after another end where they should
-lengths_read : (at : ℕ) (lists : List (List ℤ)) → lengths_from at (endsFrom at lists) ≡ map length lists
-unfolding lengths_from endsFrom
+lengths_read : (at : ℕ) (lists : List (List ℤ)) → lengths_from at (ends_from at lists) ≡ map length lists
+unfolding lengths_from ends_from
 lengths_read at [] = refl
 lengths_read at (list ∷ lists) =
     let size : at + length list - at ≡ length list = omega arith in
     ap₂ ◌∷◌ size (lengths_read (at + length list) lists)
 
 -- the boundaries tell the lengths of the planned lists
-pub boundaries-read : (strategy : SplitStrategy) (parity : Parity) (basis : Basis) (folded : Bool) (c : List ℤ) → Accepted folded parity c
-    → lengths_from 0 (boundariesFor strategy parity basis folded c)
-    ≡ lengthsOf (tree strategy parity basis folded c) (suc (plannedDegree strategy parity basis folded c))
-boundaries-read strategy parity basis folded c accepted =
+pub boundaries_read : (strategy : SplitStrategy) (parity : Parity) (basis : Basis) (folded : Bool) (c : List ℤ) → Accepted folded parity c
+    → lengths_from 0 (boundaries_for strategy parity basis folded c)
+    ≡ lengths_of (tree strategy parity basis folded c) (suc (planned_degree strategy parity basis folded c))
+boundaries_read strategy parity basis folded c accepted =
     let order = ordered strategy parity basis folded c accepted in
-    let places : suc (plannedDegree strategy parity basis folded c) ≡ length (planned strategy parity basis folded c) =
+    let places : suc (planned_degree strategy parity basis folded c) ≡ length (planned strategy parity basis folded c) =
     omega (arith, (plannable folded parity basis c accepted).several) in
     ap (lengths_from 0) (order.ends 0)
-    ∙ lengths_read 0 (listsFor strategy parity basis folded c)
-    ∙ sym (ap (lengthsOf (tree strategy parity basis folded c)) places ∙ order.lengths)
+    ∙ lengths_read 0 (lists_for strategy parity basis folded c)
+    ∙ sym (ap (lengths_of (tree strategy parity basis folded c)) places ∙ order.lengths)
 
 -- so do those that the buffer holds
-pub lent-lengths : (strategy : SplitStrategy) (parity : Parity) (basis : Basis) (folded : Bool) (c : List ℤ) (a b : Float) (coefficients : List ℤ)
+pub lent_lengths : (strategy : SplitStrategy) (parity : Parity) (basis : Basis) (folded : Bool) (c : List ℤ) (a b : Float) (coefficients : List ℤ)
     (bounds steps : List ℕ) → Accepted folded parity c → Stored strategy parity basis folded c coefficients bounds steps
-    → lengths_from 0 (take (headFor strategy parity basis folded c a b).lists bounds)
-    ≡ lengthsOf (tree strategy parity basis folded c) (suc (plannedDegree strategy parity basis folded c))
-lent-lengths strategy parity basis folded c a b coefficients bounds steps accepted stored =
-    let lists = (headFor strategy parity basis folded c a b).lists in
-    ap (λ (l : List ℕ). lengths_from 0 (take lists l)) stored.bounds-are
-    ∙ ap (lengths_from 0) (take_at (boundariesFor strategy parity basis folded c) stored.more-bounds lists
-    (boundaries-length strategy parity basis folded c accepted a b))
-    ∙ boundaries-read strategy parity basis folded c accepted
+    → lengths_from 0 (take (head_for strategy parity basis folded c a b).lists bounds)
+    ≡ lengths_of (tree strategy parity basis folded c) (suc (planned_degree strategy parity basis folded c))
+lent_lengths strategy parity basis folded c a b coefficients bounds steps accepted stored =
+    let lists = (head_for strategy parity basis folded c a b).lists in
+    ap (λ (l : List ℕ). lengths_from 0 (take lists l)) stored.bounds_are
+    ∙ ap (lengths_from 0) (take_at (boundaries_for strategy parity basis folded c) stored.more_bounds lists
+    (boundaries_length strategy parity basis folded c accepted a b))
+    ∙ boundaries_read strategy parity basis folded c accepted
 
-pub plans-report : PlansReport
+pub plans_report : PlansReport
 unfolding head_of reported
-plans-report strategy parity basis folded c a b out bounds steps r out' bounds' steps' brings call =
-    let right = plans-right strategy parity basis folded c a b out bounds steps r out' bounds' steps' brings call in
+plans_report strategy parity basis folded c a b out bounds steps r out' bounds' steps' brings call =
+    let right = plans_right strategy parity basis folded c a b out bounds steps r out' bounds' steps' brings call in
     rw (
       right.answer,
-      lent-steps strategy parity basis folded c a b out' bounds' steps' right.stored,
-      lent-lengths strategy parity basis folded c a b out' bounds' steps' brings.accepted right.stored,
+      lent_steps_lem strategy parity basis folded c a b out' bounds' steps' right.stored,
+      lent_lengths strategy parity basis folded c a b out' bounds' steps' brings.accepted right.stored,
     ) (record { encrypted = refl; plain = refl })
 
 -- ---- the transform
 
-pub transform-costs : (basis : Basis) → TransformCosts basis
-unfolding transformOf
-transform-costs Monomial = record { unfolded = λ parity. refl; even = refl; odd = refl }
-transform-costs Chebyshev = record { unfolded = λ parity. refl; even = refl; odd = refl }
+pub transform_costs : (basis : Basis) → TransformCosts basis
+unfolding transform_of
+transform_costs Monomial = record { unfolded = λ parity. refl; even = refl; odd = refl }
+transform_costs Chebyshev = record { unfolded = λ parity. refl; even = refl; odd = refl }

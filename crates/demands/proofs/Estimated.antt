@@ -10,102 +10,102 @@ use Rattle.algebra.specs.Allowed.{allows}
 use Rattle.algebra.specs.declared.Basis.{Basis}
 use Rattle.algebra.specs.declared.Parity.{Parity}
 use Rattle.algebra.specs.declared.PolynomialInputTransform.{PolynomialInputTransform}
-use Rattle.number.specs.Bits.{digits, bitLen, topPower, powerBelow, isPowerOfTwo}
-use Rattle.number.specs.Interval.{changeOfBasis}
-use Rattle.number.specs.Limits.{planLimit}
-use Rattle.number.specs.Refusal.{unlessRefused}
+use Rattle.number.specs.Bits.{digits, bit_len, top_power, power_below, is_power_of_two}
+use Rattle.number.specs.Interval.{change_of_basis}
+use Rattle.number.specs.Limits.{plan_limit}
+use Rattle.number.specs.Refusal.{unless_refused}
 use Rattle.number.specs.Split.{parts_of}
 use Rattle.number.specs.declared.interval.Interval.{Interval}
 use Rattle.number.specs.inside.Between.{Between}
-use Rattle.number.proofs.Bits.{some-digit}
-use Rattle.needed.specs.NeededList.{isTarget, isPart, isPartOfOne, listedDown, neededList, neededCount}
-use Rattle.counts.specs.Slices.{slicesIn, slicesOf, last_of}
-use Rattle.counts.specs.PlainCount.{allowedTo, plainCount}
-use Rattle.counts.specs.Pair.{lastIsPlain, pair_of, pair_at}
-use Rattle.counts.specs.MinMult.{AtMost, better, bestOf, minMult}
-use Rattle.counts.specs.Choice.{splitFor}
-use Rattle.counts.specs.Calls.{countsCall}
+use Rattle.number.proofs.Bits.{some_digit}
+use Rattle.needed.specs.NeededList.{is_target, is_part, is_part_of_one, listed_down, needed_list, needed_count}
+use Rattle.counts.specs.Slices.{slices_in, slices_of, last_of}
+use Rattle.counts.specs.PlainCount.{allowed_to, plain_count}
+use Rattle.counts.specs.Pair.{last_is_plain, pair_of, pair_at}
+use Rattle.counts.specs.MinMult.{AtMost, better, best_of, min_mult}
+use Rattle.counts.specs.Choice.{split_for}
+use Rattle.counts.specs.Calls.{counts_call}
 use Rattle.counts.specs.declared.pair.Pair.{Pair}
 use Rattle.counts.specs.declared.choice.SplitStrategy.TheVariants.{MinMult}
-use Rattle.counts.proofs.ChoiceLaws.{counts-from-one}
-use Rattle.counts.proofs.MinMultLaws.{mult-low}
+use Rattle.counts.proofs.ChoiceLaws.{counts_from_one}
+use Rattle.counts.proofs.MinMultLaws.{mult_low}
 use Rattle.counts.proofs.Promises.{chosen}
-use Rattle.lists.specs.Tree.{treeIn, tree_of, planTree}
-use Rattle.lists.specs.Arrange.{leavesOf, lengthsOf}
-use Rattle.plan.specs.PlanSteps.{powerSteps, lastLength, lastPlain, combineKind, treeSteps, listSteps, stepsAt}
-use Rattle.plan.specs.Reported.{ofKind, allowedIn, reported}
+use Rattle.lists.specs.Tree.{tree_in, tree_of, plan_tree}
+use Rattle.lists.specs.Arrange.{leaves_of, lengths_of}
+use Rattle.plan.specs.PlanSteps.{power_steps, last_length, last_plain, combine_kind, tree_steps, list_steps, steps_at}
+use Rattle.plan.specs.Reported.{of_kind, allowed_in, reported}
 use Rattle.plan.specs.PlanHead.{head_of}
-use Rattle.plan.specs.PlanCall.{plannedParity, plannedTransform, plannedDegree}
+use Rattle.plan.specs.PlanCall.{planned_parity, planned_transform, planned_degree}
 use Rattle.demands.specs.Estimated.{Estimated, PlansEstimated, CheaperReported}
 use Rattle.demands.proofs.Accepts.{plannable}
-use Rattle.demands.proofs.Counted.{lent-lengths}
-use Rattle.demands.proofs.Pairs.{pair-moved}
-use Rattle.demands.proofs.Right.{plans-right}
+use Rattle.demands.proofs.Counted.{lent_lengths}
+use Rattle.demands.proofs.Pairs.{pair_moved}
+use Rattle.demands.proofs.Right.{plans_right}
 
 -- ---- the split
 
 module _ (parity : Parity) (basis : Basis) (degree : ℕ) (positive : 1 ≤ degree) where
   -- the estimate of MinMult's split is the least; below degree 2 there is one split
-  least-pair : (other : ℕ) → 1 ≤ other → other ≤ bitLen degree
-      → AtMost (pair_at parity basis degree (minMult parity basis degree)) (pair_at parity basis degree other)
-  least-pair other from to = by (dec_lt 1 (bitLen degree))
+  least_pair : (other : ℕ) → 1 ≤ other → other ≤ bit_len degree
+      → AtMost (pair_at parity basis degree (min_mult parity basis degree)) (pair_at parity basis degree other)
+  least_pair other from to = by (dec_lt 1 (bit_len degree))
     where
-      by : Dec (1 < bitLen degree) → AtMost (pair_at parity basis degree (minMult parity basis degree)) (pair_at parity basis degree other)
-      by (yes more) = ((chosen parity basis degree).least-pair more).least other from to
+      by : Dec (1 < bit_len degree) → AtMost (pair_at parity basis degree (min_mult parity basis degree)) (pair_at parity basis degree other)
+      by (yes more) = ((chosen parity basis degree).least_pair more).least other from to
       by (no few) =
           let one : other ≡ 1 = omega arith in
-          rw (mult-low parity basis degree (omega arith), one) (inr (refl, omega arith))
+          rw (mult_low parity basis degree (omega arith), one) (inr (refl, omega arith))
 
-  split-to : minMult parity basis degree ≤ bitLen degree
-  split-to = by (dec_lt 1 (bitLen degree))
+  split_to : min_mult parity basis degree ≤ bit_len degree
+  split_to = by (dec_lt 1 (bit_len degree))
     where
-      by : Dec (1 < bitLen degree) → minMult parity basis degree ≤ bitLen degree
-      by (yes more) = ((chosen parity basis degree).least-pair more).to
-      by (no few) = rw (mult-low parity basis degree (omega arith)) (some-digit degree positive)
+      by : Dec (1 < bit_len degree) → min_mult parity basis degree ≤ bit_len degree
+      by (yes more) = ((chosen parity basis degree).least_pair more).to
+      by (no few) = rw (mult_low parity basis degree (omega arith)) (some_digit degree positive)
 
 -- ---- the head
 
 estimated : (parity : Parity) (basis : Basis) (transform : PolynomialInputTransform) (interval : Interval) (degree : ℕ)
-    → Between 1 degree planLimit
-    → Estimated (head_of MinMult parity basis transform interval degree) (lengthsOf (planTree MinMult parity basis degree) (suc degree))
-unfolding head_of countsCall splitFor unlessRefused reported
+    → Between 1 degree plan_limit
+    → Estimated (head_of MinMult parity basis transform interval degree) (lengths_of (plan_tree MinMult parity basis degree) (suc degree))
+unfolding head_of counts_call split_for unless_refused reported
 estimated parity basis transform interval degree range =
-    let split = minMult parity basis degree in
-    let told = pair-moved parity basis degree split in
+    let split = min_mult parity basis degree in
+    let told = pair_moved parity basis degree split in
     record {
       split = split;
       base = refl;
-      split-is = refl;
+      split_is = refl;
       from_one = (chosen parity basis degree).from_one MinMult range.from range.to;
-      to-length = split-to parity basis degree range.from;
+      to_length = split_to parity basis degree range.from;
       estimate = pair_at parity basis degree split;
-      estimate-is = refl;
-      counts = rw (le-ltb planLimit degree range.to)
-          (ap (λ (p : Pair). record { refusal = 0; ct = p.ct; pt = p.pt }) (counts-from-one MinMult parity basis degree range.from));
-      least = least-pair parity basis degree range.from;
-      encrypted = omega (arith, told.ct-moved);
-      plain = told.pt-moved;
+      estimate_is = refl;
+      counts = rw (le-ltb plan_limit degree range.to)
+          (ap (λ (p : Pair). record { refusal = 0; ct = p.ct; pt = p.pt }) (counts_from_one MinMult parity basis degree range.from));
+      least = least_pair parity basis degree range.from;
+      encrypted = omega (arith, told.ct_moved);
+      plain = told.pt_moved;
     }
 
-pub plans-estimated : PlansEstimated
-plans-estimated parity basis folded c a b out bounds steps r out' bounds' steps' brings call =
-    let right = plans-right MinMult parity basis folded c a b out bounds steps r out' bounds' steps' brings call in
+pub plans_estimated : PlansEstimated
+plans_estimated parity basis folded c a b out bounds steps r out' bounds' steps' brings call =
+    let right = plans_right MinMult parity basis folded c a b out bounds steps r out' bounds' steps' brings call in
     let accepted = brings.accepted in
     let facts = plannable folded parity basis c accepted in
-    rw (right.answer, lent-lengths MinMult parity basis folded c a b out' bounds' steps' accepted right.stored)
-    (estimated (plannedParity folded parity) basis (plannedTransform folded parity basis) (changeOfBasis basis a b)
-    (plannedDegree MinMult parity basis folded c) (record { from = omega (arith, facts.several); to = facts.few }))
+    rw (right.answer, lent_lengths MinMult parity basis folded c a b out' bounds' steps' accepted right.stored)
+    (estimated (planned_parity folded parity) basis (planned_transform folded parity basis) (change_of_basis basis a b)
+    (planned_degree MinMult parity basis folded c) (record { from = omega (arith, facts.several); to = facts.few }))
 
 -- ---- the example
 
-pub cheaper-reported : CheaperReported
-unfolding minMult bestOf better pair_at pair_of lastIsPlain slicesOf slicesIn last_of plainCount allowedTo splitFor reported allowedIn ofKind stepsAt
-    listSteps treeSteps combineKind lastPlain lastLength powerSteps leavesOf lengthsOf tree_of treeIn neededCount neededList listedDown isPartOfOne
-    isPart isTarget allows topPower parts_of powerBelow isPowerOfTwo bitLen digits
-cheaper-reported = record {
+pub cheaper_reported : CheaperReported
+unfolding min_mult best_of better pair_at pair_of last_is_plain slices_of slices_in last_of plain_count allowed_to split_for reported allowed_in of_kind steps_at
+    list_steps tree_steps combine_kind last_plain last_length power_steps leaves_of lengths_of tree_of tree_in needed_count needed_list listed_down is_part_of_one
+    is_part is_target allows top_power parts_of power_below is_power_of_two bit_len digits
+cheaper_reported = record {
   chosen = refl;
-  estimate-chosen = refl;
-  estimate-other = refl;
-  reported-chosen = refl;
-  reported-other = refl;
+  estimate_chosen = refl;
+  estimate_other = refl;
+  reported_chosen = refl;
+  reported_other = refl;
 }

@@ -1,17 +1,17 @@
 -- The transform of a fold has its number: case by case.
 use mathlib.Core.Path.{◌≡◌, refl}
-use Rattle.algebra.specs.EnumNumbers.{transformNumber}
-use Rattle.algebra.specs.Transform.{transformOf}
+use Rattle.algebra.specs.EnumNumbers.{transform_number}
+use Rattle.algebra.specs.Transform.{transform_of}
 use Rattle.algebra.specs.declared.Basis.{Basis}
 use Rattle.algebra.specs.declared.Basis.TheVariants.{Monomial, Chebyshev}
 use Rattle.algebra.specs.declared.Parity.{Parity}
 use Rattle.algebra.specs.declared.Parity.TheVariants.{Full, Even, Odd}
-use Rattle.demands.specs.FoldNumber.{foldNumber}
+use Rattle.demands.specs.FoldNumber.{fold_number}
 
-pub fold-numbered : (parity : Parity) (basis : Basis) → transformNumber (transformOf parity basis) ≡ foldNumber parity basis
-unfolding transformOf
-fold-numbered Full basis = refl
-fold-numbered Even Monomial = refl
-fold-numbered Odd Monomial = refl
-fold-numbered Even Chebyshev = refl
-fold-numbered Odd Chebyshev = refl
+pub fold_numbered_lem : (parity : Parity) (basis : Basis) → transform_number (transform_of parity basis) ≡ fold_number parity basis
+unfolding transform_of
+fold_numbered_lem Full basis = refl
+fold_numbered_lem Even Monomial = refl
+fold_numbered_lem Odd Monomial = refl
+fold_numbered_lem Even Chebyshev = refl
+fold_numbered_lem Odd Chebyshev = refl

@@ -15,50 +15,50 @@ use lib.Pow.{pow_mono, pow-add}
 use Rattle.algebra.specs.declared.Basis.{Basis}
 use Rattle.algebra.specs.declared.Parity.{Parity}
 use Rattle.counts.specs.Slices.{last_of}
-use Rattle.counts.proofs.TallyLaws.{last-append}
+use Rattle.counts.proofs.TallyLaws.{last_append}
 use Rattle.lists.specs.Tree.{Tree, leaf, cut, tree_of}
 use Rattle.lists.specs.TreeFacts.{Sound}
-use Rattle.lists.specs.Arrange.{leavesOf, lengthsOf}
-use Rattle.lists.proofs.Arranging.{some-leaves}
+use Rattle.lists.specs.Arrange.{leaves_of, lengths_of}
+use Rattle.lists.proofs.Arranging.{some_leaves}
 use Rattle.walk.specs.declared.plan.Step.{Step}
-use Rattle.plan.specs.PlanSteps.{loadStep, combineStep, lastLength, lastPlain, combineKind, treeSteps, stepsAt}
-use Rattle.plan.specs.Reported.{ofKind}
-use Rattle.plan.proofs.StepCounts.{steps-counted}
-use Rattle.demands.specs.PlainStep.{loneLast}
+use Rattle.plan.specs.PlanSteps.{load_step, combine_step, last_length, last_plain, combine_kind, tree_steps, steps_at}
+use Rattle.plan.specs.Reported.{of_kind}
+use Rattle.plan.proofs.StepCounts.{steps_counted}
+use Rattle.demands.specs.PlainStep.{lone_last}
 
 -- ---- its length
 
-pub leaves-length : (tree : Tree) (n : ℕ) → leavesOf tree ≡ length (lengthsOf tree n)
-unfolding leavesOf lengthsOf
-leaves-length leaf n = refl
-leaves-length (cut p low high) n = rw length-append (ap₂ ◌+◌ (leaves-length low p) (leaves-length high (n - p)))
+pub leaves_length : (tree : Tree) (n : ℕ) → leaves_of tree ≡ length (lengths_of tree n)
+unfolding leaves_of lengths_of
+leaves_length leaf n = refl
+leaves_length (cut p low high) n = rw length-append (ap₂ ◌+◌ (leaves_length low p) (leaves_length high (n - p)))
 
-last-length : (tree : Tree) (n : ℕ) → lastLength tree n ≡ last_of (lengthsOf tree n)
-unfolding lastLength lengthsOf last_of
-last-length leaf n = refl
-last-length (cut p low high) n =
-    last-length high (n - p)
-    ∙ sym (last-append (lengthsOf low p) (lengthsOf high (n - p)) (omega (arith, leaves-length high (n - p), some-leaves high)))
+last_length_lem : (tree : Tree) (n : ℕ) → last_length tree n ≡ last_of (lengths_of tree n)
+unfolding last_length lengths_of last_of
+last_length_lem leaf n = refl
+last_length_lem (cut p low high) n =
+    last_length_lem high (n - p)
+    ∙ sym (last_append (lengths_of low p) (lengths_of high (n - p)) (omega (arith, leaves_length high (n - p), some_leaves high)))
 
 -- a last list of one after another list is one that is plain, with two lists or more
-pub lone-last : (degree : ℕ) (tree : Tree) → loneLast (lengthsOf tree (suc degree)) ≡ (leb 2 (leavesOf tree) && lastPlain degree tree)
-unfolding lastPlain
-lone-last degree tree = rw (leaves-length tree (suc degree), last-length tree (suc degree))
+pub lone_last_lem : (degree : ℕ) (tree : Tree) → lone_last (lengths_of tree (suc degree)) ≡ (leb 2 (leaves_of tree) && last_plain degree tree)
+unfolding last_plain
+lone_last_lem degree tree = rw (leaves_length tree (suc degree), last_length_lem tree (suc degree))
 
 -- so one step is of kind 4 if there is such a list, and none otherwise
 pub fours : (leading : Bool) (parity : Parity) (basis : Basis) (degree split : ℕ)
-    → ofKind 4 (stepsAt leading parity basis degree split) ≡ cond (loneLast (lengthsOf (tree_of leading degree degree split) (suc degree))) 1 0
+    → of_kind 4 (steps_at leading parity basis degree split) ≡ cond (lone_last (lengths_of (tree_of leading degree degree split) (suc degree))) 1 0
 fours leading parity basis degree split =
     let tree = tree_of leading degree degree split in
-    (steps-counted leading parity basis degree split).plain-ones
-    ∙ ap (λ (t : Bool). cond t 1 0) (and_comm (lastPlain degree tree) (leb 2 (leavesOf tree)) ∙ sym (lone-last degree tree))
+    (steps_counted leading parity basis degree split).plain_ones
+    ∙ ap (λ (t : Bool). cond t 1 0) (and_comm (last_plain degree tree) (leb 2 (leaves_of tree)) ∙ sym (lone_last_lem degree tree))
 
 -- ---- its combine
 
 -- an odd multiple of a power of two and a greater power of two make another
-odd-more : (exponent level odd : ℕ) → (2 * odd + 1) * 2 ^ exponent < 2 ^ suc level
+odd_more : (exponent level odd : ℕ) → (2 * odd + 1) * 2 ^ exponent < 2 ^ suc level
     → 2 ^ suc level + (2 * odd + 1) * 2 ^ exponent ≡ (2 * (odd + 2 ^ (level - exponent)) + 1) * 2 ^ exponent
-odd-more exponent level odd below =
+odd_more exponent level odd below =
     let rest = level - exponent in
     let digits : suc level ≡ suc rest + exponent = omega (arith, lower (dec_lt level exponent)) in
     let greater : 2 ^ suc level ≡ 2 ^ suc rest * 2 ^ exponent = ap (2 ^◌) digits ∙ pow-add 2 (suc rest) exponent in
@@ -81,40 +81,40 @@ pub record LoneEnd (tree : Tree) (n i : ℕ) : Type 0 where
   pub after : List Step
   pub exponent : ℕ
   pub odd : ℕ
-  pub steps-are : treeSteps true tree i ≡ before ++ (loadStep (i + leavesOf tree - 1) ∷ combineStep 4 (2 ^ exponent) ∷ after)
+  pub steps_are : tree_steps true tree i ≡ before ++ (load_step (i + leaves_of tree - 1) ∷ combine_step 4 (2 ^ exponent) ∷ after)
   pub number_is : n ≡ suc ((2 * odd + 1) * 2 ^ exponent)
 
-lone-end : (base p : ℕ) (low high : Tree) (n i : ℕ) → Sound base (cut p low high) n → lastLength high (n - p) ≡ 1 → LoneEnd (cut p low high) n i
-unfolding treeSteps leavesOf lastLength combineKind
-lone-end base p low leaf n i sound one =
-    let at : i + (leavesOf low + 1) - 1 ≡ i + leavesOf low = omega arith in
+lone_end : (base p : ℕ) (low high : Tree) (n i : ℕ) → Sound base (cut p low high) n → last_length high (n - p) ≡ 1 → LoneEnd (cut p low high) n i
+unfolding tree_steps leaves_of last_length combine_kind
+lone_end base p low leaf n i sound one =
+    let at : i + (leaves_of low + 1) - 1 ≡ i + leaves_of low = omega arith in
     record {
-      before = treeSteps false low i;
+      before = tree_steps false low i;
       after = [];
       exponent = suc sound.level;
       odd = 0;
-      steps-are = rw (at, sound.power);
+      steps_are = rw (at, sound.power);
       number_is = omega (arith, sound.power, sound.under);
     }
-lone-end base p low (cut p' low' high') n i sound one =
-    let j = i + leavesOf low in
-    let inner = lone-end base p' low' high' (n - p) j sound.high one in
+lone_end base p low (cut p' low' high') n i sound one =
+    let j = i + leaves_of low in
+    let inner = lone_end base p' low' high' (n - p) j sound.high one in
     let less : (2 * inner.odd + 1) * 2 ^ inner.exponent < 2 ^ suc sound.level =
     omega (arith, inner.number_is, sound.power, sound.half, sound.under) in
-    let more = odd-more inner.exponent sound.level inner.odd less in
-    let several : 2 ≤ leavesOf low' + leavesOf high' = omega (arith, some-leaves low', some-leaves high') in
-    let kind : combineKind true (cut p' low' high') ≡ 3 = rw (ne_eqb (leavesOf low' + leavesOf high') 1 (λ same. omega arith)) in
-    let at : i + (leavesOf low + (leavesOf low' + leavesOf high')) ≡ j + (leavesOf low' + leavesOf high') = omega arith in
+    let more = odd_more inner.exponent sound.level inner.odd less in
+    let several : 2 ≤ leaves_of low' + leaves_of high' = omega (arith, some_leaves low', some_leaves high') in
+    let kind : combine_kind true (cut p' low' high') ≡ 3 = rw (ne_eqb (leaves_of low' + leaves_of high') 1 (λ same. omega arith)) in
+    let at : i + (leaves_of low + (leaves_of low' + leaves_of high')) ≡ j + (leaves_of low' + leaves_of high') = omega arith in
     record {
-      before = treeSteps false low i ++ inner.before;
-      after = inner.after ++ (combineStep 3 p ∷ []);
+      before = tree_steps false low i ++ inner.before;
+      after = inner.after ++ (combine_step 3 p ∷ []);
       exponent = inner.exponent;
       odd = inner.odd + 2 ^ (sound.level - inner.exponent);
-      steps-are = rw (at, kind) (regroup (treeSteps false low i) inner.before _ _ inner.after (combineStep 3 p ∷ []) inner.steps-are);
+      steps_are = rw (at, kind) (regroup (tree_steps false low i) inner.before _ _ inner.after (combine_step 3 p ∷ []) inner.steps_are);
       number_is = omega (arith, inner.number_is, sound.power, sound.under, more);
     }
 
-pub lone-in : (base : ℕ) (tree : Tree) (n i : ℕ) → Sound base tree n → 2 ≤ leavesOf tree → lastLength tree n ≡ 1 → LoneEnd tree n i
-unfolding leavesOf lastLength
-lone-in base leaf n i sound two one = absurd (omega arith)
-lone-in base (cut p low high) n i sound two one = lone-end base p low high n i sound one
+pub lone_in : (base : ℕ) (tree : Tree) (n i : ℕ) → Sound base tree n → 2 ≤ leaves_of tree → last_length tree n ≡ 1 → LoneEnd tree n i
+unfolding leaves_of last_length
+lone_in base leaf n i sound two one = absurd (omega arith)
+lone_in base (cut p low high) n i sound two one = lone_end base p low high n i sound one

@@ -10,17 +10,17 @@ use lib.ListN.{take}
 use lib.Seq.{take_at}
 use Rattle.algebra.specs.declared.Basis.{Basis}
 use Rattle.algebra.specs.declared.Parity.{Parity}
-use Rattle.number.proofs.Refusal.{when-accepted}
+use Rattle.number.proofs.Refusal.{when_accepted}
 use Rattle.counts.specs.declared.choice.SplitStrategy.{SplitStrategy}
 use Rattle.walk.specs.declared.plan.Head.{Head}
-use Rattle.plan.specs.PlanCall.{headFor, coefficientsFor, boundariesFor, numbersFor}
-use Rattle.plan.specs.PlanCall.{planRefusal, planAnswer, planCoefficients, planBoundaries, planNumbers, PlanCall}
+use Rattle.plan.specs.PlanCall.{head_for, coefficients_for, boundaries_for, numbers_for}
+use Rattle.plan.specs.PlanCall.{plan_refusal, plan_answer, plan_coefficients, plan_boundaries, plan_numbers, PlanCall}
 use Rattle.plan.specs.declared.call.Planned.{Planned}
 use Rattle.demands.specs.Accepts.{BringsPlan}
-use Rattle.demands.specs.MadePlan.{MadePlan, listsIn, boundariesIn, stepsIn, PlansIfAccepted}
+use Rattle.demands.specs.MadePlan.{MadePlan, lists_in, boundaries_in, steps_in, PlansIfAccepted}
 use Rattle.demands.specs.Right.{PlanRight}
-use Rattle.demands.proofs.Refusals.{plan-made, made-brings}
-use Rattle.demands.proofs.Right.{plans-right, coefficients-length, boundaries-length, numbers-length}
+use Rattle.demands.proofs.Refusals.{plan_made_lem, made_brings}
+use Rattle.demands.proofs.Right.{plans_right, coefficients_length, boundaries_length, numbers_length}
 use Rattle.demands.proofs.Total.{refusal_is}
 
 -- ---- a call that was not refused
@@ -28,81 +28,81 @@ use Rattle.demands.proofs.Total.{refusal_is}
 module _ {strategy : SplitStrategy} {parity : Parity} {basis : Basis} {folded : Bool} {c : List ℤ} {a b : Float} {out : List ℤ} {bounds steps : List ℕ}
     {r : Planned} {out' : List ℤ} {bounds' steps' : List ℕ} (call : PlanCall strategy parity basis folded c a b out bounds steps r out' bounds' steps')
     (made : r.refusal ≡ 0) where
-  pub call_passes : planRefusal strategy parity basis folded c a b out bounds steps ≡ 0
+  pub call_passes : plan_refusal strategy parity basis folded c a b out bounds steps ≡ 0
   call_passes = sym (refusal_is strategy parity basis folded c a b out bounds steps r out' bounds' steps' call) ∙ made
 
-  pub call-brings : BringsPlan strategy parity basis folded c a b out bounds steps
-  call-brings = made-brings strategy parity basis folded c a b out bounds steps call_passes
+  pub call_brings : BringsPlan strategy parity basis folded c a b out bounds steps
+  call_brings = made_brings strategy parity basis folded c a b out bounds steps call_passes
 
-  pub call-head : r.head ≡ headFor strategy parity basis folded c a b
-  unfolding planAnswer
-  call-head = ap (λ (p : Planned). p.head) (call.answer ∙ sym (when-accepted _ _ call_passes))
+  pub call_head : r.head ≡ head_for strategy parity basis folded c a b
+  unfolding plan_answer
+  call_head = ap (λ (p : Planned). p.head) (call.answer ∙ sym (when_accepted _ _ call_passes))
 
 -- ---- what it left
 
 module _ {strategy : SplitStrategy} {parity : Parity} {basis : Basis} {folded : Bool} {c : List ℤ} (plan : MadePlan strategy parity basis folded c) where
   brings : BringsPlan strategy parity basis folded c plan.lower plan.upper plan.out plan.bounds plan.steps
-  brings = call-brings plan.called plan.accepted
+  brings = call_brings plan.called plan.accepted
 
   right : PlanRight strategy parity basis folded c plan.lower plan.upper plan.out plan.bounds plan.steps
       plan.answer plan.out' plan.bounds' plan.steps'
-  right = plans-right strategy parity basis folded c plan.lower plan.upper plan.out plan.bounds plan.steps
+  right = plans_right strategy parity basis folded c plan.lower plan.upper plan.out plan.bounds plan.steps
       plan.answer plan.out' plan.bounds' plan.steps' brings plan.called
 
-  pub made-head : plan.answer.head ≡ headFor strategy parity basis folded c plan.lower plan.upper
-  made-head = call-head plan.called plan.accepted
+  pub made_head : plan.answer.head ≡ head_for strategy parity basis folded c plan.lower plan.upper
+  made_head = call_head plan.called plan.accepted
 
-  pub made-lists : listsIn plan ≡ coefficientsFor strategy parity basis folded c
-  made-lists =
-      ap (take plan.answer.head.coefficients) right.stored.coefficients-are
-      ∙ take_at (coefficientsFor strategy parity basis folded c) right.stored.more-coefficients plan.answer.head.coefficients
-      (coefficients-length strategy parity basis folded c brings.accepted plan.lower plan.upper
-      ∙ ap (λ (h : Head). h.coefficients) (sym made-head))
+  pub made_lists : lists_in plan ≡ coefficients_for strategy parity basis folded c
+  made_lists =
+      ap (take plan.answer.head.coefficients) right.stored.coefficients_are
+      ∙ take_at (coefficients_for strategy parity basis folded c) right.stored.more_coefficients plan.answer.head.coefficients
+      (coefficients_length strategy parity basis folded c brings.accepted plan.lower plan.upper
+      ∙ ap (λ (h : Head). h.coefficients) (sym made_head))
 
-  pub made-boundaries : boundariesIn plan ≡ boundariesFor strategy parity basis folded c
-  made-boundaries =
-      ap (take plan.answer.head.lists) right.stored.bounds-are
-      ∙ take_at (boundariesFor strategy parity basis folded c) right.stored.more-bounds plan.answer.head.lists
-      (boundaries-length strategy parity basis folded c brings.accepted plan.lower plan.upper
-      ∙ ap (λ (h : Head). h.lists) (sym made-head))
+  pub made_boundaries : boundaries_in plan ≡ boundaries_for strategy parity basis folded c
+  made_boundaries =
+      ap (take plan.answer.head.lists) right.stored.bounds_are
+      ∙ take_at (boundaries_for strategy parity basis folded c) right.stored.more_bounds plan.answer.head.lists
+      (boundaries_length strategy parity basis folded c brings.accepted plan.lower plan.upper
+      ∙ ap (λ (h : Head). h.lists) (sym made_head))
 
-  pub made-steps : stepsIn plan ≡ numbersFor strategy parity basis folded c
-  made-steps =
-      ap (take (4 * plan.answer.head.steps)) right.stored.steps-are
-      ∙ take_at (numbersFor strategy parity basis folded c) right.stored.more-steps (4 * plan.answer.head.steps)
-      (numbers-length strategy parity basis folded c brings.accepted plan.lower plan.upper
-      ∙ ap (λ (h : Head). 4 * h.steps) (sym made-head))
+  pub made_steps : steps_in plan ≡ numbers_for strategy parity basis folded c
+  made_steps =
+      ap (take (4 * plan.answer.head.steps)) right.stored.steps_are
+      ∙ take_at (numbers_for strategy parity basis folded c) right.stored.more_steps (4 * plan.answer.head.steps)
+      (numbers_length strategy parity basis folded c brings.accepted plan.lower plan.upper
+      ∙ ap (λ (h : Head). 4 * h.steps) (sym made_head))
 
 -- ---- a call for whatever is accepted
 
 -- it answers and leaves what the definition says
-called-so : (strategy : SplitStrategy) (parity : Parity) (basis : Basis) (folded : Bool) (c : List ℤ) (a b : Float) (out : List ℤ) (bounds steps : List ℕ)
+called_so : (strategy : SplitStrategy) (parity : Parity) (basis : Basis) (folded : Bool) (c : List ℤ) (a b : Float) (out : List ℤ) (bounds steps : List ℕ)
     → BringsPlan strategy parity basis folded c a b out bounds steps → MadePlan strategy parity basis folded c
-unfolding planAnswer
-called-so strategy parity basis folded c a b out bounds steps is = record {
+unfolding plan_answer
+called_so strategy parity basis folded c a b out bounds steps is = record {
   lower = a;
   upper = b;
   out = out;
   bounds = bounds;
   steps = steps;
-  answer = planAnswer strategy parity basis folded c a b out bounds steps;
-  out' = planCoefficients strategy parity basis folded c a b out bounds steps;
-  bounds' = planBoundaries strategy parity basis folded c a b out bounds steps;
-  steps' = planNumbers strategy parity basis folded c a b out bounds steps;
+  answer = plan_answer strategy parity basis folded c a b out bounds steps;
+  out' = plan_coefficients strategy parity basis folded c a b out bounds steps;
+  bounds' = plan_boundaries strategy parity basis folded c a b out bounds steps;
+  steps' = plan_numbers strategy parity basis folded c a b out bounds steps;
   called = record { answer = refl; coefficients = refl; boundaries = refl; numbers = refl };
-  accepted = ap (λ (r : Planned). r.refusal) (sym (when-accepted _ _ (plan-made strategy parity basis folded c a b out bounds steps is)));
+  accepted = ap (λ (r : Planned). r.refusal) (sym (when_accepted _ _ (plan_made_lem strategy parity basis folded c a b out bounds steps is)));
 }
 
-pub plans-if-accepted : PlansIfAccepted
-unfolding called-so
-plans-if-accepted strategy parity basis folded c = record {
+pub plans_if_accepted : PlansIfAccepted
+unfolding called_so
+plans_if_accepted strategy parity basis folded c = record {
   made = λ a b out bounds steps is. record {
-    plan = called-so strategy parity basis folded c a b out bounds steps is;
-    lower-is = refl;
+    plan = called_so strategy parity basis folded c a b out bounds steps is;
+    lower_is = refl;
     upper_is = refl;
-    out-is = refl;
-    bounds-are = refl;
-    steps-are = refl;
+    out_is = refl;
+    bounds_are = refl;
+    steps_are = refl;
   };
   accepted = λ plan. (brings plan).accepted;
 }

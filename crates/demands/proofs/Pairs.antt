@@ -11,48 +11,48 @@ use lib.Dec.{eqb, leb}
 use lib.ListN.{length, length-map}
 use Rattle.algebra.specs.declared.Basis.{Basis}
 use Rattle.algebra.specs.declared.Parity.{Parity}
-use Rattle.number.specs.Bits.{isPowerOfTwo}
-use Rattle.needed.specs.NeededList.{neededCount}
-use Rattle.counts.specs.PlainCount.{allowedTo, plainCount}
-use Rattle.counts.specs.Slices.{slicesOf, last_of}
-use Rattle.counts.specs.Pair.{lastIsPlain, onePlain, pair_of, pair_at}
+use Rattle.number.specs.Bits.{is_power_of_two}
+use Rattle.needed.specs.NeededList.{needed_count}
+use Rattle.counts.specs.PlainCount.{allowed_to, plain_count}
+use Rattle.counts.specs.Slices.{slices_of, last_of}
+use Rattle.counts.specs.Pair.{last_is_plain, one_plain, pair_of, pair_at}
 use Rattle.counts.specs.declared.pair.Pair.{Pair}
-use Rattle.counts.proofs.PairLaws.{plain-two}
+use Rattle.counts.proofs.PairLaws.{plain_two}
 use Rattle.lists.specs.Tree.{Tree, tree_of}
-use Rattle.lists.specs.Arrange.{leavesOf, lengthsOf}
-use Rattle.lists.proofs.TreeFacts.{slices-are-leaves}
-use Rattle.lists.proofs.Arranging.{some-leaves}
+use Rattle.lists.specs.Arrange.{leaves_of, lengths_of}
+use Rattle.lists.proofs.TreeFacts.{slices_are_leaves}
+use Rattle.lists.proofs.Arranging.{some_leaves}
 use Rattle.walk.specs.declared.plan.Step.{Step}
-use Rattle.plan.specs.PlanSteps.{stepsAt}
-use Rattle.plan.specs.Reported.{ofKind, allowedIn}
-use Rattle.plan.proofs.StepCounts.{steps-counted}
-use Rattle.demands.specs.PlainStep.{loneLast}
+use Rattle.plan.specs.PlanSteps.{steps_at}
+use Rattle.plan.specs.Reported.{of_kind, allowed_in}
+use Rattle.plan.proofs.StepCounts.{steps_counted}
+use Rattle.demands.specs.PlainStep.{lone_last}
 use Rattle.demands.specs.Estimated.{moved}
-use Rattle.demands.proofs.LastList.{leaves-length, fours}
+use Rattle.demands.proofs.LastList.{leaves_length, fours}
 
 -- ---- lists and slices
 
-last-suc : (slices : List ℕ) → 0 < length slices → last_of (map suc slices) ≡ suc (last_of slices)
+last_suc : (slices : List ℕ) → 0 < length slices → last_of (map suc slices) ≡ suc (last_of slices)
 unfolding last_of
-last-suc [] nonempty = absurd (omega arith)
-last-suc (d ∷ []) nonempty = refl
-last-suc (d ∷ e ∷ slices) nonempty = last-suc (e ∷ slices) (omega arith)
+last_suc [] nonempty = absurd (omega arith)
+last_suc (d ∷ []) nonempty = refl
+last_suc (d ∷ e ∷ slices) nonempty = last_suc (e ∷ slices) (omega arith)
 
-allowed-slices : (parity : Parity) (slices : List ℕ) → allowedIn parity (map suc slices) ≡ plainCount parity slices
-unfolding allowedIn plainCount
-allowed-slices parity [] = refl
-allowed-slices parity (d ∷ slices) = let one : suc d - 1 ≡ d = omega arith in rw one (ap (allowedTo parity d +◌) (allowed-slices parity slices))
+allowed_slices : (parity : Parity) (slices : List ℕ) → allowed_in parity (map suc slices) ≡ plain_count parity slices
+unfolding allowed_in plain_count
+allowed_slices parity [] = refl
+allowed_slices parity (d ∷ slices) = let one : suc d - 1 ≡ d = omega arith in rw one (ap (allowed_to parity d +◌) (allowed_slices parity slices))
 
 one_more : (n : ℕ) → eqb (suc n) 1 ≡ eqb n 0
 one_more zero = refl
 one_more (suc n) = ne_eqb (suc (suc n)) 1 (λ same. omega arith) ∙ sym (ne_eqb (suc n) 0 (λ same. omega arith))
 
-two-moves : (two constant power : Bool)
+two_moves : (two constant power : Bool)
     → cond {A = ℕ} (two && constant) 1 0 ≡ cond (two && (constant && power)) 1 0 + cond ((two && constant) && not power) 1 0
-two-moves true true true = refl
-two-moves true true false = refl
-two-moves true false power = refl
-two-moves false constant power = refl
+two_moves true true true = refl
+two_moves true true false = refl
+two_moves true false power = refl
+two_moves false constant power = refl
 
 -- ---- the pair
 
@@ -61,52 +61,52 @@ module _ (parity : Parity) (basis : Basis) (degree split : ℕ) where
   tree = tree_of false degree degree split
 
   abbrev lengths : List ℕ
-  lengths = lengthsOf tree (suc degree)
+  lengths = lengths_of tree (suc degree)
 
   abbrev slices : List ℕ
-  slices = slicesOf degree split
+  slices = slices_of degree split
 
   abbrev steps : List Step
-  steps = stepsAt false parity basis degree split
+  steps = steps_at false parity basis degree split
 
   -- the counts of steps and lists, beside an estimate
   pub record Moved (estimate : Pair) : Type 0 where
-    pub ct-moved : ofKind 1 steps + ofKind 3 steps + moved degree lengths ≡ estimate.ct
-    pub pt-moved : allowedIn parity lengths + ofKind 4 steps ≡ estimate.pt + moved degree lengths
+    pub ct_moved : of_kind 1 steps + of_kind 3 steps + moved degree lengths ≡ estimate.ct
+    pub pt_moved : allowed_in parity lengths + of_kind 4 steps ≡ estimate.pt + moved degree lengths
 
-  leaves : leavesOf tree ≡ length slices
-  leaves = leaves-length tree (suc degree) ∙ ap length (slices-are-leaves degree degree split) ∙ length-map slices suc
+  leaves : leaves_of tree ≡ length slices
+  leaves = leaves_length tree (suc degree) ∙ ap length (slices_are_leaves degree degree split) ∙ length-map slices suc
 
-  allowed : allowedIn parity lengths ≡ plainCount parity slices
-  allowed = ap (allowedIn parity) (slices-are-leaves degree degree split) ∙ allowed-slices parity slices
+  allowed : allowed_in parity lengths ≡ plain_count parity slices
+  allowed = ap (allowed_in parity) (slices_are_leaves degree degree split) ∙ allowed_slices parity slices
 
   -- the last list is one after another list where the last of two or more slices has degree 0
-  lone_is : loneLast lengths ≡ (leb 2 (length slices) && eqb (last_of slices) 0)
+  lone_is : lone_last lengths ≡ (leb 2 (length slices) && eqb (last_of slices) 0)
   lone_is =
-      let nonempty : 0 < length slices = omega (arith, leaves, some-leaves tree) in
-      rw (slices-are-leaves degree degree split, length-map slices suc, last-suc slices nonempty, one_more (last_of slices))
+      let nonempty : 0 < length slices = omega (arith, leaves, some_leaves tree) in
+      rw (slices_are_leaves degree degree split, length-map slices suc, last_suc slices nonempty, one_more (last_of slices))
 
   -- the steps of kind 4 are what the estimate moves, and what is moved beside it
-  four_is : ofKind 4 steps ≡ cond (lastIsPlain degree (length slices) (last_of slices)) 1 0 + moved degree lengths
-  unfolding lastIsPlain
+  four_is : of_kind 4 steps ≡ cond (last_is_plain degree (length slices) (last_of slices)) 1 0 + moved degree lengths
+  unfolding last_is_plain
   four_is =
-      fours false parity basis degree split ∙ rw lone_is (two-moves (leb 2 (length slices)) (eqb (last_of slices) 0) (isPowerOfTwo degree))
+      fours false parity basis degree split ∙ rw lone_is (two_moves (leb 2 (length slices)) (eqb (last_of slices) 0) (is_power_of_two degree))
 
   abbrev whole : Pair
-  whole = record { ct = length slices - 1 + neededCount parity basis degree split; pt = plainCount parity slices }
+  whole = record { ct = length slices - 1 + needed_count parity basis degree split; pt = plain_count parity slices }
 
-  by-test : (t : Bool) → lastIsPlain degree (length slices) (last_of slices) ≡ t → Moved (cond t (onePlain whole) whole)
-  by-test true is =
-      let told = steps-counted false parity basis degree split in
-      let two : 2 ≤ length slices = plain-two degree (length slices) (last_of slices) is in
-      let four : ofKind 4 steps ≡ 1 + moved degree lengths = four_is ∙ rw is in
-      record { ct-moved = omega (arith, told.encrypted, leaves); pt-moved = omega (arith, allowed) }
-  by-test false is =
-      let told = steps-counted false parity basis degree split in
-      let nonempty : 0 < length slices = omega (arith, leaves, some-leaves tree) in
-      let four : ofKind 4 steps ≡ 0 + moved degree lengths = four_is ∙ rw is in
-      record { ct-moved = omega (arith, told.encrypted, leaves); pt-moved = omega (arith, allowed) }
+  by_test : (t : Bool) → last_is_plain degree (length slices) (last_of slices) ≡ t → Moved (cond t (one_plain whole) whole)
+  by_test true is =
+      let told = steps_counted false parity basis degree split in
+      let two : 2 ≤ length slices = plain_two degree (length slices) (last_of slices) is in
+      let four : of_kind 4 steps ≡ 1 + moved degree lengths = four_is ∙ rw is in
+      record { ct_moved = omega (arith, told.encrypted, leaves); pt_moved = omega (arith, allowed) }
+  by_test false is =
+      let told = steps_counted false parity basis degree split in
+      let nonempty : 0 < length slices = omega (arith, leaves, some_leaves tree) in
+      let four : of_kind 4 steps ≡ 0 + moved degree lengths = four_is ∙ rw is in
+      record { ct_moved = omega (arith, told.encrypted, leaves); pt_moved = omega (arith, allowed) }
 
-  pub pair-moved : Moved (pair_at parity basis degree split)
+  pub pair_moved : Moved (pair_at parity basis degree split)
   unfolding pair_at pair_of
-  pair-moved = by-test (lastIsPlain degree (length slices) (last_of slices)) refl
+  pair_moved = by_test (last_is_plain degree (length slices) (last_of slices)) refl

@@ -4,17 +4,17 @@ use mathlib.Core.List.{List, [], ◌∷◌, ◌++◌, map, map-append, append_as
 use Prim.Native.Nat.{suc, ◌+◌}
 use native.Mathlib.Omega.{arith}
 use lib.ListN.{length, length-append}
-use Rattle.number.specs.Tests.{degreeOf}
-use Rattle.lists.specs.Arrange.{endsOf}
+use Rattle.number.specs.Tests.{degree_of}
+use Rattle.lists.specs.Arrange.{ends_of}
 use Rattle.lists.specs.Lists.{joined}
-use Rattle.lists.proofs.Arranging.{length-ends}
+use Rattle.lists.proofs.Arranging.{length_ends}
 use Rattle.plan.specs.PlanHead.{head_of}
-use Rattle.plan.specs.PlanCall.{Accepted, planned, tree, boundariesFor}
+use Rattle.plan.specs.PlanCall.{Accepted, planned, tree, boundaries_for}
 use Rattle.sets.specs.Members.{Curve, total}
-use Rattle.sets.specs.Own.{ownTree, ownSteps, ownBoundaries, memberHead, memberCoefficients}
-use Rattle.sets.specs.SetPlan.{headsOf, setCoefficients, memberSteps, setBoundaries, coefficientCount, listCount, ownStepCount}
+use Rattle.sets.specs.Own.{own_tree, own_steps, own_boundaries, member_head, member_coefficients}
+use Rattle.sets.specs.SetPlan.{heads_of, set_coefficients, member_steps, set_boundaries, coefficient_count, list_count, own_step_count}
 use Rattle.demands.proofs.Accepts.{plannable}
-use Rattle.demands.proofs.Right.{coefficients-length}
+use Rattle.demands.proofs.Right.{coefficients_length}
 
 module _ {X Y : Type 0} where
   -- the part of one, between those before it and those behind
@@ -26,55 +26,55 @@ module _ {X Y : Type 0} where
       ap (λ (rest : List Y). f first ++ rest) (part_of f before after x)
       ∙ sym (append_assoc (f first) (joined (map f before)) (f x ++ joined (map f after)))
 
-pub heads-parts : (before after : List Curve) (curve : Curve)
-    → headsOf (before ++ (curve ∷ after)) ≡ headsOf before ++ (memberHead curve ∷ headsOf after)
-heads-parts before after curve = map-append memberHead before (curve ∷ after)
+pub heads_parts : (before after : List Curve) (curve : Curve)
+    → heads_of (before ++ (curve ∷ after)) ≡ heads_of before ++ (member_head curve ∷ heads_of after)
+heads_parts before after curve = map-append member_head before (curve ∷ after)
 
 -- ---- lengths
 
-pub own-steps-length : (curve : Curve) → length (ownSteps (memberHead curve)) ≡ (memberHead curve).steps
-unfolding ownSteps
-own-steps-length curve = refl
+pub own_steps_length : (curve : Curve) → length (own_steps (member_head curve)) ≡ (member_head curve).steps
+unfolding own_steps
+own_steps_length curve = refl
 
-pub own-boundaries-length : (curve : Curve) → length (ownBoundaries (memberHead curve)) ≡ (memberHead curve).lists
-unfolding ownBoundaries head_of
-own-boundaries-length curve = length-ends (ownTree (memberHead curve)) 0 _
+pub own_boundaries_length : (curve : Curve) → length (own_boundaries (member_head curve)) ≡ (member_head curve).lists
+unfolding own_boundaries head_of
+own_boundaries_length curve = length_ends (own_tree (member_head curve)) 0 _
 
 -- a member's boundaries are those of its plan alone
-pub boundaries-alone : (curve : Curve) → Accepted curve.member.fold curve.member.parity curve.coefficients
-    → ownBoundaries (memberHead curve)
-    ≡ boundariesFor curve.member.strategy curve.member.parity curve.member.basis curve.member.fold curve.coefficients
-unfolding ownBoundaries head_of
-boundaries-alone curve accepted =
+pub boundaries_alone : (curve : Curve) → Accepted curve.member.fold curve.member.parity curve.coefficients
+    → own_boundaries (member_head curve)
+    ≡ boundaries_for curve.member.strategy curve.member.parity curve.member.basis curve.member.fold curve.coefficients
+unfolding own_boundaries head_of
+boundaries_alone curve accepted =
     let facts = plannable curve.member.fold curve.member.parity curve.member.basis curve.coefficients accepted in
-    let planned-are = planned curve.member.strategy curve.member.parity curve.member.basis curve.member.fold curve.coefficients in
-    let size : suc (degreeOf planned-are) ≡ length planned-are = omega (arith, facts.several) in
-    ap (endsOf (tree curve.member.strategy curve.member.parity curve.member.basis curve.member.fold curve.coefficients) 0) size
+    let planned_are = planned curve.member.strategy curve.member.parity curve.member.basis curve.member.fold curve.coefficients in
+    let size : suc (degree_of planned_are) ≡ length planned_are = omega (arith, facts.several) in
+    ap (ends_of (tree curve.member.strategy curve.member.parity curve.member.basis curve.member.fold curve.coefficients) 0) size
 
-pub steps-total : (curves : List Curve) → length (memberSteps (headsOf curves)) ≡ ownStepCount (headsOf curves)
-unfolding memberSteps joined total
-steps-total [] = refl
-steps-total (curve ∷ curves) =
-    length-append (ownSteps (memberHead curve)) (joined (map ownSteps (headsOf curves)))
-    ∙ ap₂ ◌+◌ (own-steps-length curve) (steps-total curves)
+pub steps_total : (curves : List Curve) → length (member_steps (heads_of curves)) ≡ own_step_count (heads_of curves)
+unfolding member_steps joined total
+steps_total [] = refl
+steps_total (curve ∷ curves) =
+    length-append (own_steps (member_head curve)) (joined (map own_steps (heads_of curves)))
+    ∙ ap₂ ◌+◌ (own_steps_length curve) (steps_total curves)
 
-pub boundaries-total : (curves : List Curve) → length (setBoundaries (headsOf curves)) ≡ listCount (headsOf curves)
-unfolding setBoundaries joined total
-boundaries-total [] = refl
-boundaries-total (curve ∷ curves) =
-    length-append (ownBoundaries (memberHead curve)) (joined (map ownBoundaries (headsOf curves)))
-    ∙ ap₂ ◌+◌ (own-boundaries-length curve) (boundaries-total curves)
+pub boundaries_total : (curves : List Curve) → length (set_boundaries (heads_of curves)) ≡ list_count (heads_of curves)
+unfolding set_boundaries joined total
+boundaries_total [] = refl
+boundaries_total (curve ∷ curves) =
+    length-append (own_boundaries (member_head curve)) (joined (map own_boundaries (heads_of curves)))
+    ∙ ap₂ ◌+◌ (own_boundaries_length curve) (boundaries_total curves)
 
 -- each is accepted
 abbrev pub AllAccepted : List Curve → Type 0
 AllAccepted curves = (curve : Curve) → Memᴰ curve curves → Accepted curve.member.fold curve.member.parity curve.coefficients
 
-pub coefficients-total : (curves : List Curve) → AllAccepted curves → length (setCoefficients curves) ≡ coefficientCount (headsOf curves)
-unfolding setCoefficients joined total
-coefficients-total [] accepted = refl
-coefficients-total (curve ∷ curves) accepted =
-    length-append (memberCoefficients curve) (joined (map memberCoefficients curves))
+pub coefficients_total : (curves : List Curve) → AllAccepted curves → length (set_coefficients curves) ≡ coefficient_count (heads_of curves)
+unfolding set_coefficients joined total
+coefficients_total [] accepted = refl
+coefficients_total (curve ∷ curves) accepted =
+    length-append (member_coefficients curve) (joined (map member_coefficients curves))
     ∙ ap₂ ◌+◌
-    (coefficients-length curve.member.strategy curve.member.parity curve.member.basis curve.member.fold curve.coefficients
+    (coefficients_length curve.member.strategy curve.member.parity curve.member.basis curve.member.fold curve.coefficients
     (accepted curve (Memᴰ.head refl)) curve.member.a curve.member.b)
-    (coefficients-total curves (λ one member. accepted one (Memᴰ.tail member)))
+    (coefficients_total curves (λ one member. accepted one (Memᴰ.tail member)))

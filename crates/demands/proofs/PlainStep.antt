@@ -12,62 +12,62 @@ use lib.ListN.{length}
 use lib.Pow.{pow_pos}
 use Rattle.algebra.specs.declared.Basis.{Basis}
 use Rattle.algebra.specs.declared.Parity.{Parity}
-use Rattle.number.specs.Bits.{bitLen, topPower, isPowerOfTwo}
-use Rattle.number.proofs.Bits.{power-is}
+use Rattle.number.specs.Bits.{bit_len, top_power, is_power_of_two}
+use Rattle.number.proofs.Bits.{power_is}
 use Rattle.number.proofs.BothHold.{and_left, and_right}
-use Rattle.needed.specs.NeededList.{neededList}
+use Rattle.needed.specs.NeededList.{needed_list}
 use Rattle.counts.specs.Slices.{last_of}
-use Rattle.counts.specs.Choice.{splitFor}
-use Rattle.counts.specs.MinDepth.{minDepth}
+use Rattle.counts.specs.Choice.{split_for}
+use Rattle.counts.specs.MinDepth.{min_depth}
 use Rattle.counts.specs.declared.choice.SplitStrategy.{SplitStrategy}
 use Rattle.counts.specs.declared.choice.SplitStrategy.TheVariants.{MinDepth, MinMult}
-use Rattle.lists.specs.Tree.{Tree, leaf, cut, listedAgain, tree_of, relists, planTree}
+use Rattle.lists.specs.Tree.{Tree, leaf, cut, listed_again, tree_of, relists, plan_tree}
 use Rattle.lists.specs.TreeFacts.{Sound}
-use Rattle.lists.specs.Arrange.{leavesOf, lengthsOf}
-use Rattle.lists.proofs.TreeFacts.{trees-sound}
-use Rattle.lists.proofs.TreeRule.{tree-leaf, tree-cut}
+use Rattle.lists.specs.Arrange.{leaves_of, lengths_of}
+use Rattle.lists.proofs.TreeFacts.{trees_sound}
+use Rattle.lists.proofs.TreeRule.{tree_leaf, tree_cut}
 use Rattle.walk.specs.declared.plan.Step.{Step}
-use Rattle.plan.specs.PlanSteps.{makeStep, loadStep, combineStep, powerSteps, lastLength, lastPlain, combineKind, treeSteps, listSteps, stepsAt, planSteps}
+use Rattle.plan.specs.PlanSteps.{make_step, load_step, combine_step, power_steps, last_length, last_plain, combine_kind, tree_steps, list_steps, steps_at, plan_steps}
 use Rattle.plan.specs.PlanHead.{head_of}
-use Rattle.plan.specs.PlanCall.{plannedParity, plannedDegree}
-use Rattle.plan.specs.Reported.{ofKind}
-use Rattle.plan.proofs.StepCounts.{kinds-append}
-use Rattle.demands.specs.PlainStep.{loneLast, LoneCombined, PlainStep, PlansPlain}
-use Rattle.demands.proofs.LastList.{leaves-length, lone-last, fours, LoneEnd, lone-in}
+use Rattle.plan.specs.PlanCall.{planned_parity, planned_degree}
+use Rattle.plan.specs.Reported.{of_kind}
+use Rattle.plan.proofs.StepCounts.{kinds_append}
+use Rattle.demands.specs.PlainStep.{lone_last, LoneCombined, PlainStep, PlansPlain}
+use Rattle.demands.proofs.LastList.{leaves_length, lone_last_lem, fours, LoneEnd, lone_in}
 use Rattle.demands.proofs.Accepts.{plannable}
-use Rattle.demands.proofs.Counted.{lent-lengths}
-use Rattle.demands.proofs.Right.{from_one, lent-steps, plans-right}
+use Rattle.demands.proofs.Counted.{lent_lengths}
+use Rattle.demands.proofs.Right.{from_one, lent_steps_lem, plans_right}
 
 -- ---- the tree
 
 -- a constant is one list
-constant-leaf : (leading : Bool) (whole split : ℕ) → tree_of leading whole 0 split ≡ leaf
-unfolding listedAgain
-constant-leaf true whole split = tree-leaf true whole 0 split (pow_pos split) refl
-constant-leaf false whole split = tree-leaf false whole 0 split (pow_pos split) refl
+constant_leaf : (leading : Bool) (whole split : ℕ) → tree_of leading whole 0 split ≡ leaf
+unfolding listed_again
+constant_leaf true whole split = tree_leaf true whole 0 split (pow_pos split) refl
+constant_leaf false whole split = tree_leaf false whole 0 split (pow_pos split) refl
 
 -- a power of two is cut at itself
-power-cut : (leading : Bool) (degree split : ℕ) → isPowerOfTwo degree ≡ true → 2 ^ split ≤ degree
+power_cut : (leading : Bool) (degree split : ℕ) → is_power_of_two degree ≡ true → 2 ^ split ≤ degree
     → tree_of leading degree degree split ≡ cut degree (tree_of false degree (degree - 1) split) leaf
-power-cut leading degree split power above =
-    let top : topPower degree ≡ degree = sym (power-is degree power) in
+power_cut leading degree split power above =
+    let top : top_power degree ≡ degree = sym (power_is degree power) in
     let none_left : degree - degree ≡ 0 = omega arith in
-    tree-cut leading degree degree split above
-    ∙ rw (top, none_left) (ap (cut degree (tree_of false degree (degree - 1) split)) (constant-leaf leading degree split))
+    tree_cut leading degree degree split above
+    ∙ rw (top, none_left) (ap (cut degree (tree_of false degree (degree - 1) split)) (constant_leaf leading degree split))
 
 -- a degree below its own base is one list
-below-leaf : (strategy : SplitStrategy) (parity : Parity) (basis : Basis) (degree : ℕ) → degree < 2 ^ splitFor strategy parity basis degree
-    → tree_of (relists strategy) degree degree (splitFor strategy parity basis degree) ≡ leaf
-unfolding splitFor listedAgain
-below-leaf MinDepth parity basis degree below =
-    tree-leaf true degree degree (minDepth (bitLen degree)) below
-    (rw (le-ltb (minDepth (bitLen degree)) (minDepth (bitLen degree)) (omega arith)) (neither (ltb 0 degree) (ltb 1 (minDepth (bitLen degree)))))
+below_leaf : (strategy : SplitStrategy) (parity : Parity) (basis : Basis) (degree : ℕ) → degree < 2 ^ split_for strategy parity basis degree
+    → tree_of (relists strategy) degree degree (split_for strategy parity basis degree) ≡ leaf
+unfolding split_for listed_again
+below_leaf MinDepth parity basis degree below =
+    tree_leaf true degree degree (min_depth (bit_len degree)) below
+    (rw (le-ltb (min_depth (bit_len degree)) (min_depth (bit_len degree)) (omega arith)) (neither (ltb 0 degree) (ltb 1 (min_depth (bit_len degree)))))
   where
     neither : (a b : Bool) → (a && (b && false)) ≡ false
     neither true true = refl
     neither true false = refl
     neither false b = refl
-below-leaf MinMult parity basis degree below = tree-leaf false degree degree _ below refl
+below_leaf MinMult parity basis degree below = tree_leaf false degree degree _ below refl
 
 -- ---- the steps
 
@@ -80,13 +80,13 @@ module _ (leading : Bool) (parity : Parity) (basis : Basis) (degree split : ℕ)
   tree = tree_of leading degree degree split
 
   abbrev lengths : List ℕ
-  lengths = lengthsOf tree (suc degree)
+  lengths = lengths_of tree (suc degree)
 
   abbrev all : List Step
-  all = stepsAt leading parity basis degree split
+  all = steps_at leading parity basis degree split
 
-  plain-ones : ofKind 4 all ≡ cond (loneLast lengths) 1 0
-  plain-ones = fours leading parity basis degree split
+  plain_ones : of_kind 4 all ≡ cond (lone_last lengths) 1 0
+  plain_ones = fours leading parity basis degree split
 
   -- ---- a power of two
 
@@ -94,108 +94,108 @@ module _ (leading : Bool) (parity : Parity) (basis : Basis) (degree split : ℕ)
   low = tree_of false degree (degree - 1) split
 
   abbrev before : List Step
-  before = map makeStep (neededList parity basis degree split) ++ (treeSteps false low 0 ++ (loadStep (0 + leavesOf low) ∷ []))
+  before = map make_step (needed_list parity basis degree split) ++ (tree_steps false low 0 ++ (load_step (0 + leaves_of low) ∷ []))
 
-  module _ (power : isPowerOfTwo degree ≡ true) (above : 2 ^ split ≤ degree) where
-    plain : lastPlain degree tree ≡ true
-    unfolding lastPlain lastLength
-    plain = let one : suc degree - degree ≡ 1 = omega arith in rw (power-cut leading degree split power above, one)
+  module _ (power : is_power_of_two degree ≡ true) (above : 2 ^ split ≤ degree) where
+    plain : last_plain degree tree ≡ true
+    unfolding last_plain last_length
+    plain = let one : suc degree - degree ≡ 1 = omega arith in rw (power_cut leading degree split power above, one)
 
-    steps-end : all ≡ before ++ (combineStep 4 degree ∷ [])
-    unfolding stepsAt powerSteps listSteps treeSteps combineKind leavesOf
-    steps-end =
-        let made = map makeStep (neededList parity basis degree split) in
-        let first = treeSteps false low 0 in
-        let load : List Step = loadStep (0 + leavesOf low) ∷ [] in
-        let last : List Step = combineStep 4 degree ∷ [] in
-        rw (plain, power-cut leading degree split power above)
+    steps_end : all ≡ before ++ (combine_step 4 degree ∷ [])
+    unfolding steps_at power_steps list_steps tree_steps combine_kind leaves_of
+    steps_end =
+        let made = map make_step (needed_list parity basis degree split) in
+        let first = tree_steps false low 0 in
+        let load : List Step = load_step (0 + leaves_of low) ∷ [] in
+        let last : List Step = combine_step 4 degree ∷ [] in
+        rw (plain, power_cut leading degree split power above)
         (sym (append_assoc made (first ++ load) last ∙ ap (made ++◌) (append_assoc first load last)))
 
     -- there is at most one
-    none_before : ofKind 4 before ≡ 0
-    unfolding ofKind
+    none_before : of_kind 4 before ≡ 0
+    unfolding of_kind
     none_before =
-        let counted = plain-ones in
-        let most = at_most_one (loneLast lengths) in
-        let parts = ap (ofKind 4) steps-end ∙ kinds-append 4 before (combineStep 4 degree ∷ []) in
+        let counted = plain_ones in
+        let most = at_most_one (lone_last lengths) in
+        let parts = ap (of_kind 4) steps_end ∙ kinds_append 4 before (combine_step 4 degree ∷ []) in
         omega arith
 
   -- ---- one list
 
-  leaf-plain : tree ≡ leaf → ofKind 4 all ≡ 0
-  unfolding lengthsOf
-  leaf-plain one_list = plain-ones ∙ rw one_list
+  leaf_plain : tree ≡ leaf → of_kind 4 all ≡ 0
+  unfolding lengths_of
+  leaf_plain one_list = plain_ones ∙ rw one_list
 
   -- ---- a last list of one
 
   -- the power steps stand ahead of the loads and combines
-  combined : LoneEnd tree (suc degree) 0 → lastPlain degree tree ≡ true → loneLast lengths ≡ true → LoneCombined degree (length lengths) all
-  unfolding stepsAt powerSteps listSteps ofKind
+  combined : LoneEnd tree (suc degree) 0 → last_plain degree tree ≡ true → lone_last lengths ≡ true → LoneCombined degree (length lengths) all
+  unfolding steps_at power_steps list_steps of_kind
   combined end plain is =
-      let made = map makeStep (neededList parity basis degree split) in
-      let last : List Step = loadStep (length lengths - 1) ∷ combineStep 4 (2 ^ end.exponent) ∷ end.after in
-      let lists : 0 + leavesOf tree ≡ length lengths = omega (arith, leaves-length tree (suc degree)) in
-      let steps-are : all ≡ (made ++ end.before) ++ last =
-      rw (plain, end.steps-are, lists) (sym (append_assoc made end.before last)) in
-      let counted = ap (ofKind 4) steps-are ∙ kinds-append 4 (made ++ end.before) last in
-      let one-in-all : ofKind 4 all ≡ 1 = plain-ones ∙ rw is in
+      let made = map make_step (needed_list parity basis degree split) in
+      let last : List Step = load_step (length lengths - 1) ∷ combine_step 4 (2 ^ end.exponent) ∷ end.after in
+      let lists : 0 + leaves_of tree ≡ length lengths = omega (arith, leaves_length tree (suc degree)) in
+      let steps_are : all ≡ (made ++ end.before) ++ last =
+      rw (plain, end.steps_are, lists) (sym (append_assoc made end.before last)) in
+      let counted = ap (of_kind 4) steps_are ∙ kinds_append 4 (made ++ end.before) last in
+      let one_in_all : of_kind 4 all ≡ 1 = plain_ones ∙ rw is in
       record {
         before = made ++ end.before;
         after = end.after;
         exponent = end.exponent;
-        steps-are = steps-are;
+        steps_are = steps_are;
         none_before = omega arith;
         none_after = omega arith;
         odd = end.odd;
-        degree-is = omega (arith, end.number_is);
+        degree_is = omega (arith, end.number_is);
       }
 
-  lone-combined : Sound (2 ^ split) tree (suc degree) → loneLast lengths ≡ true → LoneCombined degree (length lengths) all
-  unfolding lastPlain
-  lone-combined sound is =
-      let several = leb 2 (leavesOf tree) in
-      let constant = lastPlain degree tree in
-      let holds : (several && constant) ≡ true = sym (lone-last degree tree) ∙ is in
+  lone_combined : Sound (2 ^ split) tree (suc degree) → lone_last lengths ≡ true → LoneCombined degree (length lengths) all
+  unfolding last_plain
+  lone_combined sound is =
+      let several = leb 2 (leaves_of tree) in
+      let constant = last_plain degree tree in
+      let holds : (several && constant) ≡ true = sym (lone_last_lem degree tree) ∙ is in
       let plain : constant ≡ true = and_right several constant holds in
-      let two : 2 ≤ leavesOf tree = leb-true 2 (leavesOf tree) (and_left several constant holds) in
-      let one : lastLength tree (suc degree) ≡ 1 = eqb-true (lastLength tree (suc degree)) 1 plain in
-      combined (lone-in (2 ^ split) tree (suc degree) 0 sound two one) plain is
+      let two : 2 ≤ leaves_of tree = leb-true 2 (leaves_of tree) (and_left several constant holds) in
+      let one : last_length tree (suc degree) ≡ 1 = eqb-true (last_length tree (suc degree)) 1 plain in
+      combined (lone_in (2 ^ split) tree (suc degree) 0 sound two one) plain is
 
-  others-none : loneLast lengths ≡ false → ofKind 4 all ≡ 0
-  others-none is = plain-ones ∙ rw is
+  others_none : lone_last lengths ≡ false → of_kind 4 all ≡ 0
+  others_none is = plain_ones ∙ rw is
 
-  two_none : last_of lengths ≡ 2 → ofKind 4 all ≡ 0
-  two_none two = others-none (rw two (and-false (leb 2 (length lengths))))
+  two_none : last_of lengths ≡ 2 → of_kind 4 all ≡ 0
+  two_none two = others_none (rw two (and-false (leb 2 (length lengths))))
 
 plain_step : (strategy : SplitStrategy) (parity : Parity) (basis : Basis) (degree : ℕ)
-    → Sound (2 ^ splitFor strategy parity basis degree) (planTree strategy parity basis degree) (suc degree)
-    → PlainStep degree (2 ^ splitFor strategy parity basis degree) (lengthsOf (planTree strategy parity basis degree) (suc degree))
-    (planSteps strategy parity basis degree)
+    → Sound (2 ^ split_for strategy parity basis degree) (plan_tree strategy parity basis degree) (suc degree)
+    → PlainStep degree (2 ^ split_for strategy parity basis degree) (lengths_of (plan_tree strategy parity basis degree) (suc degree))
+    (plan_steps strategy parity basis degree)
 plain_step strategy parity basis degree sound =
     let leading = relists strategy in
-    let split = splitFor strategy parity basis degree in
+    let split = split_for strategy parity basis degree in
     record {
-      lone = lone-combined leading parity basis degree split sound;
-      others = others-none leading parity basis degree split;
+      lone = lone_combined leading parity basis degree split sound;
+      others = others_none leading parity basis degree split;
       two = two_none leading parity basis degree split;
-      at-power = λ power above. (
+      at_power = λ power above. (
         before leading parity basis degree split,
-        (steps-end leading parity basis degree split power above, none_before leading parity basis degree split power above),
+        (steps_end leading parity basis degree split power above, none_before leading parity basis degree split power above),
       );
-      below-base = λ below. leaf-plain leading parity basis degree split (below-leaf strategy parity basis degree below);
+      below_base = λ below. leaf_plain leading parity basis degree split (below_leaf strategy parity basis degree below);
     }
 
-pub plans-plain : PlansPlain
+pub plans_plain : PlansPlain
 unfolding head_of
-plans-plain strategy parity basis folded c a b out bounds steps r out' bounds' steps' brings call =
-    let right = plans-right strategy parity basis folded c a b out bounds steps r out' bounds' steps' brings call in
+plans_plain strategy parity basis folded c a b out bounds steps r out' bounds' steps' brings call =
+    let right = plans_right strategy parity basis folded c a b out bounds steps r out' bounds' steps' brings call in
     let accepted = brings.accepted in
-    let degree = plannedDegree strategy parity basis folded c in
-    let split = splitFor strategy (plannedParity folded parity) basis degree in
-    let sound = trees-sound (relists strategy) degree degree split (plannable folded parity basis c accepted).few
+    let degree = planned_degree strategy parity basis folded c in
+    let split = split_for strategy (planned_parity folded parity) basis degree in
+    let sound = trees_sound (relists strategy) degree degree split (plannable folded parity basis c accepted).few
     (from_one strategy parity basis folded c accepted) in
     rw (
       right.answer,
-      lent-steps strategy parity basis folded c a b out' bounds' steps' right.stored,
-      lent-lengths strategy parity basis folded c a b out' bounds' steps' accepted right.stored,
-    ) (plain_step strategy (plannedParity folded parity) basis degree sound)
+      lent_steps_lem strategy parity basis folded c a b out' bounds' steps' right.stored,
+      lent_lengths strategy parity basis folded c a b out' bounds' steps' accepted right.stored,
+    ) (plain_step strategy (planned_parity folded parity) basis degree sound)

@@ -3,178 +3,178 @@ use mathlib.Core.Path.{refl}
 use mathlib.Core.Bool.{true, false}
 use Rattle.demands.specs.Requests.{BufferSizes, LastConstant, PlanChains, SplitCases, DegreeForBudget, SplitWithDistance, IntervalInHead}
 use Rattle.demands.specs.Requests.{BackFromLists, CurvesAdded, CurvesShared, BothWays, Requests}
-use Rattle.algebra.proofs.PolynomialSumLaw.{polynomial-sum-law}
-use Rattle.number.proofs.SplitDistance.{third-is-distance, parts-differ, refused-zero, split-product}
-use Rattle.bases.proofs.RowsLaw.{rows-law}
-use Rattle.bases.proofs.Convert.{whole-exactly-if}
-use Rattle.bases.proofs.FromTheTop.{leading-coefficient, from-the-top}
-use Rattle.counts.specs.Choice.{splitFor}
-use Rattle.counts.specs.MinDepth.{minDepth}
-use Rattle.counts.proofs.Promises.{cases-published, chosen}
-use Rattle.counts.proofs.BudgetPromises.{largest-degrees, bits-fall, none-below-scale}
-use Rattle.lists.proofs.ArrangedKept.{arranged-kept}
-use Rattle.lists.proofs.ListSums.{lists-add, lists-multiply}
-use Rattle.rebuild.proofs.Promises.{rebuilds-lists, lists-rebuilt, lists-tell}
-use Rattle.rebuild.proofs.StopsAt.{stopped-refused}
-use Rattle.walk.proofs.Paths.{heaviest-greatest}
-use Rattle.walk.proofs.StepsWeigh.{steps-weigh}
-use Rattle.walk.proofs.UnusedPower.{unused-left-out}
-use Rattle.walk.proofs.HeaviestChain.{heaviest-chain}
-use Rattle.walk.proofs.IntervalUnread.{interval-unread}
-use Rattle.demands.proofs.Sized.{plans-sized, sizes-order}
-use Rattle.demands.proofs.PlainStep.{plans-plain}
-use Rattle.demands.proofs.Estimated.{plans-estimated, cheaper-reported}
-use Rattle.demands.proofs.StoredEarlier.{earlier-right}
-use Rattle.demands.proofs.Weighed.{stored-weighed, plans-weighed, chain-order}
-use Rattle.demands.proofs.HeadInterval.{intervals-told, unordered-refused, plans-alike}
-use Rattle.demands.proofs.RebuiltPlans.{rebuilds-plans, plans-rebuilt, rebuilt-right, plans-tell, rebuild-order}
-use Rattle.demands.proofs.MadePlan.{plans-if-accepted}
-use Rattle.demands.proofs.AddedPlans.{lengths-shape, plans-add, added-right, plans-multiply, multiplied-right}
-use Rattle.demands.proofs.SetAccepts.{covered-sets-accepted}
-use Rattle.demands.proofs.SetPowers.{sets-share, sets-in-order}
-use Rattle.demands.proofs.SetRight.{members-as-alone, members-right, set-stored-right, sets-right}
-use Rattle.demands.proofs.SetAnswer.{sets-answered}
-use Rattle.demands.proofs.SetCounted.{sets-report, shared-costs-told, sets-written}
-use Rattle.demands.proofs.SetOne.{ones-planned}
-use Rattle.demands.proofs.SetSaves.{sets-save}
-use Rattle.demands.proofs.SetFits.{sets-fit}
-use Rattle.demands.proofs.SetTotal.{sets-made, set-order, set-refusals-told}
-use Rattle.demands.proofs.SetSized.{sets-sized, set-sizes-order, set_room}
-use Rattle.demands.proofs.Conversions.{converts-accepted, calls-convert, empty-converts, calls-there-and-back, convert-order}
-use Rattle.demands.proofs.Conversions.{convert-refusals-told, fractions-refused, chebyshev-no-larger, converted-accepted, converted-plans-right}
+use Rattle.algebra.proofs.PolynomialSumLaw.{polynomial_sum_law}
+use Rattle.number.proofs.SplitDistance.{third_is_distance, parts_differ, refused_zero, split_product}
+use Rattle.bases.proofs.RowsLaw.{rows_law}
+use Rattle.bases.proofs.Convert.{whole_exactly_if}
+use Rattle.bases.proofs.FromTheTop.{leading_coefficient, from_the_top}
+use Rattle.counts.specs.Choice.{split_for}
+use Rattle.counts.specs.MinDepth.{min_depth}
+use Rattle.counts.proofs.Promises.{cases_published, chosen}
+use Rattle.counts.proofs.BudgetPromises.{largest_degrees, bits_fall, none_below_scale}
+use Rattle.lists.proofs.ArrangedKept.{arranged_kept}
+use Rattle.lists.proofs.ListSums.{lists_add, lists_multiply}
+use Rattle.rebuild.proofs.Promises.{rebuilds_lists, lists_rebuilt, lists_tell}
+use Rattle.rebuild.proofs.StopsAt.{stopped_refused}
+use Rattle.walk.proofs.Paths.{heaviest_greatest}
+use Rattle.walk.proofs.StepsWeigh.{steps_weigh}
+use Rattle.walk.proofs.UnusedPower.{unused_left_out}
+use Rattle.walk.proofs.HeaviestChain.{heaviest_chain}
+use Rattle.walk.proofs.IntervalUnread.{interval_unread}
+use Rattle.demands.proofs.Sized.{plans_sized, sizes_order}
+use Rattle.demands.proofs.PlainStep.{plans_plain}
+use Rattle.demands.proofs.Estimated.{plans_estimated, cheaper_reported}
+use Rattle.demands.proofs.StoredEarlier.{earlier_right}
+use Rattle.demands.proofs.Weighed.{stored_weighed, plans_weighed, chain_order}
+use Rattle.demands.proofs.HeadInterval.{intervals_told, unordered_refused, plans_alike}
+use Rattle.demands.proofs.RebuiltPlans.{rebuilds_plans, plans_rebuilt, rebuilt_right, plans_tell, rebuild_order}
+use Rattle.demands.proofs.MadePlan.{plans_if_accepted}
+use Rattle.demands.proofs.AddedPlans.{lengths_shape, plans_add, added_right, plans_multiply, multiplied_right}
+use Rattle.demands.proofs.SetAccepts.{covered_sets_accepted}
+use Rattle.demands.proofs.SetPowers.{sets_share, sets_in_order}
+use Rattle.demands.proofs.SetRight.{members_as_alone, members_right, set_stored_right, sets_right}
+use Rattle.demands.proofs.SetAnswer.{sets_answered}
+use Rattle.demands.proofs.SetCounted.{sets_report, shared_costs_told, sets_written}
+use Rattle.demands.proofs.SetOne.{ones_planned}
+use Rattle.demands.proofs.SetSaves.{sets_save}
+use Rattle.demands.proofs.SetFits.{sets_fit}
+use Rattle.demands.proofs.SetTotal.{sets_made, set_order, set_refusals_told}
+use Rattle.demands.proofs.SetSized.{sets_sized, set_sizes_order, set_room}
+use Rattle.demands.proofs.Conversions.{converts_accepted, calls_convert, empty_converts, calls_there_and_back, convert_order}
+use Rattle.demands.proofs.Conversions.{convert_refusals_told, fractions_refused, chebyshev_no_larger, converted_accepted, converted_plans_right}
 
-pub buffer-sizes : BufferSizes
-buffer-sizes = record { plans-sized = plans-sized; sizes-order = sizes-order }
+pub buffer_sizes : BufferSizes
+buffer_sizes = record { plans_sized = plans_sized; sizes_order = sizes_order }
 
-pub last-constant : LastConstant
-last-constant = record {
-  plans-plain = plans-plain;
-  plans-estimated = plans-estimated;
-  cheaper-reported = cheaper-reported;
-  earlier-right = earlier-right;
+pub last_constant : LastConstant
+last_constant = record {
+  plans_plain = plans_plain;
+  plans_estimated = plans_estimated;
+  cheaper_reported = cheaper_reported;
+  earlier_right = earlier_right;
 }
 
-pub plan-chains : PlanChains
-plan-chains = record {
-  steps-weigh = steps-weigh;
-  heaviest-greatest = heaviest-greatest;
-  heaviest-chain = heaviest-chain;
-  unused-left-out = unused-left-out;
-  stored-weighed = stored-weighed;
-  plans-weighed = plans-weighed;
-  chain-order = chain-order;
+pub plan_chains : PlanChains
+plan_chains = record {
+  steps_weigh = steps_weigh;
+  heaviest_greatest = heaviest_greatest;
+  heaviest_chain = heaviest_chain;
+  unused_left_out = unused_left_out;
+  stored_weighed = stored_weighed;
+  plans_weighed = plans_weighed;
+  chain_order = chain_order;
 }
 
-pub split-cases : SplitCases
-unfolding splitFor minDepth
-split-cases = record { one_each = refl; read_off = λ parity basis degree. refl; cases-published = cases-published; chosen = chosen }
+pub split_cases : SplitCases
+unfolding split_for min_depth
+split_cases = record { one_each = refl; read_off = λ parity basis degree. refl; cases_published = cases_published; chosen = chosen }
 
-pub degree-for-budget : DegreeForBudget
-degree-for-budget = record {
-  largest-degrees = largest-degrees;
-  bits-fall = bits-fall;
-  largest-order = λ strategy budget input coeff. refl;
-  none-below-scale = none-below-scale;
+pub degree_for_budget : DegreeForBudget
+degree_for_budget = record {
+  largest_degrees = largest_degrees;
+  bits_fall = bits_fall;
+  largest_order = λ strategy budget input coeff. refl;
+  none_below_scale = none_below_scale;
 }
 
-pub split-with-distance : SplitWithDistance
-split-with-distance = record {
-  third-is-distance = third-is-distance;
-  parts-differ = parts-differ;
-  refused-zero = refused-zero;
-  split-product = λ 𝓡. split-product 𝓡;
+pub split_with_distance : SplitWithDistance
+split_with_distance = record {
+  third_is_distance = third_is_distance;
+  parts_differ = parts_differ;
+  refused_zero = refused_zero;
+  split_product = λ 𝓡. split_product 𝓡;
 }
 
-pub interval-in-head : IntervalInHead
-interval-in-head = record {
-  intervals-told = intervals-told;
-  interval-unread = interval-unread;
-  unordered-refused = unordered-refused;
-  plans-alike = plans-alike;
+pub interval_in_head : IntervalInHead
+interval_in_head = record {
+  intervals_told = intervals_told;
+  interval_unread = interval_unread;
+  unordered_refused = unordered_refused;
+  plans_alike = plans_alike;
 }
 
-pub back-from-lists : BackFromLists
-back-from-lists = record {
-  rebuilds-plans = rebuilds-plans;
-  rebuilds-lists = rebuilds-lists;
-  plans-rebuilt = plans-rebuilt;
-  lists-rebuilt = lists-rebuilt;
-  rebuilt-right = rebuilt-right;
-  plans-tell = plans-tell;
-  lists-tell = lists-tell;
-  rebuild-order = rebuild-order;
-  stopped-refused = stopped-refused;
+pub back_from_lists : BackFromLists
+back_from_lists = record {
+  rebuilds_plans = rebuilds_plans;
+  rebuilds_lists = rebuilds_lists;
+  plans_rebuilt = plans_rebuilt;
+  lists_rebuilt = lists_rebuilt;
+  rebuilt_right = rebuilt_right;
+  plans_tell = plans_tell;
+  lists_tell = lists_tell;
+  rebuild_order = rebuild_order;
+  stopped_refused = stopped_refused;
 }
 
-pub curves-added : CurvesAdded
-curves-added = record {
-  plans-add = plans-add false;
-  plans-multiply = plans-multiply false;
-  plans-if-accepted = plans-if-accepted;
-  lists-add = lists-add;
-  lists-multiply = lists-multiply;
-  polynomial-sum-law = λ 𝓡. polynomial-sum-law 𝓡;
-  folded-plans-add = plans-add true;
-  folded-plans-multiply = plans-multiply true;
-  added-right = added-right;
-  multiplied-right = multiplied-right;
-  lengths-shape = lengths-shape;
-  arranged-kept = arranged-kept;
+pub curves_added : CurvesAdded
+curves_added = record {
+  plans_add = plans_add false;
+  plans_multiply = plans_multiply false;
+  plans_if_accepted = plans_if_accepted;
+  lists_add = lists_add;
+  lists_multiply = lists_multiply;
+  polynomial_sum_law = λ 𝓡. polynomial_sum_law 𝓡;
+  folded_plans_add = plans_add true;
+  folded_plans_multiply = plans_multiply true;
+  added_right = added_right;
+  multiplied_right = multiplied_right;
+  lengths_shape = lengths_shape;
+  arranged_kept = arranged_kept;
 }
 
-pub curves-shared : CurvesShared
-curves-shared = record {
-  covered-sets-accepted = covered-sets-accepted;
-  sets-made = sets-made;
-  sets-share = sets-share;
-  sets-in-order = sets-in-order;
-  members-as-alone = members-as-alone;
-  members-right = members-right;
-  sets-right = sets-right;
-  set-stored-right = set-stored-right;
-  sets-report = sets-report;
-  shared-costs-told = shared-costs-told;
-  sets-answered = sets-answered;
-  set-refusals-told = set-refusals-told;
-  set-order = set-order;
-  sets-written = sets-written;
-  sets-save = sets-save;
-  ones-planned = ones-planned;
-  sets-fit = sets-fit;
-  sets-sized = sets-sized;
-  set-sizes-order = set-sizes-order;
+pub curves_shared : CurvesShared
+curves_shared = record {
+  covered_sets_accepted = covered_sets_accepted;
+  sets_made = sets_made;
+  sets_share = sets_share;
+  sets_in_order = sets_in_order;
+  members_as_alone = members_as_alone;
+  members_right = members_right;
+  sets_right = sets_right;
+  set_stored_right = set_stored_right;
+  sets_report = sets_report;
+  shared_costs_told = shared_costs_told;
+  sets_answered = sets_answered;
+  set_refusals_told = set_refusals_told;
+  set_order = set_order;
+  sets_written = sets_written;
+  sets_save = sets_save;
+  ones_planned = ones_planned;
+  sets_fit = sets_fit;
+  sets_sized = sets_sized;
+  set_sizes_order = set_sizes_order;
   set_room = set_room;
 }
 
 pub both_ways : BothWays
 both_ways = record {
-  converts-accepted = converts-accepted;
-  calls-convert = calls-convert;
-  whole-exactly-if = whole-exactly-if;
-  fractions-refused = fractions-refused;
-  calls-there-and-back = calls-there-and-back;
-  convert-order = convert-order;
-  convert-refusals-told = convert-refusals-told;
-  chebyshev-no-larger = chebyshev-no-larger;
-  empty-converts = empty-converts;
-  rows-law = λ 𝓡. rows-law 𝓡;
-  leading-coefficient = leading-coefficient;
-  from-the-top = from-the-top;
-  converted-accepted = converted-accepted;
-  converted-plans-right = converted-plans-right;
+  converts_accepted = converts_accepted;
+  calls_convert = calls_convert;
+  whole_exactly_if = whole_exactly_if;
+  fractions_refused = fractions_refused;
+  calls_there_and_back = calls_there_and_back;
+  convert_order = convert_order;
+  convert_refusals_told = convert_refusals_told;
+  chebyshev_no_larger = chebyshev_no_larger;
+  empty_converts = empty_converts;
+  rows_law = λ 𝓡. rows_law 𝓡;
+  leading_coefficient = leading_coefficient;
+  from_the_top = from_the_top;
+  converted_accepted = converted_accepted;
+  converted_plans_right = converted_plans_right;
 }
 
 pub requests : Requests
 requests = record {
-  buffer-sizes = buffer-sizes;
-  last-constant = last-constant;
-  plan-chains = plan-chains;
-  split-cases = split-cases;
-  degree-for-budget = degree-for-budget;
-  split-with-distance = split-with-distance;
-  interval-in-head = interval-in-head;
-  back-from-lists = back-from-lists;
-  curves-added = curves-added;
-  curves-shared = curves-shared;
+  buffer_sizes = buffer_sizes;
+  last_constant = last_constant;
+  plan_chains = plan_chains;
+  split_cases = split_cases;
+  degree_for_budget = degree_for_budget;
+  split_with_distance = split_with_distance;
+  interval_in_head = interval_in_head;
+  back_from_lists = back_from_lists;
+  curves_added = curves_added;
+  curves_shared = curves_shared;
   both_ways = both_ways;
 }

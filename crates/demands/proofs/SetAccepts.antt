@@ -11,47 +11,47 @@ use borrow.Author.Tests.{ltb-false, le-ltb, eqb-false, ne_eqb, not-false}
 use lib.Dec.{ltb, eqb}
 use lib.IntN.{ℤ}
 use lib.ListN.{length, take, drop}
-use Rattle.number.specs.Refusal.{Test, firstRefusal, Numbered}
-use Rattle.number.proofs.Refusal.{none-holds, numbered-append, first-of-more, first-passed}
+use Rattle.number.specs.Refusal.{Test, first_refusal, Numbered}
+use Rattle.number.proofs.Refusal.{none_holds, numbered_append, first_of_more, first_passed}
 use Rattle.lists.specs.Lists.{joined}
 use Rattle.plan.specs.declared.sizes.PlanSizes.{PlanSizes}
-use Rattle.plan.proofs.PlanTests.{early-numbered, early-accepted, early-ordered, early-passed, buffers-fit, fit-passes}
-use Rattle.sets.specs.Members.{membersIn, Curve, curvesIn, handedCount, allAlike}
-use Rattle.sets.specs.SetPlan.{memberLimit, headsOf}
-use Rattle.sets.specs.SetCall.{badSet, unlikeMembers, ownTests, roomTests, curves, aheadTests, SetAccepted, setRefusal}
-use Rattle.sets.specs.SetSizes.{setSizesOf}
+use Rattle.plan.proofs.PlanTests.{early_numbered, early_accepted, early_ordered, early_passed, buffers_fit, fit_passes}
+use Rattle.sets.specs.Members.{members_in, Curve, curves_in, handed_count, all_alike}
+use Rattle.sets.specs.SetPlan.{member_limit, heads_of}
+use Rattle.sets.specs.SetCall.{bad_set, unlike_members, own_tests, room_tests, curves, ahead_tests, SetAccepted, set_refusal}
+use Rattle.sets.specs.SetSizes.{set_sizes_of}
 use Rattle.sets.specs.declared.member.Member.{Member}
 use Rattle.sets.specs.declared.member.Members.{Members}
 use Rattle.demands.specs.SetAccepts.{SameSettings, GoodSet, CoveredSet, CoveredSetsAccepted, BringsSet}
-use Rattle.demands.proofs.JoinedTests.{joined-numbered, each-passes, all_pass}
-use Rattle.demands.proofs.Alike.{settings-same, same-settings}
+use Rattle.demands.proofs.JoinedTests.{joined_numbered, each_passes, all_pass}
+use Rattle.demands.proofs.Alike.{settings_same, same_settings}
 
 -- ---- the members' tests
 
-pub own-numbered : (curve : Curve) → Numbered (ownTests curve)
-own-numbered curve = early-numbered curve.member.fold curve.member.parity curve.coefficients curve.member.a curve.member.b
+pub own_numbered : (curve : Curve) → Numbered (own_tests curve)
+own_numbered curve = early_numbered curve.member.fold curve.member.parity curve.coefficients curve.member.a curve.member.b
 
 -- ---- members and curves
 
-member-in : (members : List Member) (c : List ℤ) (curve : Curve) → Memᴰ curve (curvesIn members c) → Memᴰ curve.member members
-unfolding curvesIn
-member-in [] c curve member = absurd (Memᴰ.not-nil member)
-member-in (first ∷ members) c curve member =
+member_in : (members : List Member) (c : List ℤ) (curve : Curve) → Memᴰ curve (curves_in members c) → Memᴰ curve.member members
+unfolding curves_in
+member_in [] c curve member = absurd (Memᴰ.not-nil member)
+member_in (first ∷ members) c curve member =
     ⊎_elim
     (λ (e : curve ≡ record { member = first; coefficients = take first.count c }). Memᴰ.head (ap (λ (one : Curve). one.member) e))
-    (λ (later : Memᴰ curve (curvesIn members (drop first.count c))). Memᴰ.tail (member-in members (drop first.count c) curve later))
+    (λ (later : Memᴰ curve (curves_in members (drop first.count c))). Memᴰ.tail (member_in members (drop first.count c) curve later))
     (Memᴰ.cases_cons member)
 
 -- the curve of a member
 record CurveOf (members : List Member) (c : List ℤ) (m : Member) : Type 0 where
   curve : Curve
   is : curve.member ≡ m
-  within : Memᴰ curve (curvesIn members c)
+  within : Memᴰ curve (curves_in members c)
 
-curve-of : (members : List Member) (c : List ℤ) (m : Member) → Memᴰ m members → CurveOf members c m
-unfolding curvesIn
-curve-of [] c m member = absurd (Memᴰ.not-nil member)
-curve-of (first ∷ members) c m member =
+curve_of_lem : (members : List Member) (c : List ℤ) (m : Member) → Memᴰ m members → CurveOf members c m
+unfolding curves_in
+curve_of_lem [] c m member = absurd (Memᴰ.not-nil member)
+curve_of_lem (first ∷ members) c m member =
     ⊎_elim
     (λ (e : m ≡ first). record {
       curve = record { member = first; coefficients = take first.count c };
@@ -59,105 +59,105 @@ curve-of (first ∷ members) c m member =
       within = Memᴰ.head refl;
     })
     (λ (later : Memᴰ m members).
-    let rest = curve-of members (drop first.count c) m later in
+    let rest = curve_of_lem members (drop first.count c) m later in
     record { curve = rest.curve; is = rest.is; within = Memᴰ.tail rest.within })
     (Memᴰ.cases_cons member)
 
 -- ---- the two tests of the set
 
-pub one-false : (a b : Bool) → (a || b) ≡ false → (a ≡ false) × (b ≡ false)
-one-false true b none = absurd (true≢false none)
-one-false false b none = (refl, none)
+pub one_false : (a b : Bool) → (a || b) ≡ false → (a ≡ false) × (b ≡ false)
+one_false true b none = absurd (true≢false none)
+one_false false b none = (refl, none)
 
 module _ (handed : Members) (c : List ℤ) where
   abbrev front : List Test
-  front = badSet handed.count (handedCount (membersIn handed)) (length c) ∷ unlikeMembers handed ∷ []
+  front = bad_set handed.count (handed_count (members_in handed)) (length c) ∷ unlike_members handed ∷ []
 
   abbrev own : List Test
-  own = joined (map ownTests (curves handed c))
+  own = joined (map own_tests (curves handed c))
 
-  front-numbered : Numbered front
-  front-numbered = (omega arith, (omega arith, tt))
+  front_numbered : Numbered front
+  front_numbered = (omega arith, (omega arith, tt))
 
   covered : SetAccepted handed c → CoveredSet handed c
   covered accepted =
-      let passed = first-passed front own front-numbered accepted in
-      let none = none-holds front front-numbered passed in
-      let rest : firstRefusal own ≡ 0 = sym (first-of-more front own front-numbered passed) ∙ accepted in
-      let shape = one-false (eqb handed.count 0) (ltb memberLimit handed.count || ltb (length c) (handedCount (membersIn handed))) none.0 in
-      let sizes = one-false (ltb memberLimit handed.count) (ltb (length c) (handedCount (membersIn handed))) shape.1 in
+      let passed = first_passed front own front_numbered accepted in
+      let none = none_holds front front_numbered passed in
+      let rest : first_refusal own ≡ 0 = sym (first_of_more front own front_numbered passed) ∙ accepted in
+      let shape = one_false (eqb handed.count 0) (ltb member_limit handed.count || ltb (length c) (handed_count (members_in handed))) none.0 in
+      let sizes = one_false (ltb member_limit handed.count) (ltb (length c) (handed_count (members_in handed))) shape.1 in
       let some = eqb-false handed.count 0 shape.0 in
-      let same = settings-same (membersIn handed) (not-false (allAlike (membersIn handed)) none.1.0) in
+      let same = settings_same (members_in handed) (not-false (all_alike (members_in handed)) none.1.0) in
       record {
         from = omega arith;
-        to = ltb-false memberLimit handed.count sizes.0;
-        within = ltb-false (length c) (handedCount (membersIn handed)) sizes.1;
+        to = ltb-false member_limit handed.count sizes.0;
+        within = ltb-false (length c) (handed_count (members_in handed)) sizes.1;
         good = record {
           accepted = λ curve member.
-              early-accepted curve.member.fold curve.member.parity curve.coefficients curve.member.a curve.member.b
-              (each-passes ownTests own-numbered (curves handed c) rest curve member);
+              early_accepted curve.member.fold curve.member.parity curve.coefficients curve.member.a curve.member.b
+              (each_passes own_tests own_numbered (curves handed c) rest curve member);
           ordered = λ curve member.
-              early-ordered curve.member.fold curve.member.parity curve.coefficients curve.member.a curve.member.b
-              (each-passes ownTests own-numbered (curves handed c) rest curve member);
+              early_ordered curve.member.fold curve.member.parity curve.coefficients curve.member.a curve.member.b
+              (each_passes own_tests own_numbered (curves handed c) rest curve member);
           settings = λ one other here there.
-              same one.member other.member (member-in (membersIn handed) c one here) (member-in (membersIn handed) c other there);
+              same one.member other.member (member_in (members_in handed) c one here) (member_in (members_in handed) c other there);
         };
       }
 
   -- any two members have the settings in common, as their curves do
-  members-same : GoodSet (curves handed c) → (one other : Member) → Memᴰ one (membersIn handed) → Memᴰ other (membersIn handed)
+  members_same : GoodSet (curves handed c) → (one other : Member) → Memᴰ one (members_in handed) → Memᴰ other (members_in handed)
       → SameSettings one other
-  members-same good one other here there =
-      let first = curve-of (membersIn handed) c one here in
-      let second = curve-of (membersIn handed) c other there in
+  members_same good one other here there =
+      let first = curve_of_lem (members_in handed) c one here in
+      let second = curve_of_lem (members_in handed) c other there in
       subst (λ (m : Member). SameSettings m other) first.is
       (subst (λ (m : Member). SameSettings first.curve.member m) second.is
       (good.settings first.curve second.curve first.within second.within))
 
-  pub covered-alike : CoveredSet handed c → allAlike (membersIn handed) ≡ true
-  covered-alike covers = same-settings (membersIn handed) (members-same covers.good)
+  pub covered_alike : CoveredSet handed c → all_alike (members_in handed) ≡ true
+  covered_alike covers = same_settings (members_in handed) (members_same covers.good)
 
-  accepted-by : CoveredSet handed c → SetAccepted handed c
-  accepted-by covers =
+  accepted_by : CoveredSet handed c → SetAccepted handed c
+  accepted_by covers =
       rw (
         ne_eqb handed.count 0 (λ none. omega (arith, covers.from)),
-        le-ltb memberLimit handed.count covers.to,
-        le-ltb (length c) (handedCount (membersIn handed)) covers.within,
-        covered-alike covers,
+        le-ltb member_limit handed.count covers.to,
+        le-ltb (length c) (handed_count (members_in handed)) covers.within,
+        covered_alike covers,
       )
-      (all_pass ownTests own-numbered (curves handed c) (λ curve member.
-      early-passed curve.member.fold curve.member.parity curve.coefficients curve.member.a curve.member.b
+      (all_pass own_tests own_numbered (curves handed c) (λ curve member.
+      early_passed curve.member.fold curve.member.parity curve.coefficients curve.member.a curve.member.b
       (covers.good.accepted curve member) (covers.good.ordered curve member)))
 
-  pub ahead-numbered : Numbered (aheadTests handed c)
-  ahead-numbered = numbered-append front own front-numbered (joined-numbered ownTests own-numbered (curves handed c))
+  pub ahead_numbered : Numbered (ahead_tests handed c)
+  ahead_numbered = numbered_append front own front_numbered (joined_numbered own_tests own_numbered (curves handed c))
 
-pub covered-sets-accepted : CoveredSetsAccepted
-covered-sets-accepted handed c = (covered handed c, accepted-by handed c)
+pub covered_sets_accepted : CoveredSetsAccepted
+covered_sets_accepted handed c = (covered handed c, accepted_by handed c)
 
 -- ---- with the buffers
 
 module _ (handed : Members) (c out : List ℤ) (bounds steps : List ℕ) where
   abbrev sizes : PlanSizes
-  sizes = setSizesOf (headsOf (curves handed c))
+  sizes = set_sizes_of (heads_of (curves handed c))
 
   abbrev late : List Test
-  late = roomTests (headsOf (curves handed c)) (length out) (length bounds) (length steps)
+  late = room_tests (heads_of (curves handed c)) (length out) (length bounds) (length steps)
 
   -- where a set is accepted, its buffers decide
-  pub late-decides : SetAccepted handed c → setRefusal handed c out bounds steps ≡ firstRefusal late
-  unfolding setRefusal
-  late-decides accepted = first-of-more (aheadTests handed c) late (ahead-numbered handed c) accepted
+  pub late_decides : SetAccepted handed c → set_refusal handed c out bounds steps ≡ first_refusal late
+  unfolding set_refusal
+  late_decides accepted = first_of_more (ahead_tests handed c) late (ahead_numbered handed c) accepted
 
-  pub set-brings : setRefusal handed c out bounds steps ≡ 0 → BringsSet handed c out bounds steps
-  unfolding setRefusal setSizesOf
-  set-brings made =
-      let accepted = first-passed (aheadTests handed c) late (ahead-numbered handed c) made in
+  pub set_brings : set_refusal handed c out bounds steps ≡ 0 → BringsSet handed c out bounds steps
+  unfolding set_refusal set_sizes_of
+  set_brings made =
+      let accepted = first_passed (ahead_tests handed c) late (ahead_numbered handed c) made in
       record {
         accepted = accepted;
-        long-enough = buffers-fit sizes (length out) (length bounds) (length steps) (sym (late-decides accepted) ∙ made);
+        long_enough = buffers_fit sizes (length out) (length bounds) (length steps) (sym (late_decides accepted) ∙ made);
       }
 
-  pub set-made : BringsSet handed c out bounds steps → setRefusal handed c out bounds steps ≡ 0
-  unfolding setSizesOf
-  set-made brings = late-decides brings.accepted ∙ fit-passes sizes (length out) (length bounds) (length steps) brings.long-enough
+  pub set_made : BringsSet handed c out bounds steps → set_refusal handed c out bounds steps ≡ 0
+  unfolding set_sizes_of
+  set_made brings = late_decides brings.accepted ∙ fit_passes sizes (length out) (length bounds) (length steps) brings.long_enough

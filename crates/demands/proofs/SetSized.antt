@@ -1,6 +1,6 @@
--- The sizes of a set are those of every plan of it. A head depends on its member's settings and the number of its coefficients alone (sets' `heads-by`), so
+-- The sizes of a set are those of every plan of it. A head depends on its member's settings and the number of its coefficients alone (sets' `heads_by_lem`), so
 -- the totals of the settings are those of an accepted set, against which its buffers are tested; and the tests of a member's settings are the first of its
--- own tests. A member that passes them has at most 4,096 coefficients and lists and twice as many steps (sets' `sizes-most`), and the union holds powers
+-- own tests. A member that passes them has at most 4,096 coefficients and lists and twice as many steps (sets' `sizes_most`), and the union holds powers
 -- up to 4,095.
 use mathlib.Core.Path.{◌≡◌, refl, sym, ◌∙◌, ap, ap₂, subst}
 use mathlib.Core.Logic.{⊎_elim}
@@ -16,123 +16,123 @@ use lib.ListN.{length, take, drop, replicate, length-take, length-drop, length-m
 use lib.Seq.{length-take-le}
 use Rattle.algebra.specs.declared.Parity.{Parity}
 use Rattle.number.specs.Interval.{Ordered}
-use Rattle.number.specs.Limits.{planLimit, countLimit}
-use Rattle.number.specs.Refusal.{Test, firstRefusal, Numbered}
-use Rattle.number.specs.Tests.{degreeOf}
-use Rattle.number.proofs.Refusal.{none-holds, first-kept, first-of-more, first-passed, NumbersTo, first-most, refusal-of, when-accepted, when-refused}
+use Rattle.number.specs.Limits.{plan_limit, count_limit}
+use Rattle.number.specs.Refusal.{Test, first_refusal, Numbered}
+use Rattle.number.specs.Tests.{degree_of}
+use Rattle.number.proofs.Refusal.{none_holds, first_kept, first_of_more, first_passed, NumbersTo, first_most, refusal_of, when_accepted, when_refused}
 use Rattle.needed.specs.Promises.{Rising, next}
-use Rattle.needed.proofs.Promises.{needed-powers}
+use Rattle.needed.proofs.Promises.{needed_powers}
 use Rattle.lists.specs.Lists.{joined}
 use Rattle.walk.specs.declared.plan.Head.{Head}
-use Rattle.plan.specs.PlanHead.{noHead}
-use Rattle.plan.specs.PlanCall.{settingsTests, Accepted, bufferTests}
-use Rattle.plan.specs.PlanSizes.{noSizes, HasSizes}
+use Rattle.plan.specs.PlanHead.{no_head}
+use Rattle.plan.specs.PlanCall.{settings_tests, Accepted, buffer_tests}
+use Rattle.plan.specs.PlanSizes.{no_sizes, HasSizes}
 use Rattle.plan.specs.declared.sizes.PlanSizes.{PlanSizes}
-use Rattle.plan.proofs.PlanTests.{settings-numbered, settings-accepted, early-passed}
-use Rattle.sets.specs.Members.{membersIn, Curve, curvesIn, total, handedCount, allAlike}
-use Rattle.sets.specs.Own.{ownSplit, headBy}
-use Rattle.sets.specs.SetPlan.{memberLimit, headsOf, setPowers, setOf}
-use Rattle.sets.specs.SetCall.{unlikeMembers, ownTests, curves, aheadTests, SetAccepted, setRefusal}
-use Rattle.sets.specs.SetSizes.{badCount, memberSettingsTests, setSizesTests, setSizesOf, setSizesCall}
+use Rattle.plan.proofs.PlanTests.{settings_numbered, settings_accepted, early_passed}
+use Rattle.sets.specs.Members.{members_in, Curve, curves_in, total, handed_count, all_alike}
+use Rattle.sets.specs.Own.{own_split, head_by}
+use Rattle.sets.specs.SetPlan.{member_limit, heads_of, set_powers, set_of}
+use Rattle.sets.specs.SetCall.{unlike_members, own_tests, curves, ahead_tests, SetAccepted, set_refusal}
+use Rattle.sets.specs.SetSizes.{bad_count, member_settings_tests, set_sizes_tests, set_sizes_of, set_sizes_call}
 use Rattle.sets.specs.inside.Heads.{HeadFits}
 use Rattle.sets.specs.declared.member.Member.{Member}
 use Rattle.sets.specs.declared.member.Members.{Members}
 use Rattle.sets.specs.declared.set.SetPlanned.{SetPlanned}
-use Rattle.sets.proofs.HeadLaws.{heads-by, sizes-most, fits_by}
-use Rattle.demands.specs.SetPowers.{NeededBySome, needed-by}
-use Rattle.demands.specs.SetSized.{setSizesIn, SetsSized, SetSizesTotal, SetSizesOrder, setCoefficientRoom, setBoundaryRoom, setStepRoom, SetRoom}
-use Rattle.demands.specs.SetTotal.{past-slice}
-use Rattle.demands.proofs.Sized.{settings-decide}
+use Rattle.sets.proofs.HeadLaws.{heads_by_lem, sizes_most, fits_by}
+use Rattle.demands.specs.SetPowers.{NeededBySome, needed_by}
+use Rattle.demands.specs.SetSized.{set_sizes_in, SetsSized, SetSizesTotal, SetSizesOrder, set_coefficient_room, set_boundary_room, set_step_room, SetRoom}
+use Rattle.demands.specs.SetTotal.{past_slice}
+use Rattle.demands.proofs.Sized.{settings_decide}
 use Rattle.demands.proofs.Total.{ends}
-use Rattle.demands.proofs.JoinedTests.{joined_numbers, joined_to, joined-numbered, each-passes, all_pass, first-refused}
-use Rattle.demands.proofs.SetAccepts.{one-false, own-numbered, covered-alike, covered-sets-accepted, late-decides, set-brings, set-made}
-use Rattle.demands.proofs.SetPowers.{sets-share}
-use Rattle.demands.proofs.SetRight.{sets-right}
-use Rattle.demands.proofs.SetTotal.{set-refusal-is, set-refusals-told}
+use Rattle.demands.proofs.JoinedTests.{joined_numbers, joined_to, joined_numbered, each_passes, all_pass, first_refused}
+use Rattle.demands.proofs.SetAccepts.{one_false, own_numbered, covered_alike, covered_sets_accepted, late_decides, set_brings, set_made}
+use Rattle.demands.proofs.SetPowers.{sets_share}
+use Rattle.demands.proofs.SetRight.{sets_right}
+use Rattle.demands.proofs.SetTotal.{set_refusal_is, set_refusals_told}
 
 -- ---- the settings of curves
 
 -- a member's settings, by its curve
-abbrev curveSettings : Curve → List Test
-curveSettings curve = settingsTests curve.member.fold curve.member.parity (degreeOf curve.coefficients)
+abbrev curve_settings : Curve → List Test
+curve_settings curve = settings_tests curve.member.fold curve.member.parity (degree_of curve.coefficients)
 
 -- within the slice each curve has as many coefficients as its member counts
-curve-length : (members : List Member) (c : List ℤ) → handedCount members ≤ length c → (curve : Curve) → Memᴰ curve (curvesIn members c)
+curve_length : (members : List Member) (c : List ℤ) → handed_count members ≤ length c → (curve : Curve) → Memᴰ curve (curves_in members c)
     → length curve.coefficients ≡ curve.member.count
-unfolding curvesIn total
-curve-length [] c within curve member = absurd (mathlib.Core.List.Memᴰ.not-nil member)
-curve-length (first ∷ members) c within curve member =
+unfolding curves_in total
+curve_length [] c within curve member = absurd (mathlib.Core.List.Memᴰ.not-nil member)
+curve_length (first ∷ members) c within curve member =
     ⊎_elim
     (λ (e : curve ≡ record { member = first; coefficients = take first.count c }). rw e (length-take-le first.count c (omega arith)))
-    (λ (later : Memᴰ curve (curvesIn members (drop first.count c))).
-    curve-length members (drop first.count c) (omega (arith, length-drop first.count c)) curve later)
+    (λ (later : Memᴰ curve (curves_in members (drop first.count c))).
+    curve_length members (drop first.count c) (omega (arith, length-drop first.count c)) curve later)
     (mathlib.Core.List.Memᴰ.cases_cons member)
 
 -- so the settings of the curves are those of the members
-settings-same : (members : List Member) (c : List ℤ) → handedCount members ≤ length c
-    → map curveSettings (curvesIn members c) ≡ map memberSettingsTests members
-unfolding curvesIn total
-settings-same [] c within = refl
-settings-same (member ∷ members) c within =
-    ap₂ ◌∷◌ (ap (λ (n : ℕ). settingsTests member.fold member.parity (n - 1)) (length-take-le member.count c (omega arith)))
-    (settings-same members (drop member.count c) (omega (arith, length-drop member.count c)))
+settings_same : (members : List Member) (c : List ℤ) → handed_count members ≤ length c
+    → map curve_settings (curves_in members c) ≡ map member_settings_tests members
+unfolding curves_in total
+settings_same [] c within = refl
+settings_same (member ∷ members) c within =
+    ap₂ ◌∷◌ (ap (λ (n : ℕ). settings_tests member.fold member.parity (n - 1)) (length-take-le member.count c (omega arith)))
+    (settings_same members (drop member.count c) (omega (arith, length-drop member.count c)))
 
-curve-numbered : (curve : Curve) → Numbered (curveSettings curve)
-curve-numbered curve = settings-numbered curve.member.fold curve.member.parity (degreeOf curve.coefficients)
+curve_numbered : (curve : Curve) → Numbered (curve_settings curve)
+curve_numbered curve = settings_numbered curve.member.fold curve.member.parity (degree_of curve.coefficients)
 
-member-numbered : (member : Member) → Numbered (memberSettingsTests member)
-member-numbered member = settings-numbered member.fold member.parity (member.count - 1)
+member_numbered : (member : Member) → Numbered (member_settings_tests member)
+member_numbered member = settings_numbered member.fold member.parity (member.count - 1)
 
 -- ---- the sizes of an accepted set
 
 module _ (handed : Members) where
   abbrev sizes : PlanSizes
-  sizes = setSizesCall handed
+  sizes = set_sizes_call handed
 
   abbrev refusal : ℕ
-  refusal = firstRefusal (setSizesTests handed)
+  refusal = first_refusal (set_sizes_tests handed)
 
-  sizes-refusal : sizes.refusal ≡ refusal
-  unfolding setSizesCall setSizesOf
-  sizes-refusal = refusal-of refusal _ _ (λ (s : PlanSizes). s.refusal) refl refl
+  sizes_refusal_lem : sizes.refusal ≡ refusal
+  unfolding set_sizes_call set_sizes_of
+  sizes_refusal_lem = refusal_of refusal _ _ (λ (s : PlanSizes). s.refusal) refl refl
 
   module _ (c : List ℤ) where
-    settings-pass-all : SetAccepted handed c → refusal ≡ 0
-    settings-pass-all accepted =
-        let covers = (covered-sets-accepted handed c).0 accepted in
-        let passed : firstRefusal (joined (map curveSettings (curves handed c))) ≡ 0 =
-        all_pass curveSettings curve-numbered (curves handed c)
-        (λ curve member. settings-accepted curve.member.fold curve.member.parity curve.coefficients (covers.good.accepted curve member)) in
+    settings_pass_all : SetAccepted handed c → refusal ≡ 0
+    settings_pass_all accepted =
+        let covers = (covered_sets_accepted handed c).0 accepted in
+        let passed : first_refusal (joined (map curve_settings (curves handed c))) ≡ 0 =
+        all_pass curve_settings curve_numbered (curves handed c)
+        (λ curve member. settings_accepted curve.member.fold curve.member.parity curve.coefficients (covers.good.accepted curve member)) in
         rw (
           ne_eqb handed.count 0 (λ none. omega (arith, covers.from)),
-          le-ltb memberLimit handed.count covers.to,
-          covered-alike handed c covers,
+          le-ltb member_limit handed.count covers.to,
+          covered_alike handed c covers,
         )
-        (ap (λ (l : List (List Test)). firstRefusal (joined l)) (sym (settings-same (membersIn handed) c covers.within)) ∙ passed)
+        (ap (λ (l : List (List Test)). first_refusal (joined l)) (sym (settings_same (members_in handed) c covers.within)) ∙ passed)
 
-    sizes-are : SetAccepted handed c → setSizesOf (headsOf (curves handed c)) ≡ sizes
-    unfolding setSizesCall
-    sizes-are accepted =
-        ap setSizesOf (heads-by (membersIn handed) c ((covered-sets-accepted handed c).0 accepted).within)
-        ∙ when-accepted _ _ (settings-pass-all accepted)
+    sizes_are : SetAccepted handed c → set_sizes_of (heads_of (curves handed c)) ≡ sizes
+    unfolding set_sizes_call
+    sizes_are accepted =
+        ap set_sizes_of (heads_by_lem (members_in handed) c ((covered_sets_accepted handed c).0 accepted).within)
+        ∙ when_accepted _ _ (settings_pass_all accepted)
 
 -- ---- the sizes that a record tells
 
 -- zero heads add nothing
-zeros-add : (f : Head → ℕ) → f noHead ≡ 0 → (heads : List Head) (n : ℕ) → total (map f (heads ++ replicate n noHead)) ≡ total (map f heads)
+zeros_add : (f : Head → ℕ) → f no_head ≡ 0 → (heads : List Head) (n : ℕ) → total (map f (heads ++ replicate n no_head)) ≡ total (map f heads)
 unfolding total
-zeros-add f none [] zero = refl
-zeros-add f none [] (suc n) = omega (arith, zeros-add f none [] n)
-zeros-add f none (head ∷ heads) n = ap (f head +◌) (zeros-add f none heads n)
+zeros_add f none [] zero = refl
+zeros_add f none [] (suc n) = omega (arith, zeros_add f none [] n)
+zeros_add f none (head ∷ heads) n = ap (f head +◌) (zeros_add f none heads n)
 
-record-tells : (heads : List Head) → setSizesIn (setOf heads) ≡ setSizesOf heads
-unfolding setOf setSizesOf
-record-tells heads =
-    let more : ℕ = memberLimit - length heads in
+record_tells : (heads : List Head) → set_sizes_in (set_of heads) ≡ set_sizes_of heads
+unfolding set_of set_sizes_of
+record_tells heads =
+    let more : ℕ = member_limit - length heads in
     rw (
-      zeros-add (λ (head : Head). head.coefficients) refl heads more,
-      zeros-add (λ (head : Head). head.lists) refl heads more,
-      zeros-add (λ (head : Head). head.steps) refl heads more,
+      zeros_add (λ (head : Head). head.coefficients) refl heads more,
+      zeros_add (λ (head : Head). head.lists) refl heads more,
+      zeros_add (λ (head : Head). head.steps) refl heads more,
     )
 
 -- ---- 35, 36 and behind them
@@ -146,10 +146,10 @@ same_by false false true unlike rest here within same = absurd (false≢true (sy
 same_by false false false true rest here within same = refl
 same_by false false false false rest here within same = same refl
 
-some-by : (bad unlike : Bool) (rest : ℕ) → 0 < rest → 0 < cond bad 35 (cond unlike 36 rest)
-some-by true unlike rest some = omega arith
-some-by false true rest some = omega arith
-some-by false false rest some = some
+some_by : (bad unlike : Bool) (rest : ℕ) → 0 < rest → 0 < cond bad 35 (cond unlike 36 rest)
+some_by true unlike rest some = omega arith
+some_by false true rest some = omega arith
+some_by false false rest some = some
 
 -- ---- against a call
 
@@ -158,221 +158,221 @@ module _ (handed : Members) (c out : List ℤ) (bounds steps : List ℕ) where
   Long sizes = HasSizes sizes (length out) (length bounds) (length steps)
 
   abbrev k : ℕ
-  k = setRefusal handed c out bounds steps
+  k = set_refusal handed c out bounds steps
 
   abbrev ahead : ℕ
-  ahead = firstRefusal (aheadTests handed c)
+  ahead = first_refusal (ahead_tests handed c)
 
-  made-long : SetAccepted handed c → Long (setSizesCall handed) → k ≡ 0
-  made-long accepted long =
-      set-made handed c out bounds steps (record { accepted = accepted; long-enough = subst Long (sym (sizes-are handed c accepted)) long })
+  made_long : SetAccepted handed c → Long (set_sizes_call handed) → k ≡ 0
+  made_long accepted long =
+      set_made handed c out bounds steps (record { accepted = accepted; long_enough = subst Long (sym (sizes_are handed c accepted)) long })
 
-  has-sizes : SetAccepted handed c → k ≡ 0 → Long (setSizesCall handed)
-  has-sizes accepted made = subst Long (sizes-are handed c accepted) (set-brings handed c out bounds steps made).long-enough
+  has_sizes : SetAccepted handed c → k ≡ 0 → Long (set_sizes_call handed)
+  has_sizes accepted made = subst Long (sizes_are handed c accepted) (set_brings handed c out bounds steps made).long_enough
 
   -- with buffers of these sizes the tests ahead of 21 decide
-  ahead-decides : Long (setSizesCall handed) → k ≡ ahead
-  unfolding setRefusal
-  ahead-decides long = by ahead refl
+  ahead_decides : Long (set_sizes_call handed) → k ≡ ahead
+  unfolding set_refusal
+  ahead_decides long = by ahead refl
     where
       by : (n : ℕ) → ahead ≡ n → k ≡ ahead
-      by zero none = made-long none long ∙ sym none
-      by (suc n) some = first-kept (aheadTests handed c) _ (omega arith)
+      by zero none = made_long none long ∙ sym none
+      by (suc n) some = first_kept (ahead_tests handed c) _ (omega arith)
 
-  short-decides : SetAccepted handed c → k
-      ≡ firstRefusal (bufferTests (setSizesCall handed).coefficients (setSizesCall handed).lists (setSizesCall handed).steps
+  short_decides : SetAccepted handed c → k
+      ≡ first_refusal (buffer_tests (set_sizes_call handed).coefficients (set_sizes_call handed).lists (set_sizes_call handed).steps
       (length out) (length bounds) (length steps))
-  unfolding setSizesOf
-  short-decides accepted =
-      late-decides handed c out bounds steps accepted
-      ∙ ap (λ (s : PlanSizes). firstRefusal (bufferTests s.coefficients s.lists s.steps (length out) (length bounds) (length steps)))
-      (sizes-are handed c accepted)
+  unfolding set_sizes_of
+  short_decides accepted =
+      late_decides handed c out bounds steps accepted
+      ∙ ap (λ (s : PlanSizes). first_refusal (buffer_tests s.coefficients s.lists s.steps (length out) (length bounds) (length steps)))
+      (sizes_are handed c accepted)
 
   -- members that are refused by their sizes are refused
-  refused-by-sizes : 0 < (setSizesCall handed).refusal → 0 < k
-  refused-by-sizes some = by k refl
+  refused_by_sizes : 0 < (set_sizes_call handed).refusal → 0 < k
+  refused_by_sizes some = by k refl
     where
       by : (n : ℕ) → k ≡ n → 0 < n
       by zero none =
-          let accepted = (set-brings handed c out bounds steps none).accepted in
-          absurd (omega (arith, sizes-refusal handed, settings-pass-all handed c accepted, some))
+          let accepted = (set_brings handed c out bounds steps none).accepted in
+          absurd (omega (arith, sizes_refusal_lem handed, settings_pass_all handed c accepted, some))
       by (suc n) more = omega arith
 
-  module _ (within : handedCount (membersIn handed) ≤ length c) where
+  module _ (within : handed_count (members_in handed) ≤ length c) where
     abbrev own : List Test
-    own = joined (map ownTests (curves handed c))
+    own = joined (map own_tests (curves handed c))
 
     abbrev settings : ℕ
-    settings = firstRefusal (joined (map memberSettingsTests (membersIn handed)))
+    settings = first_refusal (joined (map member_settings_tests (members_in handed)))
 
-    settings-are : firstRefusal (joined (map curveSettings (curves handed c))) ≡ settings
-    settings-are = ap (λ (l : List (List Test)). firstRefusal (joined l)) (settings-same (membersIn handed) c within)
+    settings_are : first_refusal (joined (map curve_settings (curves handed c))) ≡ settings
+    settings_are = ap (λ (l : List (List Test)). first_refusal (joined l)) (settings_same (members_in handed) c within)
 
     -- both calls find the same ahead of 21, if they do behind 36
-    same_ahead : (refusal handed ≡ settings → firstRefusal own ≡ settings) → ahead ≡ refusal handed
+    same_ahead : (refusal handed ≡ settings → first_refusal own ≡ settings) → ahead ≡ refusal handed
     same_ahead =
-        same_by (eqb handed.count 0) (ltb memberLimit handed.count) (ltb (length c) (handedCount (membersIn handed)))
-        (not (allAlike (membersIn handed))) settings (firstRefusal own) (le-ltb (length c) (handedCount (membersIn handed)) within)
+        same_by (eqb handed.count 0) (ltb member_limit handed.count) (ltb (length c) (handed_count (members_in handed)))
+        (not (all_alike (members_in handed))) settings (first_refusal own) (le-ltb (length c) (handed_count (members_in handed)) within)
 
-    same-refused : 0 < (setSizesCall handed).refusal → (refusal handed ≡ settings → firstRefusal own ≡ settings) → k ≡ (setSizesCall handed).refusal
-    unfolding setRefusal
-    same-refused some same =
+    same_refused : 0 < (set_sizes_call handed).refusal → (refusal handed ≡ settings → first_refusal own ≡ settings) → k ≡ (set_sizes_call handed).refusal
+    unfolding set_refusal
+    same_refused some same =
         let found = same_ahead same in
-        first-kept (aheadTests handed c) _ (omega (arith, found, sizes-refusal handed, some)) ∙ found ∙ sym (sizes-refusal handed)
+        first_kept (ahead_tests handed c) _ (omega (arith, found, sizes_refusal_lem handed, some)) ∙ found ∙ sym (sizes_refusal_lem handed)
 
     -- the tests of the settings have numbers up to 6
-    settings-most : settings ≤ 6
-    settings-most =
-        first-most 6 (joined (map memberSettingsTests (membersIn handed)))
-        (joined_to memberSettingsTests 6 (λ member. six member.fold member.parity (member.count - 1)) (membersIn handed))
+    settings_most : settings ≤ 6
+    settings_most =
+        first_most 6 (joined (map member_settings_tests (members_in handed)))
+        (joined_to member_settings_tests 6 (λ member. six member.fold member.parity (member.count - 1)) (members_in handed))
       where
-        six : (folded : Bool) (parity : Parity) (degree : ℕ) → NumbersTo 6 (settingsTests folded parity degree)
+        six : (folded : Bool) (parity : Parity) (degree : ℕ) → NumbersTo 6 (settings_tests folded parity degree)
         six true parity degree = (omega arith, (omega arith, (omega arith, (omega arith, tt))))
         six false parity degree = (omega arith, (omega arith, tt))
 
-    set-refusal-same : 35 ≤ (setSizesCall handed).refusal → k ≡ (setSizesCall handed).refusal
-    set-refusal-same high =
-        same-refused (omega arith) (λ is. absurd (omega (arith, is, settings-most, sizes-refusal handed, high)))
+    set_refusal_same : 35 ≤ (set_sizes_call handed).refusal → k ≡ (set_sizes_call handed).refusal
+    set_refusal_same high =
+        same_refused (omega arith) (λ is. absurd (omega (arith, is, settings_most, sizes_refusal_lem handed, high)))
 
     -- where the members before one are accepted, and its settings are refused, both calls find them
-    settings-refusal-same : (before after : List Curve) (curve : Curve) → curves handed c ≡ before ++ (curve ∷ after)
+    settings_refusal_same : (before after : List Curve) (curve : Curve) → curves handed c ≡ before ++ (curve ∷ after)
         → ((one : Curve) → Memᴰ one before
         → Accepted one.member.fold one.member.parity one.coefficients × Ordered one.member.a one.member.b)
-        → 0 < firstRefusal (memberSettingsTests curve.member) → k ≡ (setSizesCall handed).refusal
-    settings-refusal-same before after curve parts pass some =
+        → 0 < first_refusal (member_settings_tests curve.member) → k ≡ (set_sizes_call handed).refusal
+    settings_refusal_same before after curve parts pass some =
         let here : Memᴰ curve (curves handed c) = subst (Memᴰ curve) (sym parts) (mathlib.Core.List.Memᴰ.append_right before (mathlib.Core.List.Memᴰ.head refl)) in
-        let counted : firstRefusal (curveSettings curve) ≡ firstRefusal (memberSettingsTests curve.member) =
-        ap (λ (n : ℕ). firstRefusal (settingsTests curve.member.fold curve.member.parity (n - 1)))
-        (curve-length (membersIn handed) c within curve here) in
-        let refused : 0 < firstRefusal (curveSettings curve) = omega (arith, counted, some) in
-        let decides = settings-decide curve.member.fold curve.member.parity curve.coefficients curve.member.a curve.member.b refused in
-        let first : settings ≡ firstRefusal (curveSettings curve) =
-        sym settings-are ∙ ap (λ (l : List Curve). firstRefusal (joined (map curveSettings l))) parts
-        ∙ first-refused curveSettings curve-numbered before after curve
-        (λ one member. settings-accepted one.member.fold one.member.parity one.coefficients (pass one member).0) refused in
-        let own_is : firstRefusal own ≡ firstRefusal (ownTests curve) =
-        ap (λ (l : List Curve). firstRefusal (joined (map ownTests l))) parts
-        ∙ first-refused ownTests own-numbered before after curve
-        (λ one member. early-passed one.member.fold one.member.parity one.coefficients one.member.a one.member.b
+        let counted : first_refusal (curve_settings curve) ≡ first_refusal (member_settings_tests curve.member) =
+        ap (λ (n : ℕ). first_refusal (settings_tests curve.member.fold curve.member.parity (n - 1)))
+        (curve_length (members_in handed) c within curve here) in
+        let refused : 0 < first_refusal (curve_settings curve) = omega (arith, counted, some) in
+        let decides = settings_decide curve.member.fold curve.member.parity curve.coefficients curve.member.a curve.member.b refused in
+        let first : settings ≡ first_refusal (curve_settings curve) =
+        sym settings_are ∙ ap (λ (l : List Curve). first_refusal (joined (map curve_settings l))) parts
+        ∙ first_refused curve_settings curve_numbered before after curve
+        (λ one member. settings_accepted one.member.fold one.member.parity one.coefficients (pass one member).0) refused in
+        let own_is : first_refusal own ≡ first_refusal (own_tests curve) =
+        ap (λ (l : List Curve). first_refusal (joined (map own_tests l))) parts
+        ∙ first_refused own_tests own_numbered before after curve
+        (λ one member. early_passed one.member.fold one.member.parity one.coefficients one.member.a one.member.b
         (pass one member).0 (pass one member).1) (omega (arith, decides, refused)) in
-        let more = some-by (eqb handed.count 0 || ltb memberLimit handed.count) (not (allAlike (membersIn handed))) settings
+        let more = some_by (eqb handed.count 0 || ltb member_limit handed.count) (not (all_alike (members_in handed))) settings
         (omega (arith, first, refused)) in
-        same-refused (omega (arith, sizes-refusal handed, more)) (λ is. own_is ∙ decides ∙ sym first)
+        same_refused (omega (arith, sizes_refusal_lem handed, more)) (λ is. own_is ∙ decides ∙ sym first)
 
-pub sets-sized : SetsSized
-sets-sized handed c out bounds steps r out' bounds' steps' call =
-    let is = set-refusal-is handed c out bounds steps r out' bounds' steps' call in
+pub sets_sized : SetsSized
+sets_sized handed c out bounds steps r out' bounds' steps' call =
+    let is = set_refusal_is handed c out bounds steps r out' bounds' steps' call in
     record {
-      record-sizes = λ made.
-          let brings = set-brings handed c out bounds steps (sym is ∙ made) in
-          let right = sets-right handed c out bounds steps r out' bounds' steps' brings call in
-          ap (λ (s : SetPlanned). setSizesIn s.set) right.answer
-          ∙ record-tells (headsOf (curves handed c))
-          ∙ sizes-are handed c brings.accepted;
-      planned-if-long = λ accepted. (
-        λ made. has-sizes handed c out bounds steps accepted (sym is ∙ made),
-        λ long. is ∙ made-long handed c out bounds steps accepted long,
+      record_sizes = λ made.
+          let brings = set_brings handed c out bounds steps (sym is ∙ made) in
+          let right = sets_right handed c out bounds steps r out' bounds' steps' brings call in
+          ap (λ (s : SetPlanned). set_sizes_in s.set) right.answer
+          ∙ record_tells (heads_of (curves handed c))
+          ∙ sizes_are handed c brings.accepted;
+      planned_if_long = λ accepted. (
+        λ made. has_sizes handed c out bounds steps accepted (sym is ∙ made),
+        λ long. is ∙ made_long handed c out bounds steps accepted long,
       );
-      short-refused = λ accepted. is ∙ short-decides handed c out bounds steps accepted;
-      long-decides = λ long. is ∙ ahead-decides handed c out bounds steps long;
-      past-slice = λ past. (set-refusals-told handed c out bounds steps r out' bounds' steps' call).bad-set.1 (past-slice past);
-      refused-too = λ some. let refused = refused-by-sizes handed c out bounds steps some in omega arith;
-      same-set-refusal = λ within high. is ∙ set-refusal-same handed c out bounds steps within high;
-      same-refusal = λ within before after curve parts pass some.
-          is ∙ settings-refusal-same handed c out bounds steps within before after curve parts pass some;
+      short_refused = λ accepted. is ∙ short_decides handed c out bounds steps accepted;
+      long_decides = λ long. is ∙ ahead_decides handed c out bounds steps long;
+      past_slice = λ past. (set_refusals_told handed c out bounds steps r out' bounds' steps' call).bad_set_lem.1 (past_slice past);
+      refused_too = λ some. let refused = refused_by_sizes handed c out bounds steps some in omega arith;
+      same_set_refusal = λ within high. is ∙ set_refusal_same handed c out bounds steps within high;
+      same_refusal = λ within before after curve parts pass some.
+          is ∙ settings_refusal_same handed c out bounds steps within before after curve parts pass some;
     }
 
 -- ---- the call
 
-pub set-sizes-total : SetSizesTotal
-unfolding setSizesCall
-set-sizes-total handed =
-    let is = sizes-refusal handed in
-    ends (setSizesTests handed) (setSizesCall handed).refusal
-    (omega arith, (omega arith, joined-numbered memberSettingsTests member-numbered (membersIn handed))) is
-    (λ accepted. sym (when-accepted _ _ (sym is ∙ accepted)))
-    (λ refused. sym (when-refused (refusal handed) _ _ (omega (arith, is, refused))) ∙ ap noSizes (sym is))
+pub set_sizes_total : SetSizesTotal
+unfolding set_sizes_call
+set_sizes_total handed =
+    let is = sizes_refusal_lem handed in
+    ends (set_sizes_tests handed) (set_sizes_call handed).refusal
+    (omega arith, (omega arith, joined_numbered member_settings_tests member_numbered (members_in handed))) is
+    (λ accepted. sym (when_accepted _ _ (sym is ∙ accepted)))
+    (λ refused. sym (when_refused (refusal handed) _ _ (omega (arith, is, refused))) ∙ ap no_sizes (sym is))
 
-pub set-sizes-order : SetSizesOrder
-set-sizes-order handed = ap (λ (l : List ℕ). 35 ∷ 36 ∷ l) (joined_numbers memberSettingsTests (membersIn handed))
+pub set_sizes_order : SetSizesOrder
+set_sizes_order handed = ap (λ (l : List ℕ). 35 ∷ 36 ∷ l) (joined_numbers member_settings_tests (members_in handed))
 
 -- ---- the room
 
 -- a rising list of numbers up to a limit is no longer than it
-rising-most : (n most : ℕ) (ns : List ℕ) → Rising (n ∷ ns) → ((m : ℕ) → Memᴰ m (n ∷ ns) → m ≤ most) → n + length ns ≤ most
-rising-most n most [] rising each = let here = each n (mathlib.Core.List.Memᴰ.head refl) in omega arith
-rising-most n most (m ∷ ns) (next less rising) each =
-    let rest = rising-most m most ns rising (λ k member. each k (mathlib.Core.List.Memᴰ.tail member)) in
+rising_most : (n most : ℕ) (ns : List ℕ) → Rising (n ∷ ns) → ((m : ℕ) → Memᴰ m (n ∷ ns) → m ≤ most) → n + length ns ≤ most
+rising_most n most [] rising each = let here = each n (mathlib.Core.List.Memᴰ.head refl) in omega arith
+rising_most n most (m ∷ ns) (next less rising) each =
+    let rest = rising_most m most ns rising (λ k member. each k (mathlib.Core.List.Memᴰ.tail member)) in
     omega arith
 
-list-most : (most : ℕ) (ns : List ℕ) → Rising ns → ((m : ℕ) → Memᴰ m ns → m ≤ most) → length ns ≤ suc most
-list-most most [] rising each = omega arith
-list-most most (n ∷ ns) rising each = let size = rising-most n most ns rising each in omega arith
+list_most : (most : ℕ) (ns : List ℕ) → Rising ns → ((m : ℕ) → Memᴰ m ns → m ≤ most) → length ns ≤ suc most
+list_most most [] rising each = omega arith
+list_most most (n ∷ ns) rising each = let size = rising_most n most ns rising each in omega arith
 
 -- a total over heads
-most-over : (f : Head → ℕ) (most : ℕ) (heads : List Head) → ((head : Head) → Memᴰ head heads → f head ≤ most) → total (map f heads) ≤ most * length heads
+most_over : (f : Head → ℕ) (most : ℕ) (heads : List Head) → ((head : Head) → Memᴰ head heads → f head ≤ most) → total (map f heads) ≤ most * length heads
 unfolding total
-most-over f most [] each = omega arith
-most-over f most (head ∷ heads) each =
+most_over f most [] each = omega arith
+most_over f most (head ∷ heads) each =
     let here = each head (mathlib.Core.List.Memᴰ.head refl) in
-    let rest = most-over f most heads (λ one member. each one (mathlib.Core.List.Memᴰ.tail member)) in
+    let rest = most_over f most heads (λ one member. each one (mathlib.Core.List.Memᴰ.tail member)) in
     omega (arith, mul-suc most (length heads))
 
-powers-over : (heads : List Head) → ((head : Head) → Memᴰ head heads → HeadFits head) → length (setPowers heads) ≤ countLimit
-powers-over heads each =
-    let share = sets-share heads in
-    let size = list-most planLimit (setPowers heads) share.rising (λ m member. by m ((share.listed m).0 member)) in
+powers_over : (heads : List Head) → ((head : Head) → Memᴰ head heads → HeadFits head) → length (set_powers heads) ≤ count_limit
+powers_over heads each =
+    let share = sets_share heads in
+    let size = list_most plan_limit (set_powers heads) share.rising (λ m member. by m ((share.listed m).0 member)) in
     omega arith
   where
-    by : (m : ℕ) → NeededBySome heads m → m ≤ planLimit
-    by m (needed-by head member needed) =
+    by : (m : ℕ) → NeededBySome heads m → m ≤ plan_limit
+    by m (needed_by head member needed) =
         let range = (each head member).degrees in
-        let within = (needed-powers head.parity head.basis head.degree (ownSplit head)).within range.from m needed in
+        let within = (needed_powers head.parity head.basis head.degree (own_split head)).within range.from m needed in
         omega (arith, range.to)
 
-room_for : (heads : List Head) → length heads ≤ memberLimit → ((head : Head) → Memᴰ head heads → HeadFits head)
-    → HasSizes (setSizesOf heads) setCoefficientRoom setBoundaryRoom setStepRoom
-unfolding setSizesOf
+room_for : (heads : List Head) → length heads ≤ member_limit → ((head : Head) → Memᴰ head heads → HeadFits head)
+    → HasSizes (set_sizes_of heads) set_coefficient_room set_boundary_room set_step_room
+unfolding set_sizes_of
 room_for heads few each =
-    let coefficients = most-over (λ (head : Head). head.coefficients) 4096 heads (λ head member. (sizes-most (each head member)).coefficients) in
-    let lists = most-over (λ (head : Head). head.lists) 4096 heads (λ head member. (sizes-most (each head member)).lists) in
-    let steps = most-over (λ (head : Head). head.steps) 8192 heads (λ head member. (sizes-most (each head member)).steps) in
-    let powers = powers-over heads each in
+    let coefficients = most_over (λ (head : Head). head.coefficients) 4096 heads (λ head member. (sizes_most (each head member)).coefficients) in
+    let lists = most_over (λ (head : Head). head.lists) 4096 heads (λ head member. (sizes_most (each head member)).lists) in
+    let steps = most_over (λ (head : Head). head.steps) 8192 heads (λ head member. (sizes_most (each head member)).steps) in
+    let powers = powers_over heads each in
     record { coefficients = omega arith; boundaries = omega arith; numbers = omega arith }
 
 -- of members whose settings pass
-room_by : (handed : Members) → refusal handed ≡ 0 → HasSizes (setSizesOf (map headBy (membersIn handed))) setCoefficientRoom setBoundaryRoom setStepRoom
+room_by : (handed : Members) → refusal handed ≡ 0 → HasSizes (set_sizes_of (map head_by (members_in handed))) set_coefficient_room set_boundary_room set_step_room
 room_by handed none =
-    let members = membersIn handed in
-    let front : List Test = badCount handed.count ∷ unlikeMembers handed ∷ [] in
-    let own : List Test = joined (map memberSettingsTests members) in
-    let passed = first-passed front own (omega arith, (omega arith, tt)) none in
-    let rest : firstRefusal own ≡ 0 = sym (first-of-more front own (omega arith, (omega arith, tt)) passed) ∙ none in
-    let flags = none-holds front (omega arith, (omega arith, tt)) passed in
-    let few = ltb-false memberLimit handed.count (one-false (eqb handed.count 0) (ltb memberLimit handed.count) flags.0).1 in
-    room_for (map headBy members) (omega (arith, length-map members headBy, length-take handed.count handed.members))
+    let members = members_in handed in
+    let front : List Test = bad_count handed.count ∷ unlike_members handed ∷ [] in
+    let own : List Test = joined (map member_settings_tests members) in
+    let passed = first_passed front own (omega arith, (omega arith, tt)) none in
+    let rest : first_refusal own ≡ 0 = sym (first_of_more front own (omega arith, (omega arith, tt)) passed) ∙ none in
+    let flags = none_holds front (omega arith, (omega arith, tt)) passed in
+    let few = ltb-false member_limit handed.count (one_false (eqb handed.count 0) (ltb member_limit handed.count) flags.0).1 in
+    room_for (map head_by members) (omega (arith, length-map members head_by, length-take handed.count handed.members))
     (λ head member.
-    let found = mathlib.Core.List.Memᴰ.of_map headBy members member in
-    subst HeadFits found.2 (fits_by found.0 (each-passes memberSettingsTests member-numbered members rest found.0 found.1)))
+    let found = mathlib.Core.List.Memᴰ.of_map head_by members member in
+    subst HeadFits found.2 (fits_by found.0 (each_passes member_settings_tests member_numbered members rest found.0 found.1)))
 
-enough : (handed : Members) → HasSizes (setSizesCall handed) setCoefficientRoom setBoundaryRoom setStepRoom
-unfolding setSizesCall
+enough : (handed : Members) → HasSizes (set_sizes_call handed) set_coefficient_room set_boundary_room set_step_room
+unfolding set_sizes_call
 enough handed = by (refusal handed) refl
   where
-    by : (n : ℕ) → refusal handed ≡ n → HasSizes (setSizesCall handed) setCoefficientRoom setBoundaryRoom setStepRoom
-    by zero none = subst (λ (s : PlanSizes). HasSizes s setCoefficientRoom setBoundaryRoom setStepRoom) (when-accepted _ _ none) (room_by handed none)
-    by (suc n) more = subst (λ (s : PlanSizes). HasSizes s setCoefficientRoom setBoundaryRoom setStepRoom) (when-refused (refusal handed) _ _ (omega arith))
+    by : (n : ℕ) → refusal handed ≡ n → HasSizes (set_sizes_call handed) set_coefficient_room set_boundary_room set_step_room
+    by zero none = subst (λ (s : PlanSizes). HasSizes s set_coefficient_room set_boundary_room set_step_room) (when_accepted _ _ none) (room_by handed none)
+    by (suc n) more = subst (λ (s : PlanSizes). HasSizes s set_coefficient_room set_boundary_room set_step_room) (when_refused (refusal handed) _ _ (omega arith))
         (record { coefficients = omega arith; boundaries = omega arith; numbers = omega arith })
 
 pub set_room : SetRoom
 set_room = record {
   enough = enough;
-  never-short = λ handed c out bounds steps r out' bounds' steps' call many listed numbered.
+  never_short = λ handed c out bounds steps r out' bounds' steps' call many listed numbered.
       let room = enough handed in
-      let long : HasSizes (setSizesCall handed) (length out) (length bounds) (length steps) = record {
+      let long : HasSizes (set_sizes_call handed) (length out) (length bounds) (length steps) = record {
         coefficients = omega (arith, room.coefficients, many);
         boundaries = omega (arith, room.boundaries, listed);
         numbers = omega (arith, room.numbers, numbered);
       } in
-      (sets-sized handed c out bounds steps r out' bounds' steps' call).long-decides long;
+      (sets_sized handed c out bounds steps r out' bounds' steps' call).long_decides long;
 }

@@ -12,118 +12,118 @@ use lib.ListN.{length}
 use Rattle.algebra.specs.declared.Basis.{Basis}
 use Rattle.algebra.specs.declared.Parity.{Parity}
 use Rattle.number.specs.Interval.{Ordered}
-use Rattle.number.specs.Refusal.{Test, firstRefusal}
-use Rattle.number.specs.Tests.{degreeOf}
-use Rattle.number.proofs.Refusal.{first-kept, refusal-of, when-accepted}
+use Rattle.number.specs.Refusal.{Test, first_refusal}
+use Rattle.number.specs.Tests.{degree_of}
+use Rattle.number.proofs.Refusal.{first_kept, refusal_of, when_accepted}
 use Rattle.counts.specs.declared.choice.SplitStrategy.{SplitStrategy}
-use Rattle.plan.specs.PlanCall.{plannedParity, settingsTests, coefficientTests, inputTests, Accepted, earlyTests, bufferTests, plannedDegree}
-use Rattle.plan.specs.PlanCall.{headFor, planRefusal}
-use Rattle.plan.specs.PlanSizes.{degreeToPlan, sizesFor, sizesIn, sizesOf, HasSizes, sizesRefusal, sizesCall}
+use Rattle.plan.specs.PlanCall.{planned_parity, settings_tests, coefficient_tests, input_tests, Accepted, early_tests, buffer_tests, planned_degree}
+use Rattle.plan.specs.PlanCall.{head_for, plan_refusal}
+use Rattle.plan.specs.PlanSizes.{degree_to_plan, sizes_for, sizes_in, sizes_of, HasSizes, sizes_refusal, sizes_call}
 use Rattle.plan.specs.declared.call.Planned.{Planned}
 use Rattle.plan.specs.declared.sizes.PlanSizes.{PlanSizes}
-use Rattle.plan.proofs.PlanTests.{settings-accepted, planned-length, degree-planned, early-kept, early-accepted, early-ordered, early-most}
+use Rattle.plan.proofs.PlanTests.{settings_accepted, planned_length, degree_planned, early_kept, early_accepted, early_ordered, early_most}
 use Rattle.demands.specs.Accepts.{BringsPlan}
 use Rattle.demands.specs.Sized.{PlansSized, SizesOrder}
-use Rattle.demands.proofs.Refusals.{sizes-told, lateTests, late-refusal, plan-made, made-brings}
-use Rattle.demands.proofs.Right.{plans-right}
+use Rattle.demands.proofs.Refusals.{sizes_told, late_tests, late_refusal, plan_made_lem, made_brings}
+use Rattle.demands.proofs.Right.{plans_right}
 use Rattle.demands.proofs.Total.{refusal_is}
 
 -- the tests of three buffers against sizes
-abbrev testsOf : PlanSizes → (out : List ℤ) → (bounds steps : List ℕ) → List Test
-testsOf sizes out bounds steps = bufferTests sizes.coefficients sizes.lists sizes.steps (length out) (length bounds) (length steps)
+abbrev tests_of : PlanSizes → (out : List ℤ) → (bounds steps : List ℕ) → List Test
+tests_of sizes out bounds steps = buffer_tests sizes.coefficients sizes.lists sizes.steps (length out) (length bounds) (length steps)
 
 -- settings that are refused are refused ahead of coefficients and interval
-pub settings-decide : (folded : Bool) (parity : Parity) (c : List ℤ) (a b : Float) → 0 < firstRefusal (settingsTests folded parity (degreeOf c))
-    → firstRefusal (earlyTests folded parity c a b) ≡ firstRefusal (settingsTests folded parity (degreeOf c))
-settings-decide folded parity c a b some =
-    let input : firstRefusal (inputTests folded parity c) ≡ firstRefusal (settingsTests folded parity (degreeOf c)) =
-    first-kept (settingsTests folded parity (degreeOf c)) (coefficientTests parity c) some in
-    early-kept folded parity c a b (omega (arith, input)) ∙ input
+pub settings_decide : (folded : Bool) (parity : Parity) (c : List ℤ) (a b : Float) → 0 < first_refusal (settings_tests folded parity (degree_of c))
+    → first_refusal (early_tests folded parity c a b) ≡ first_refusal (settings_tests folded parity (degree_of c))
+settings_decide folded parity c a b some =
+    let input : first_refusal (input_tests folded parity c) ≡ first_refusal (settings_tests folded parity (degree_of c)) =
+    first_kept (settings_tests folded parity (degree_of c)) (coefficient_tests parity c) some in
+    early_kept folded parity c a b (omega (arith, input)) ∙ input
 
 module _ (strategy : SplitStrategy) (parity : Parity) (basis : Basis) (folded : Bool) (c : List ℤ) where
   abbrev sizes : PlanSizes
-  sizes = sizesCall strategy parity basis folded (degreeOf c)
+  sizes = sizes_call strategy parity basis folded (degree_of c)
 
   -- what is planned has the degree of the sizes
-  degree-same : plannedDegree strategy parity basis folded c ≡ degreeToPlan folded parity (degreeOf c)
-  degree-same = ap (λ (n : ℕ). n - 1) (planned-length folded parity basis c) ∙ degree-planned folded parity (length c)
+  degree_same : planned_degree strategy parity basis folded c ≡ degree_to_plan folded parity (degree_of c)
+  degree_same = ap (λ (n : ℕ). n - 1) (planned_length folded parity basis c) ∙ degree_planned folded parity (length c)
 
   -- so the sizes of an accepted polynomial's plan are these
-  plan-sizes : Accepted folded parity c → sizesFor strategy parity basis folded c ≡ sizes
-  unfolding sizesCall
-  plan-sizes accepted =
-      ap (sizesOf strategy (plannedParity folded parity) basis) degree-same ∙ when-accepted _ _ (settings-accepted folded parity c accepted)
+  plan_sizes : Accepted folded parity c → sizes_for strategy parity basis folded c ≡ sizes
+  unfolding sizes_call
+  plan_sizes accepted =
+      ap (sizes_of strategy (planned_parity folded parity) basis) degree_same ∙ when_accepted _ _ (settings_accepted folded parity c accepted)
 
   -- their refusal is that of the settings
-  sizes-refusal : sizes.refusal ≡ sizesRefusal folded parity (degreeOf c)
-  unfolding sizesCall sizesOf
-  sizes-refusal = refusal-of (sizesRefusal folded parity (degreeOf c)) _ _ (λ (s : PlanSizes). s.refusal) refl refl
+  sizes_refusal_lem : sizes.refusal ≡ sizes_refusal folded parity (degree_of c)
+  unfolding sizes_call sizes_of
+  sizes_refusal_lem = refusal_of (sizes_refusal folded parity (degree_of c)) _ _ (λ (s : PlanSizes). s.refusal) refl refl
 
   module _ (a b : Float) (out : List ℤ) (bounds steps : List ℕ) where
     abbrev refusal : ℕ
-    refusal = planRefusal strategy parity basis folded c a b out bounds steps
+    refusal = plan_refusal strategy parity basis folded c a b out bounds steps
 
     abbrev early : ℕ
-    early = firstRefusal (earlyTests folded parity c a b)
+    early = first_refusal (early_tests folded parity c a b)
 
     -- a plan's head tells them, and its buffers have them
-    head-tells : BringsPlan strategy parity basis folded c a b out bounds steps → sizesIn (headFor strategy parity basis folded c a b) ≡ sizes
-    head-tells brings = sizes-told strategy parity basis folded c a b ∙ plan-sizes brings.accepted
+    head_tells : BringsPlan strategy parity basis folded c a b out bounds steps → sizes_in (head_for strategy parity basis folded c a b) ≡ sizes
+    head_tells brings = sizes_told strategy parity basis folded c a b ∙ plan_sizes brings.accepted
 
-    has-sizes : BringsPlan strategy parity basis folded c a b out bounds steps → HasSizes sizes (length out) (length bounds) (length steps)
-    has-sizes brings =
-        subst (λ (s : PlanSizes). HasSizes s (length out) (length bounds) (length steps)) (plan-sizes brings.accepted) brings.long-enough
+    has_sizes : BringsPlan strategy parity basis folded c a b out bounds steps → HasSizes sizes (length out) (length bounds) (length steps)
+    has_sizes brings =
+        subst (λ (s : PlanSizes). HasSizes s (length out) (length bounds) (length steps)) (plan_sizes brings.accepted) brings.long_enough
 
-    made-long-enough : Accepted folded parity c → Ordered a b → HasSizes sizes (length out) (length bounds) (length steps) → refusal ≡ 0
-    made-long-enough accepted ordered long =
-        plan-made strategy parity basis folded c a b out bounds steps
-        (record { accepted = accepted; ordered = ordered; long-enough = rw (plan-sizes accepted) long })
+    made_long_enough : Accepted folded parity c → Ordered a b → HasSizes sizes (length out) (length bounds) (length steps) → refusal ≡ 0
+    made_long_enough accepted ordered long =
+        plan_made_lem strategy parity basis folded c a b out bounds steps
+        (record { accepted = accepted; ordered = ordered; long_enough = rw (plan_sizes accepted) long })
 
-    tests_same : Accepted folded parity c → Ordered a b → refusal ≡ firstRefusal (testsOf sizes out bounds steps)
+    tests_same : Accepted folded parity c → Ordered a b → refusal ≡ first_refusal (tests_of sizes out bounds steps)
     tests_same accepted ordered =
-        late-refusal strategy parity basis folded c a b out bounds steps accepted ordered
-        ∙ ap (λ (s : PlanSizes). firstRefusal (testsOf s out bounds steps)) (sizes-told strategy parity basis folded c a b ∙ plan-sizes accepted)
+        late_refusal strategy parity basis folded c a b out bounds steps accepted ordered
+        ∙ ap (λ (s : PlanSizes). first_refusal (tests_of s out bounds steps)) (sizes_told strategy parity basis folded c a b ∙ plan_sizes accepted)
 
     -- with buffers of these sizes polynomial and interval decide
-    early-decides : HasSizes sizes (length out) (length bounds) (length steps) → refusal ≡ early
-    unfolding planRefusal
-    early-decides long = by-early early refl
+    early_decides : HasSizes sizes (length out) (length bounds) (length steps) → refusal ≡ early
+    unfolding plan_refusal
+    early_decides long = by_early early refl
       where
-        by-early : (k : ℕ) → early ≡ k → refusal ≡ early
-        by-early zero none = made-long-enough (early-accepted folded parity c a b none) (early-ordered folded parity c a b none) long ∙ sym none
-        by-early (suc k) some = first-kept (earlyTests folded parity c a b) _ (omega arith)
+        by_early : (k : ℕ) → early ≡ k → refusal ≡ early
+        by_early zero none = made_long_enough (early_accepted folded parity c a b none) (early_ordered folded parity c a b none) long ∙ sym none
+        by_early (suc k) some = first_kept (early_tests folded parity c a b) _ (omega arith)
 
     -- where the settings are refused, they are refused first
-    settings-first : 0 < sizes.refusal → refusal ≡ sizes.refusal
-    unfolding planRefusal
-    settings-first some =
-        let kept : early ≡ sizesRefusal folded parity (degreeOf c) = settings-decide folded parity c a b (omega (arith, sizes-refusal, some)) in
-        first-kept (earlyTests folded parity c a b) (lateTests strategy parity basis folded c a b out bounds steps)
-        (omega (arith, kept, sizes-refusal, some))
+    settings_first : 0 < sizes.refusal → refusal ≡ sizes.refusal
+    unfolding plan_refusal
+    settings_first some =
+        let kept : early ≡ sizes_refusal folded parity (degree_of c) = settings_decide folded parity c a b (omega (arith, sizes_refusal_lem, some)) in
+        first_kept (early_tests folded parity c a b) (late_tests strategy parity basis folded c a b out bounds steps)
+        (omega (arith, kept, sizes_refusal_lem, some))
         ∙ kept
-        ∙ sym sizes-refusal
+        ∙ sym sizes_refusal_lem
 
-pub plans-sized : PlansSized
-plans-sized strategy parity basis folded c a b out bounds steps r out' bounds' steps' call =
+pub plans_sized : PlansSized
+plans_sized strategy parity basis folded c a b out bounds steps r out' bounds' steps' call =
     let same = refusal_is strategy parity basis folded c a b out bounds steps r out' bounds' steps' call in
     record {
-      head-sizes = λ made.
-          let brings = made-brings strategy parity basis folded c a b out bounds steps (sym same ∙ made) in
-          let right = plans-right strategy parity basis folded c a b out bounds steps r out' bounds' steps' brings call in
-          ap (λ (p : Planned). sizesIn p.head) right.answer ∙ head-tells strategy parity basis folded c a b out bounds steps brings;
-      planned-if-long = λ accepted ordered. (
-        λ made. has-sizes strategy parity basis folded c a b out bounds steps
-            (made-brings strategy parity basis folded c a b out bounds steps (sym same ∙ made)),
-        λ long. same ∙ made-long-enough strategy parity basis folded c a b out bounds steps accepted ordered long,
+      head_sizes = λ made.
+          let brings = made_brings strategy parity basis folded c a b out bounds steps (sym same ∙ made) in
+          let right = plans_right strategy parity basis folded c a b out bounds steps r out' bounds' steps' brings call in
+          ap (λ (p : Planned). sizes_in p.head) right.answer ∙ head_tells strategy parity basis folded c a b out bounds steps brings;
+      planned_if_long = λ accepted ordered. (
+        λ made. has_sizes strategy parity basis folded c a b out bounds steps
+            (made_brings strategy parity basis folded c a b out bounds steps (sym same ∙ made)),
+        λ long. same ∙ made_long_enough strategy parity basis folded c a b out bounds steps accepted ordered long,
       );
-      short-refused = λ accepted ordered. same ∙ tests_same strategy parity basis folded c a b out bounds steps accepted ordered;
-      long-decides = λ long. same ∙ early-decides strategy parity basis folded c a b out bounds steps long;
-      never-short = λ long.
-          let decides = same ∙ early-decides strategy parity basis folded c a b out bounds steps long in
-          let most = early-most folded parity c a b in
+      short_refused = λ accepted ordered. same ∙ tests_same strategy parity basis folded c a b out bounds steps accepted ordered;
+      long_decides = λ long. same ∙ early_decides strategy parity basis folded c a b out bounds steps long;
+      never_short = λ long.
+          let decides = same ∙ early_decides strategy parity basis folded c a b out bounds steps long in
+          let most = early_most folded parity c a b in
           omega arith;
-      settings-refused = λ some. same ∙ settings-first strategy parity basis folded c a b out bounds steps some;
+      settings_refused = λ some. same ∙ settings_first strategy parity basis folded c a b out bounds steps some;
     }
 
-pub sizes-order : (parity : Parity) (degree : ℕ) → SizesOrder parity degree
-sizes-order parity degree = record { unfolded = refl; with-folding = refl }
+pub sizes_order : (parity : Parity) (degree : ℕ) → SizesOrder parity degree
+sizes_order parity degree = record { unfolded = refl; with_folding = refl }

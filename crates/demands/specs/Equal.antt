@@ -30,13 +30,13 @@ use Rattle.number.specs.EvaluateLaw.{EvaluateLaw}
 use Rattle.number.specs.Exact.{num, ExactTo53}
 use Rattle.number.specs.FoldCall.{FoldCall}
 use Rattle.number.specs.FoldSame.{FoldsSame}
-use Rattle.number.specs.Numbers.{floatOps, floatNumbers}
+use Rattle.number.specs.Numbers.{float_ops, float_numbers}
 use Rattle.number.specs.declared.fold.Folded.{Folded}
 use Rattle.interpolation.specs.InterpolateLaw.{InterpolateLaw}
 use Rattle.needed.specs.Promises.{NeededPowers}
 use Rattle.counts.specs.SliceRule.{SliceRule}
 use Rattle.counts.specs.PlainCount.{AllowedCounts}
-use Rattle.counts.specs.Calls.{minDepthCall, minMultCall, depthCall}
+use Rattle.counts.specs.Calls.{min_depth_call, min_mult_call, depth_call}
 use Rattle.counts.specs.Promises.{Chosen}
 use Rattle.counts.specs.declared.choice.SplitChoice.{SplitChoice}
 use Rattle.counts.specs.declared.choice.SplitStrategy.{SplitStrategy}
@@ -47,24 +47,24 @@ use Rattle.lists.specs.ListCall.{ListCall}
 use Rattle.lists.specs.Promises.{ListsTo53, FoldedListsTo53, ListsSame, FoldedListsSame}
 use Rattle.lists.specs.declared.call.Listed.{Listed}
 use Rattle.walk.specs.declared.plan.Head.{Head}
-use Rattle.plan.specs.Reported.{transformCost}
-use Rattle.plan.specs.PlanCall.{plannedParity, Accepted, planned, headFor, coefficientsFor, boundariesFor}
+use Rattle.plan.specs.Reported.{transform_cost}
+use Rattle.plan.specs.PlanCall.{planned_parity, Accepted, planned, head_for, coefficients_for, boundaries_for}
 
 -- ---- the published rules
 
 pub record Published : Type 1 where
   -- binary digits and powers of two, by which an index is split
   pub digits : DigitsByHalving
-  pub powers-of-two : PowersOfTwo
+  pub powers_of_two : PowersOfTwo
   -- split choice: MinMult takes the smallest split with the least pair, and there is no other such split
-  pub split-choice : (parity : Parity) (basis : Basis) (degree : ℕ) → Chosen parity basis degree
+  pub split_choice : (parity : Parity) (basis : Basis) (degree : ℕ) → Chosen parity basis degree
   -- counts: the slices, their allowed powers, and the needed powers as a least set
   pub slices : (degree split : ℕ) → SliceRule degree split
   pub allowed : (degree : ℕ) → AllowedCounts degree
   pub needed : (parity : Parity) (basis : Basis) (degree split : ℕ) → NeededPowers parity basis degree split
   -- factorisation: where a polynomial is cut, that a cut keeps its value over every ring, and that the lists stand in order
   pub cuts : TreesByRule
-  pub cut-values : {A : Type 0} (𝓡 : Ring A) → CutLaw 𝓡
+  pub cut_values : {A : Type 0} (𝓡 : Ring A) → CutLaw 𝓡
   pub in_order : (A : Type 0) → ListsInOrder A
   -- a power is made of its parts
   pub products : {A : Type 0} (𝓡 : Ring A) → ProductLaw 𝓡
@@ -83,22 +83,22 @@ pub record FloatsEqual : Type 0 where
   pub cuts : CutsSame
   pub folds : FoldsSame
   pub lists : ListsSame
-  pub lists-to-53 : ListsTo53
+  pub lists_to_53 : ListsTo53
   -- of folded coefficients too, whose magnitudes may sum above 2^30
-  pub folded-lists : FoldedListsSame
-  pub folded-lists-to-53 : FoldedListsTo53
+  pub folded_lists : FoldedListsSame
+  pub folded_lists_to_53 : FoldedListsTo53
 
 -- ---- a plan and the other calls
 
 -- what is planned, on f64: with folding the f64 fold of the same coefficients
-abbrev pub plannedFloats : (folded : Bool) → Parity → Basis → List ℤ → List Float
-plannedFloats true parity basis c = fold floatOps parity basis (map num c)
-plannedFloats false parity basis c = map num c
+abbrev pub planned_floats : (folded : Bool) → Parity → Basis → List ℤ → List Float
+planned_floats true parity basis c = fold float_ops parity basis (map num c)
+planned_floats false parity basis c = map num c
 
 -- the split that the strategy's own call chooses
-abbrev pub splitCall : SplitStrategy → Parity → Basis → (degree : ℕ) → SplitChoice
-splitCall MinDepth parity basis degree = minDepthCall degree
-splitCall MinMult parity basis degree = minMultCall parity basis degree
+abbrev pub split_call : SplitStrategy → Parity → Basis → (degree : ℕ) → SplitChoice
+split_call MinDepth parity basis degree = min_depth_call degree
+split_call MinMult parity basis degree = min_mult_call parity basis degree
 
 -- an f64 list call that answers what a plan has
 pub record ListsPlan (head : Head) (coefficients : List ℤ) (boundaries : List ℕ) (out : List Float) (bounds : List ℕ) (r : Listed)
@@ -115,16 +115,16 @@ pub record FoldsPlan (head : Head) (folded : List ℤ) (out : List Float) (r : F
 
 pub record PlanEqual (strategy : SplitStrategy) (parity : Parity) (basis : Basis) (folded : Bool) (c : List ℤ) (head : Head) : Type 0 where
   -- base and depth are those of the calls on the planned degree
-  pub base : head.base ≡ 2 ^ (splitCall strategy (plannedParity folded parity) basis head.degree).split
-  pub depth : head.depth ≡ (depthCall strategy head.degree).depth + transformCost head.transform
+  pub base : head.base ≡ 2 ^ (split_call strategy (planned_parity folded parity) basis head.degree).split
+  pub depth : head.depth ≡ (depth_call strategy head.degree).depth + transform_cost head.transform
   -- the f64 fold and the f64 lists of the same coefficients, in any buffers that are long enough, are the plan's
-  pub fold-call : folded ≡ true → (out : List Float) (r : Folded) (left : List Float) → FoldCall floatNumbers parity basis (map num c) out r left
+  pub fold_call : folded ≡ true → (out : List Float) (r : Folded) (left : List Float) → FoldCall float_numbers parity basis (map num c) out r left
       → head.coefficients ≤ length out → FoldsPlan head (planned strategy parity basis folded c) out r left
-  pub list-call : (out : List Float) (bounds : List ℕ) (r : Listed) (out' : List Float) (bounds' : List ℕ)
-      → ListCall floatNumbers strategy (plannedParity folded parity) basis (plannedFloats folded parity basis c) out bounds r out' bounds'
+  pub list_call : (out : List Float) (bounds : List ℕ) (r : Listed) (out' : List Float) (bounds' : List ℕ)
+      → ListCall float_numbers strategy (planned_parity folded parity) basis (planned_floats folded parity basis c) out bounds r out' bounds'
       → head.coefficients ≤ length out → head.lists ≤ length bounds
-      → ListsPlan head (coefficientsFor strategy parity basis folded c) (boundariesFor strategy parity basis folded c) out bounds r out' bounds'
+      → ListsPlan head (coefficients_for strategy parity basis folded c) (boundaries_for strategy parity basis folded c) out bounds r out' bounds'
 
 abbrev pub PlansEqual : Type 0
 PlansEqual = (strategy : SplitStrategy) (parity : Parity) (basis : Basis) (folded : Bool) (c : List ℤ) (a b : Float) → Accepted folded parity c
-    → PlanEqual strategy parity basis folded c (headFor strategy parity basis folded c a b)
+    → PlanEqual strategy parity basis folded c (head_for strategy parity basis folded c a b)

@@ -6,9 +6,9 @@ use Rattle.algebra.specs.declared.Parity.{Parity}
 use Rattle.algebra.specs.declared.Parity.TheVariants.{Full, Even, Odd}
 
 -- 1 to 4; for Full, with which no fold is accepted, 0, the number of Identity
-abbrev pub foldNumber : Parity → Basis → ℕ
-foldNumber Full basis = 0
-foldNumber Even Monomial = 1
-foldNumber Odd Monomial = 2
-foldNumber Even Chebyshev = 3
-foldNumber Odd Chebyshev = 4
+abbrev pub fold_number : Parity → Basis → ℕ
+fold_number Full basis = 0
+fold_number Even Monomial = 1
+fold_number Odd Monomial = 2
+fold_number Even Chebyshev = 3
+fold_number Odd Chebyshev = 4

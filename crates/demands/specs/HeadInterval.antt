@@ -4,7 +4,7 @@ use Rattle.std.specs.Prelude.{◌≡◌, Bool, false, List, ◌↔◌, ℕ, Floa
 use Rattle.std.specs.Float.Ieee.{lt}
 use Rattle.algebra.specs.declared.Basis.{Basis}
 use Rattle.algebra.specs.declared.Parity.{Parity}
-use Rattle.number.specs.Interval.{changeOfBasis, Ordered}
+use Rattle.number.specs.Interval.{change_of_basis, Ordered}
 use Rattle.counts.specs.declared.choice.SplitStrategy.{SplitStrategy}
 use Rattle.walk.specs.IntervalUnread.{SameButInterval}
 use Rattle.plan.specs.PlanCall.{Accepted, PlanCall}
@@ -15,7 +15,7 @@ use Rattle.demands.specs.Accepts.{BringsPlan}
 abbrev pub IntervalsTold : Type 0
 IntervalsTold = (strategy : SplitStrategy) (parity : Parity) (basis : Basis) (folded : Bool) (c : List ℤ) (a b : Float) (out : List ℤ)
     (bounds steps : List ℕ) (r : Planned) (out' : List ℤ) (bounds' steps' : List ℕ) → BringsPlan strategy parity basis folded c a b out bounds steps
-    → PlanCall strategy parity basis folded c a b out bounds steps r out' bounds' steps' → r.head.interval ≡ changeOfBasis basis a b
+    → PlanCall strategy parity basis folded c a b out bounds steps r out' bounds' steps' → r.head.interval ≡ change_of_basis basis a b
 
 -- refusal 7 says that the polynomial is accepted and that a < b does not hold, and that is so whatever the buffers are
 abbrev pub UnorderedRefused : Type 0

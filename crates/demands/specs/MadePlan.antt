@@ -23,24 +23,24 @@ pub record MadePlan (strategy : SplitStrategy) (parity : Parity) (basis : Basis)
 
 module _ {strategy : SplitStrategy} {parity : Parity} {basis : Basis} {folded : Bool} {c : List ℤ} (plan : MadePlan strategy parity basis folded c) where
   -- what it left in the places that its head counts: the lists one after another, their boundaries, and four numbers for each step
-  abbrev pub listsIn : List ℤ
-  listsIn = take plan.answer.head.coefficients plan.out'
+  abbrev pub lists_in : List ℤ
+  lists_in = take plan.answer.head.coefficients plan.out'
 
-  abbrev pub boundariesIn : List ℕ
-  boundariesIn = take plan.answer.head.lists plan.bounds'
+  abbrev pub boundaries_in : List ℕ
+  boundaries_in = take plan.answer.head.lists plan.bounds'
 
-  abbrev pub stepsIn : List ℕ
-  stepsIn = take (4 * plan.answer.head.steps) plan.steps'
+  abbrev pub steps_in : List ℕ
+  steps_in = take (4 * plan.answer.head.steps) plan.steps'
 
 -- one that was made on this interval and in these buffers
 pub record MadeWith (strategy : SplitStrategy) (parity : Parity) (basis : Basis) (folded : Bool) (c : List ℤ) (a b : Float) (out : List ℤ)
     (bounds steps : List ℕ) : Type 0 where
   pub plan : MadePlan strategy parity basis folded c
-  pub lower-is : plan.lower ≡ a
+  pub lower_is : plan.lower ≡ a
   pub upper_is : plan.upper ≡ b
-  pub out-is : plan.out ≡ out
-  pub bounds-are : plan.bounds ≡ bounds
-  pub steps-are : plan.steps ≡ steps
+  pub out_is : plan.out ≡ out
+  pub bounds_are : plan.bounds ≡ bounds
+  pub steps_are : plan.steps ≡ steps
 
 -- what is accepted has one on every interval with its bounds in order and in all buffers that are long enough; and nothing else has one
 pub record MadeIfAccepted (strategy : SplitStrategy) (parity : Parity) (basis : Basis) (folded : Bool) (c : List ℤ) : Type 0 where

@@ -4,22 +4,22 @@
 -- wait, fewer than two wait at a combine, or the end hasn't exactly one." `unrunnable` (walk: Unrunnable) has these reasons in lists, and holds where
 -- one of them does.
 use Rattle.std.specs.Prelude.{◌≡◌, true, List, ◌↔◌, ℕ, ◌≤◌, ℤ}
-use Rattle.number.specs.Limits.{scaleLimit}
-use Rattle.walk.specs.Limits.{modulusLimit}
-use Rattle.walk.specs.Rules.{exactRules}
-use Rattle.walk.specs.Trial.{trialOf}
-use Rattle.walk.specs.Chain.{chainOf}
+use Rattle.number.specs.Limits.{scale_limit}
+use Rattle.walk.specs.Limits.{modulus_limit}
+use Rattle.walk.specs.Rules.{exact_rules}
+use Rattle.walk.specs.Trial.{trial_of}
+use Rattle.walk.specs.Chain.{chain_of}
 use Rattle.walk.specs.Unrunnable.{unrunnable}
 use Rattle.walk.specs.declared.plan.Head.{Head}
 
 -- the trial walk, of any head and buffers at any point and modulus: 24 exactly if the modulus is not refused with 11 and one of the reasons holds
 abbrev pub TrialsRefused : Type 0
 TrialsRefused = (head : Head) (coefficients : List ℤ) (bounds steps : List ℕ) (point : ℤ) (modulus : ℕ)
-    → ((trialOf head coefficients bounds steps point modulus).refusal ≡ 24)
-    ↔ ((2 ≤ modulus) × (modulus ≤ modulusLimit) × (unrunnable exactRules head coefficients bounds steps point ≡ true))
+    → ((trial_of head coefficients bounds steps point modulus).refusal ≡ 24)
+    ↔ ((2 ≤ modulus) × (modulus ≤ modulus_limit) × (unrunnable exact_rules head coefficients bounds steps point ≡ true))
 
 -- the heaviest chain, at any scales: 24 exactly if neither scale is refused with 10 and one of the reasons holds, whatever the point
 abbrev pub ChainsRefused : Type 0
 ChainsRefused = (head : Head) (coefficients : List ℤ) (bounds steps : List ℕ) (input coeff : ℕ) (point : ℤ)
-    → ((chainOf head coefficients bounds steps input coeff).refusal ≡ 24)
-    ↔ ((input ≤ scaleLimit) × (coeff ≤ scaleLimit) × (unrunnable exactRules head coefficients bounds steps point ≡ true))
+    → ((chain_of head coefficients bounds steps input coeff).refusal ≡ 24)
+    ↔ ((input ≤ scale_limit) × (coeff ≤ scale_limit) × (unrunnable exact_rules head coefficients bounds steps point ≡ true))

@@ -4,10 +4,10 @@ use mathlib.Core.List.{List, Memᴰ}
 use Rattle.number.specs.Interval.{Ordered}
 use Rattle.plan.specs.PlanCall.{Accepted}
 use Rattle.plan.specs.PlanSizes.{HasSizes}
-use Rattle.sets.specs.Members.{membersIn, Curve, handedCount}
-use Rattle.sets.specs.SetPlan.{memberLimit, headsOf}
+use Rattle.sets.specs.Members.{members_in, Curve, handed_count}
+use Rattle.sets.specs.SetPlan.{member_limit, heads_of}
 use Rattle.sets.specs.SetCall.{curves, SetAccepted}
-use Rattle.sets.specs.SetSizes.{setSizesOf}
+use Rattle.sets.specs.SetSizes.{set_sizes_of}
 use Rattle.sets.specs.declared.member.Member.{Member}
 use Rattle.sets.specs.declared.member.Members.{Members}
 
@@ -26,8 +26,8 @@ pub record GoodSet (curves : List Curve) : Type 0 where
 -- there are from 1 to 16 such curves, and their coefficients stand within the one slice
 pub record CoveredSet (handed : Members) (c : List ℤ) : Type 0 where
   pub from : 1 ≤ handed.count
-  pub to : handed.count ≤ memberLimit
-  pub within : handedCount (membersIn handed) ≤ length c
+  pub to : handed.count ≤ member_limit
+  pub within : handed_count (members_in handed) ≤ length c
   pub good : GoodSet (curves handed c)
 
 -- these sets are accepted, and no others
@@ -37,4 +37,4 @@ CoveredSetsAccepted = (handed : Members) (c : List ℤ) → SetAccepted handed c
 -- what brings the plan of a set: an accepted set, and long enough buffers, which have the sizes of the set
 pub record BringsSet (handed : Members) (c out : List ℤ) (bounds steps : List ℕ) : Type 0 where
   pub accepted : SetAccepted handed c
-  pub long-enough : HasSizes (setSizesOf (headsOf (curves handed c))) (length out) (length bounds) (length steps)
+  pub long_enough : HasSizes (set_sizes_of (heads_of (curves handed c))) (length out) (length bounds) (length steps)

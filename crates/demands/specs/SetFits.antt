@@ -3,13 +3,13 @@ use Rattle.std.specs.Prelude.{List}
 use Rattle.walk.specs.WalksHeld.{flat}
 use Rattle.walk.specs.declared.plan.Head.{Head}
 use Rattle.sets.specs.Members.{Curve}
-use Rattle.sets.specs.SetPlan.{headsOf, setSteps, setBoundaries}
+use Rattle.sets.specs.SetPlan.{heads_of, set_steps, set_boundaries}
 use Rattle.demands.specs.Fits.{Small}
 use Rattle.demands.specs.SetAccepts.{GoodSet}
 
 pub record SetFits (heads : List Head) : Type 0 where
-  pub boundaries : Small (setBoundaries heads)
-  pub numbers : Small (flat (setSteps heads))
+  pub boundaries : Small (set_boundaries heads)
+  pub numbers : Small (flat (set_steps heads))
 
 abbrev pub SetsFit : Type 0
-SetsFit = (curves : List Curve) → GoodSet curves → SetFits (headsOf curves)
+SetsFit = (curves : List Curve) → GoodSet curves → SetFits (heads_of curves)

@@ -1,21 +1,21 @@
 -- A set of one member is that member's plan: it has the same coefficients, boundaries and steps, and the same counts.
 use Rattle.std.specs.Prelude.{◌≡◌, [], ◌∷◌, ◌+◌, length}
-use Rattle.plan.specs.PlanCall.{Accepted, coefficientsFor, boundariesFor}
+use Rattle.plan.specs.PlanCall.{Accepted, coefficients_for, boundaries_for}
 use Rattle.sets.specs.Members.{Curve}
-use Rattle.sets.specs.Own.{aloneHead, memberHead}
-use Rattle.sets.specs.SetPlan.{headsOf, setCoefficients, setPowers, setSteps, setBoundaries, setCt, setPt}
-use Rattle.demands.specs.Right.{stepsFor}
+use Rattle.sets.specs.Own.{alone_head, member_head}
+use Rattle.sets.specs.SetPlan.{heads_of, set_coefficients, set_powers, set_steps, set_boundaries, set_ct, set_pt}
+use Rattle.demands.specs.Right.{steps_for}
 
 pub record OneMember (curve : Curve) : Type 0 where
-  pub coefficients : setCoefficients (curve ∷ [])
-      ≡ coefficientsFor curve.member.strategy curve.member.parity curve.member.basis curve.member.fold curve.coefficients
-  pub boundaries : setBoundaries (headsOf (curve ∷ []))
-      ≡ boundariesFor curve.member.strategy curve.member.parity curve.member.basis curve.member.fold curve.coefficients
-  pub steps : setSteps (headsOf (curve ∷ []))
-      ≡ stepsFor curve.member.strategy curve.member.parity curve.member.basis curve.member.fold curve.coefficients
-  pub ct : setCt (headsOf (curve ∷ [])) ≡ (aloneHead curve).ct
-  pub pt : setPt (headsOf (curve ∷ [])) ≡ (aloneHead curve).pt
-  pub step_count : length (setPowers (headsOf (curve ∷ []))) + (memberHead curve).steps ≡ (aloneHead curve).steps
+  pub coefficients : set_coefficients (curve ∷ [])
+      ≡ coefficients_for curve.member.strategy curve.member.parity curve.member.basis curve.member.fold curve.coefficients
+  pub boundaries : set_boundaries (heads_of (curve ∷ []))
+      ≡ boundaries_for curve.member.strategy curve.member.parity curve.member.basis curve.member.fold curve.coefficients
+  pub steps : set_steps (heads_of (curve ∷ []))
+      ≡ steps_for curve.member.strategy curve.member.parity curve.member.basis curve.member.fold curve.coefficients
+  pub ct : set_ct (heads_of (curve ∷ [])) ≡ (alone_head curve).ct
+  pub pt : set_pt (heads_of (curve ∷ [])) ≡ (alone_head curve).pt
+  pub step_count_lem : length (set_powers (heads_of (curve ∷ []))) + (member_head curve).steps ≡ (alone_head curve).steps
 
 abbrev pub OnesPlanned : Type 0
 OnesPlanned = (curve : Curve) → Accepted curve.member.fold curve.member.parity curve.coefficients → OneMember curve

@@ -7,17 +7,17 @@ use Rattle.needed.specs.Needed.{Target, NeededPower, Least}
 use Rattle.needed.specs.Promises.{Rising}
 use Rattle.lists.specs.Lists.{joined}
 use Rattle.walk.specs.declared.plan.Head.{Head}
-use Rattle.plan.specs.PlanSteps.{makeStep}
-use Rattle.sets.specs.Own.{ownSplit, ownSteps, ownBoundaries}
-use Rattle.sets.specs.SetPlan.{setPowers, setSteps, setBoundaries}
+use Rattle.plan.specs.PlanSteps.{make_step}
+use Rattle.sets.specs.Own.{own_split, own_steps, own_boundaries}
+use Rattle.sets.specs.SetPlan.{set_powers, set_steps, set_boundaries}
 
 -- one of the members with these heads needs power n
 pub data NeededBySome (heads : List Head) (n : ℕ) : Type 0 where
-  needed-by : (head : Head) → Memᴰ head heads → NeededPower head.parity head.basis head.degree (ownSplit head) n → NeededBySome heads n
+  needed_by : (head : Head) → Memᴰ head heads → NeededPower head.parity head.basis head.degree (own_split head) n → NeededBySome heads n
 
 -- it is a target of one of them
 pub data TargetOfSome (heads : List Head) (n : ℕ) : Type 0 where
-  target-of : (head : Head) → Memᴰ head heads → Target head.parity head.degree (ownSplit head) n → TargetOfSome heads n
+  target_of : (head : Head) → Memᴰ head heads → Target head.parity head.degree (own_split head) n → TargetOfSome heads n
 
 -- all have one basis
 abbrev pub OneBasis : Basis → List Head → Type 0
@@ -25,8 +25,8 @@ OneBasis basis heads = (head : Head) → Memᴰ head heads → head.basis ≡ ba
 
 pub record CommonPowers (heads : List Head) : Type 1 where
   -- the list holds the union, and nothing else; it rises, so it holds each power once, and its length is the size of the union
-  pub listed : (n : ℕ) → Memᴰ n (setPowers heads) ↔ NeededBySome heads n
-  pub rising : Rising (setPowers heads)
+  pub listed : (n : ℕ) → Memᴰ n (set_powers heads) ↔ NeededBySome heads n
+  pub rising : Rising (set_powers heads)
   -- where the members have one basis, the union is the least set that holds the targets of each and is closed under parts
   pub least : (basis : Basis) → OneBasis basis heads → Least basis (TargetOfSome heads) (NeededBySome heads)
 
@@ -35,8 +35,8 @@ SetsShare = (heads : List Head) → CommonPowers heads
 
 -- the steps are one for each power of the list, then each member's own in member order; the boundaries are each member's own in member order
 pub record SetInOrder (heads : List Head) : Type 0 where
-  pub steps : setSteps heads ≡ map makeStep (setPowers heads) ++ joined (map ownSteps heads)
-  pub boundaries : setBoundaries heads ≡ joined (map ownBoundaries heads)
+  pub steps : set_steps heads ≡ map make_step (set_powers heads) ++ joined (map own_steps heads)
+  pub boundaries : set_boundaries heads ≡ joined (map own_boundaries heads)
 
 abbrev pub SetsInOrder : Type 0
 SetsInOrder = (heads : List Head) → SetInOrder heads

@@ -3,9 +3,9 @@
 use Rattle.std.specs.Prelude.{List, map, ◌≤◌}
 use Rattle.walk.specs.declared.plan.Head.{Head}
 use Rattle.sets.specs.Members.{total, Curve}
-use Rattle.sets.specs.SetPlan.{headsOf, setCt}
+use Rattle.sets.specs.SetPlan.{heads_of, set_ct}
 use Rattle.demands.specs.SetAccepts.{GoodSet}
 
 -- a member's head has the counts of its plan alone
 abbrev pub SetsSave : Type 0
-SetsSave = (curves : List Curve) → GoodSet curves → setCt (headsOf curves) ≤ total (map (λ (head : Head). head.ct) (headsOf curves))
+SetsSave = (curves : List Curve) → GoodSet curves → set_ct (heads_of curves) ≤ total (map (λ (head : Head). head.ct) (heads_of curves))

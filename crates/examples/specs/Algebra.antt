@@ -1,12 +1,12 @@
 -- The definitions at numbers worked by hand. Each is proved by computing; `negsuc n` is -(n + 1).
 use Rattle.std.specs.Prelude.{◌≡◌, refl, [], ◌∷◌, map, pos, negsuc, ◌+ℤ◌, ◌*ℤ◌}
 use Rattle.algebra.specs.Cut.{differences, doubled, lowered, cut_at}
-use Rattle.algebra.specs.Fold.{everySecond, coeffR, fold}
-use Rattle.algebra.specs.Magnitude.{sumAbs}
-use Rattle.algebra.specs.Operations.{wholeOps}
+use Rattle.algebra.specs.Fold.{every_second, coeff_r, fold}
+use Rattle.algebra.specs.Magnitude.{sum_abs}
+use Rattle.algebra.specs.Operations.{whole_ops}
 use Rattle.algebra.specs.Power.{pow, cheb, power}
 use Rattle.algebra.specs.Remainder.{rem}
-use Rattle.algebra.specs.Transform.{input_of, outputOf}
+use Rattle.algebra.specs.Transform.{input_of, output_of}
 use Rattle.algebra.specs.Value.{sum, dot, value}
 use Rattle.algebra.specs.declared.Basis.TheVariants.{Monomial, Chebyshev}
 use Rattle.algebra.specs.declared.PolynomialInputTransform.TheVariants.{ChebyshevT2TimesInput}
@@ -15,82 +15,82 @@ use Rattle.algebra.specs.declared.Parity.TheVariants.{Even, Odd}
 -- ---- powers and values
 
 -- T_0 .. T_7 at 2 are 1, 2, 7, 26, 97, 362, 1351, 5042
-pub seventh : cheb wholeOps (pos 2) 7 ≡ pos 5042
+pub seventh : cheb whole_ops (pos 2) 7 ≡ pos 5042
 unfolding cheb
 seventh = refl
 
 -- 1 + 2·2 + 3·4 + 4·8 + 5·16 + 6·32
-pub monomial-at-2 : value wholeOps Monomial (pos 2) (map pos (1 ∷ 2 ∷ 3 ∷ 4 ∷ 5 ∷ 6 ∷ [])) ≡ pos 321
+pub monomial_at_2 : value whole_ops Monomial (pos 2) (map pos (1 ∷ 2 ∷ 3 ∷ 4 ∷ 5 ∷ 6 ∷ [])) ≡ pos 321
 unfolding dot sum pow
-monomial-at-2 = refl
+monomial_at_2 = refl
 
 -- ---- the cut of 1 + 2·T_1 + 3·T_2 + 4·T_3 at 2: (1 - 2·T_1) + T_2·(3 + 8·T_1)
 
 -- r_1 = 2 - 4, q_0 = 3 as it is, q_1 = 2·4
-pub cut-at-2 : cut_at wholeOps Chebyshev 2 (map pos (1 ∷ 2 ∷ 3 ∷ 4 ∷ [])) ≡ pos 1 ∷ negsuc 1 ∷ pos 3 ∷ pos 8 ∷ []
+pub cut_at_2 : cut_at whole_ops Chebyshev 2 (map pos (1 ∷ 2 ∷ 3 ∷ 4 ∷ [])) ≡ pos 1 ∷ negsuc 1 ∷ pos 3 ∷ pos 8 ∷ []
 unfolding cut_at lowered differences doubled
-cut-at-2 = refl
+cut_at_2 = refl
 
 -- at 5, where T_1, T_2, T_3 are 5, 49, 485: the whole
-pub whole-at-5 : value wholeOps Chebyshev (pos 5) (map pos (1 ∷ 2 ∷ 3 ∷ 4 ∷ [])) ≡ pos 2098
+pub whole_at_5 : value whole_ops Chebyshev (pos 5) (map pos (1 ∷ 2 ∷ 3 ∷ 4 ∷ [])) ≡ pos 2098
 unfolding dot sum cheb
-whole-at-5 = refl
+whole_at_5 = refl
 
 -- the parts: low is -9 and high is 43
-pub low-at-5 : value wholeOps Chebyshev (pos 5) (pos 1 ∷ negsuc 1 ∷ []) ≡ negsuc 8
+pub low_at_5 : value whole_ops Chebyshev (pos 5) (pos 1 ∷ negsuc 1 ∷ []) ≡ negsuc 8
 unfolding dot sum cheb
-low-at-5 = refl
+low_at_5 = refl
 
-pub high-at-5 : value wholeOps Chebyshev (pos 5) (pos 3 ∷ pos 8 ∷ []) ≡ pos 43
+pub high_at_5 : value whole_ops Chebyshev (pos 5) (pos 3 ∷ pos 8 ∷ []) ≡ pos 43
 unfolding dot sum cheb
-high-at-5 = refl
+high_at_5 = refl
 
 -- and together they are the whole; with q_0 doubled too, high would be 46
-pub parts-at-5 : negsuc 8 +ℤ power wholeOps Chebyshev (pos 5) 2 *ℤ pos 43 ≡ pos 2098
+pub parts_at_5 : negsuc 8 +ℤ power whole_ops Chebyshev (pos 5) 2 *ℤ pos 43 ≡ pos 2098
 unfolding cheb
-parts-at-5 = refl
+parts_at_5 = refl
 
 -- a cut that leaves high one coefficient changes nothing: q_0 is not doubled
-pub cut-at-last : cut_at wholeOps Chebyshev 2 (map pos (1 ∷ 2 ∷ 3 ∷ [])) ≡ map pos (1 ∷ 2 ∷ 3 ∷ [])
+pub cut_at_last : cut_at whole_ops Chebyshev 2 (map pos (1 ∷ 2 ∷ 3 ∷ [])) ≡ map pos (1 ∷ 2 ∷ 3 ∷ [])
 unfolding cut_at lowered differences doubled
-cut-at-last = refl
+cut_at_last = refl
 
 -- of powers a cut changes nothing
-pub cut-monomial : cut_at wholeOps Monomial 2 (map pos (1 ∷ 2 ∷ 3 ∷ 4 ∷ [])) ≡ map pos (1 ∷ 2 ∷ 3 ∷ 4 ∷ [])
+pub cut_monomial : cut_at whole_ops Monomial 2 (map pos (1 ∷ 2 ∷ 3 ∷ 4 ∷ [])) ≡ map pos (1 ∷ 2 ∷ 3 ∷ 4 ∷ [])
 unfolding cut_at
-cut-monomial = refl
+cut_monomial = refl
 
 -- ---- folds
 
 -- 1 + 3·T_2 + 5·T_4 is 1 + 3·T_1 + 5·T_2 at T_2
-pub even-fold : fold wholeOps Even Chebyshev (map pos (1 ∷ 0 ∷ 3 ∷ 0 ∷ 5 ∷ [])) ≡ map pos (1 ∷ 3 ∷ 5 ∷ [])
-unfolding fold everySecond
-even-fold = refl
+pub even_fold : fold whole_ops Even Chebyshev (map pos (1 ∷ 0 ∷ 3 ∷ 0 ∷ 5 ∷ [])) ≡ map pos (1 ∷ 3 ∷ 5 ∷ [])
+unfolding fold every_second
+even_fold = refl
 
 -- x + 2·x³ is x·(1 + 2·y) at y = x²
-pub odd-monomial-fold : fold wholeOps Odd Monomial (map pos (0 ∷ 1 ∷ 0 ∷ 2 ∷ [])) ≡ map pos (1 ∷ 2 ∷ [])
-unfolding fold everySecond
-odd-monomial-fold = refl
+pub odd_monomial_fold : fold whole_ops Odd Monomial (map pos (0 ∷ 1 ∷ 0 ∷ 2 ∷ [])) ≡ map pos (1 ∷ 2 ∷ [])
+unfolding fold every_second
+odd_monomial_fold = refl
 
 -- T_1 + 2·T_3 is x·(-1 + 4·y) at y = T_2 (the fold is in the starred table): at 3, T_2 = 17, and 3·(-1 + 4·17) = 201 = 3 + 2·99
-pub odd-chebyshev-at-3 : outputOf wholeOps ChebyshevT2TimesInput (pos 3)
-    (value wholeOps Chebyshev (input_of wholeOps ChebyshevT2TimesInput (pos 3)) (negsuc 0 ∷ pos 4 ∷ [])) ≡ pos 201
-unfolding outputOf input_of dot sum cheb
-odd-chebyshev-at-3 = refl
+pub odd_chebyshev_at_3 : output_of whole_ops ChebyshevT2TimesInput (pos 3)
+    (value whole_ops Chebyshev (input_of whole_ops ChebyshevT2TimesInput (pos 3)) (negsuc 0 ∷ pos 4 ∷ [])) ≡ pos 201
+unfolding output_of input_of dot sum cheb
+odd_chebyshev_at_3 = refl
 
 -- R_2 = 2·T_2 - 2·T_1 + 1
-pub second-R : coeffR wholeOps 2 0 ∷ coeffR wholeOps 2 1 ∷ coeffR wholeOps 2 2 ∷ coeffR wholeOps 2 3 ∷ [] ≡ pos 1 ∷ negsuc 1 ∷ pos 2 ∷ pos 0 ∷ []
-unfolding coeffR
-second-R = refl
+pub second_r : coeff_r whole_ops 2 0 ∷ coeff_r whole_ops 2 1 ∷ coeff_r whole_ops 2 2 ∷ coeff_r whole_ops 2 3 ∷ [] ≡ pos 1 ∷ negsuc 1 ∷ pos 2 ∷ pos 0 ∷ []
+unfolding coeff_r
+second_r = refl
 
 -- ---- remainders and magnitudes
 
 -- -10 = -2·7 + 4
-pub rem-negative : rem 7 (negsuc 9) ≡ 4
+pub rem_negative : rem 7 (negsuc 9) ≡ 4
 unfolding rem
-rem-negative = refl
+rem_negative = refl
 
 -- |1| + |-2| + |3| + |8|
-pub magnitudes : sumAbs (pos 1 ∷ negsuc 1 ∷ pos 3 ∷ pos 8 ∷ []) ≡ 14
-unfolding sumAbs
+pub magnitudes : sum_abs (pos 1 ∷ negsuc 1 ∷ pos 3 ∷ pos 8 ∷ []) ≡ 14
+unfolding sum_abs
 magnitudes = refl

@@ -1,27 +1,27 @@
 -- Worked examples of the other basis (request Q-11), proved by computing: rows, conversions there and back, and calls with each of their refusals.
 -- `negsuc n` is -(n + 1).
 use Rattle.std.specs.Prelude.{◌≡◌, refl, true, false, List, [], ◌∷◌, map, ℕ, ℤ, pos, negsuc, replicate}
-use Rattle.algebra.specs.Magnitude.{sumAbs}
-use Rattle.algebra.specs.Operations.{wholeOps}
+use Rattle.algebra.specs.Magnitude.{sum_abs}
+use Rattle.algebra.specs.Operations.{whole_ops}
 use Rattle.algebra.specs.Value.{sum}
 use Rattle.algebra.specs.declared.Basis.{Basis}
 use Rattle.algebra.specs.declared.Basis.TheVariants.{Monomial, Chebyshev}
-use Rattle.number.specs.Refusal.{unlessRefused}
+use Rattle.number.specs.Refusal.{unless_refused}
 use Rattle.bases.specs.Rows.{row_of}
-use Rattle.bases.specs.Convert.{wholeFrom, is_whole, newCoefficient, tabulate, converted}
-use Rattle.conversion.specs.ConvertCall.{refusalFor, convertAnswer, convertBuffer}
+use Rattle.bases.specs.Convert.{whole_from, is_whole, new_coefficient, tabulate, converted}
+use Rattle.conversion.specs.ConvertCall.{refusal_for, convert_answer, convert_buffer}
 
 -- ---- rows
 
 -- T_4 = 1 - 8x² + 8x⁴
-pub fourth : tabulate 5 (row_of wholeOps Monomial 4) ≡ pos 1 ∷ pos 0 ∷ negsuc 7 ∷ pos 0 ∷ pos 8 ∷ []
+pub fourth : tabulate 5 (row_of whole_ops Monomial 4) ≡ pos 1 ∷ pos 0 ∷ negsuc 7 ∷ pos 0 ∷ pos 8 ∷ []
 unfolding tabulate row_of
 fourth = refl
 
 -- 8x⁴ = 3·T_0 + 4·T_2 + T_4
-pub fourth-power : tabulate 5 (row_of wholeOps Chebyshev 4) ≡ map pos (3 ∷ 0 ∷ 4 ∷ 0 ∷ 1 ∷ [])
+pub fourth_power : tabulate 5 (row_of whole_ops Chebyshev 4) ≡ map pos (3 ∷ 0 ∷ 4 ∷ 0 ∷ 1 ∷ [])
 unfolding tabulate row_of
-fourth-power = refl
+fourth_power = refl
 
 -- ---- there and back
 
@@ -33,17 +33,17 @@ chebyshev = map pos (1 ∷ 2 ∷ 3 ∷ 4 ∷ [])
 abbrev monomial : List ℤ
 monomial = negsuc 1 ∷ negsuc 9 ∷ pos 6 ∷ pos 16 ∷ []
 
-pub to-powers : converted Monomial chebyshev ≡ monomial
-unfolding tabulate newCoefficient sum row_of
-to-powers = refl
+pub to_powers : converted Monomial chebyshev ≡ monomial
+unfolding tabulate new_coefficient sum row_of
+to_powers = refl
 
-pub to-chebyshev : converted Chebyshev monomial ≡ chebyshev
-unfolding tabulate newCoefficient sum row_of
-to-chebyshev = refl
+pub to_chebyshev : converted Chebyshev monomial ≡ chebyshev
+unfolding tabulate new_coefficient sum row_of
+to_chebyshev = refl
 
 -- 8x⁴ as a curve
 pub eight : converted Chebyshev (map pos (0 ∷ 0 ∷ 0 ∷ 0 ∷ 8 ∷ [])) ≡ map pos (3 ∷ 0 ∷ 4 ∷ 0 ∷ 1 ∷ [])
-unfolding tabulate newCoefficient sum row_of
+unfolding tabulate new_coefficient sum row_of
 eight = refl
 
 -- ---- fractions
@@ -52,15 +52,15 @@ eight = refl
 abbrev square : List ℤ
 square = map pos (0 ∷ 0 ∷ 1 ∷ [])
 
-abbrev two-squares : List ℤ
-two-squares = map pos (0 ∷ 0 ∷ 2 ∷ [])
+abbrev two_squares : List ℤ
+two_squares = map pos (0 ∷ 0 ∷ 2 ∷ [])
 
 pub half : is_whole Chebyshev square ≡ false
-unfolding wholeFrom
+unfolding whole_from
 half = refl
 
-pub whole : is_whole Chebyshev two-squares ≡ true
-unfolding wholeFrom
+pub whole : is_whole Chebyshev two_squares ≡ true
+unfolding whole_from
 whole = refl
 
 -- ---- calls
@@ -70,76 +70,76 @@ abbrev sevens : (room : ℕ) → List ℤ
 sevens room = replicate room (pos 7)
 
 -- the place beyond the new coefficients is unchanged
-pub two-squares-answer : convertAnswer Chebyshev two-squares (sevens 4) ≡ record { refusal = 0; count = 3 }
-unfolding convertAnswer refusalFor unlessRefused wholeFrom tabulate newCoefficient sum row_of sumAbs
-two-squares-answer = refl
+pub two_squares_answer : convert_answer Chebyshev two_squares (sevens 4) ≡ record { refusal = 0; count = 3 }
+unfolding convert_answer refusal_for unless_refused whole_from tabulate new_coefficient sum row_of sum_abs
+two_squares_answer = refl
 
-pub two-squares-buffer : convertBuffer Chebyshev two-squares (sevens 4) ≡ map pos (1 ∷ 0 ∷ 1 ∷ 7 ∷ [])
-unfolding convertBuffer refusalFor unlessRefused wholeFrom tabulate newCoefficient sum row_of sumAbs
-two-squares-buffer = refl
+pub two_squares_buffer : convert_buffer Chebyshev two_squares (sevens 4) ≡ map pos (1 ∷ 0 ∷ 1 ∷ 7 ∷ [])
+unfolding convert_buffer refusal_for unless_refused whole_from tabulate new_coefficient sum row_of sum_abs
+two_squares_buffer = refl
 
 -- there and back, in buffers that are just long enough
-pub there : convertBuffer Monomial chebyshev (sevens 4) ≡ monomial
-unfolding convertBuffer refusalFor unlessRefused wholeFrom tabulate newCoefficient sum row_of sumAbs
+pub there : convert_buffer Monomial chebyshev (sevens 4) ≡ monomial
+unfolding convert_buffer refusal_for unless_refused whole_from tabulate new_coefficient sum row_of sum_abs
 there = refl
 
-pub back : convertBuffer Chebyshev monomial (sevens 4) ≡ chebyshev
-unfolding convertBuffer refusalFor unlessRefused wholeFrom tabulate newCoefficient sum row_of sumAbs
+pub back : convert_buffer Chebyshev monomial (sevens 4) ≡ chebyshev
+unfolding convert_buffer refusal_for unless_refused whole_from tabulate new_coefficient sum row_of sum_abs
 back = refl
 
 -- a refused call counts none and writes nothing
-pub square-answer : convertAnswer Chebyshev square (sevens 4) ≡ record { refusal = 38; count = 0 }
-unfolding convertAnswer refusalFor unlessRefused wholeFrom sumAbs
-square-answer = refl
+pub square_answer : convert_answer Chebyshev square (sevens 4) ≡ record { refusal = 38; count = 0 }
+unfolding convert_answer refusal_for unless_refused whole_from sum_abs
+square_answer = refl
 
-pub square-buffer : convertBuffer Chebyshev square (sevens 4) ≡ sevens 4
-unfolding convertBuffer refusalFor unlessRefused wholeFrom sumAbs
-square-buffer = refl
+pub square_buffer : convert_buffer Chebyshev square (sevens 4) ≡ sevens 4
+unfolding convert_buffer refusal_for unless_refused whole_from sum_abs
+square_buffer = refl
 
 -- the empty curve
-pub empty : (to : Basis) → convertAnswer to [] (sevens 2) ≡ record { refusal = 0; count = 0 }
-unfolding convertAnswer refusalFor unlessRefused wholeFrom tabulate sumAbs
+pub empty : (to : Basis) → convert_answer to [] (sevens 2) ≡ record { refusal = 0; count = 0 }
+unfolding convert_answer refusal_for unless_refused whole_from tabulate sum_abs
 empty to = refl
 
-pub empty-buffer : (to : Basis) → convertBuffer to [] (sevens 2) ≡ sevens 2
-unfolding convertBuffer refusalFor unlessRefused wholeFrom tabulate sumAbs
-empty-buffer to = refl
+pub empty_buffer : (to : Basis) → convert_buffer to [] (sevens 2) ≡ sevens 2
+unfolding convert_buffer refusal_for unless_refused whole_from tabulate sum_abs
+empty_buffer to = refl
 
 -- ---- refusals, in their order
 
 -- degree 21 is refused with 37, ahead of its magnitudes, and degree 20 is not: its magnitudes are refused with 3
-pub degree-first : (to : Basis) (room : ℕ) → refusalFor to (replicate 22 (pos 1073741824)) room ≡ 37
-unfolding refusalFor
-degree-first to room = refl
+pub degree_first : (to : Basis) (room : ℕ) → refusal_for to (replicate 22 (pos 1073741824)) room ≡ 37
+unfolding refusal_for
+degree_first to room = refl
 
-pub degree-twenty : (to : Basis) (room : ℕ) → refusalFor to (replicate 21 (pos 1073741824)) room ≡ 3
-unfolding refusalFor sumAbs
-degree-twenty to room = refl
+pub degree_twenty : (to : Basis) (room : ℕ) → refusal_for to (replicate 21 (pos 1073741824)) room ≡ 3
+unfolding refusal_for sum_abs
+degree_twenty to room = refl
 
 -- (2^30 + 1)·x² is refused with 3, ahead of its fractions, and (2^30 - 1)·x² with 38
-pub input-first : (room : ℕ) → refusalFor Chebyshev (map pos (0 ∷ 0 ∷ 1073741825 ∷ [])) room ≡ 3
-unfolding refusalFor sumAbs
-input-first room = refl
+pub input_first : (room : ℕ) → refusal_for Chebyshev (map pos (0 ∷ 0 ∷ 1073741825 ∷ [])) room ≡ 3
+unfolding refusal_for sum_abs
+input_first room = refl
 
-pub fractions-next : (room : ℕ) → refusalFor Chebyshev (map pos (0 ∷ 0 ∷ 1073741823 ∷ [])) room ≡ 38
-unfolding refusalFor wholeFrom sumAbs
-fractions-next room = refl
+pub fractions_next : (room : ℕ) → refusal_for Chebyshev (map pos (0 ∷ 0 ∷ 1073741823 ∷ [])) room ≡ 38
+unfolding refusal_for whole_from sum_abs
+fractions_next room = refl
 
 -- 2^30·T_2 = 2^31·x² - 2^30 is refused with 3, ahead of the buffer
-pub output-next : (room : ℕ) → refusalFor Monomial (map pos (0 ∷ 0 ∷ 1073741824 ∷ [])) room ≡ 3
-unfolding refusalFor wholeFrom tabulate newCoefficient sum row_of sumAbs
-output-next room = refl
+pub output_next : (room : ℕ) → refusal_for Monomial (map pos (0 ∷ 0 ∷ 1073741824 ∷ [])) room ≡ 3
+unfolding refusal_for whole_from tabulate new_coefficient sum row_of sum_abs
+output_next room = refl
 
 -- z·T_2 = 2z·x² - z has magnitudes 3z: of 357,913,941 they sum to 2^30 - 1, and of one more to 2^30 + 2
-pub output-fits : refusalFor Monomial (map pos (0 ∷ 0 ∷ 357913941 ∷ [])) 3 ≡ 0
-unfolding refusalFor wholeFrom tabulate newCoefficient sum row_of sumAbs
-output-fits = refl
+pub output_fits : refusal_for Monomial (map pos (0 ∷ 0 ∷ 357913941 ∷ [])) 3 ≡ 0
+unfolding refusal_for whole_from tabulate new_coefficient sum row_of sum_abs
+output_fits = refl
 
-pub output-over : refusalFor Monomial (map pos (0 ∷ 0 ∷ 357913942 ∷ [])) 3 ≡ 3
-unfolding refusalFor wholeFrom tabulate newCoefficient sum row_of sumAbs
-output-over = refl
+pub output_over : refusal_for Monomial (map pos (0 ∷ 0 ∷ 357913942 ∷ [])) 3 ≡ 3
+unfolding refusal_for whole_from tabulate new_coefficient sum row_of sum_abs
+output_over = refl
 
 -- three coefficients in two places: 21, the last of the tests
-pub no_room : refusalFor Chebyshev two-squares 2 ≡ 21
-unfolding refusalFor wholeFrom tabulate newCoefficient sum row_of sumAbs
-no_room = refl
+pub no_room_lem : refusal_for Chebyshev two_squares 2 ≡ 21
+unfolding refusal_for whole_from tabulate new_coefficient sum row_of sum_abs
+no_room_lem = refl

@@ -7,12 +7,12 @@ use Rattle.algebra.specs.declared.PolynomialInputTransform.{PolynomialInputTrans
 use Rattle.algebra.specs.declared.PolynomialInputTransform.TheVariants.{Identity, ChebyshevT2TimesInput}
 use Rattle.counts.specs.declared.choice.SplitStrategy.TheVariants.{MinDepth}
 use Rattle.lists.specs.Lists.{joined}
-use Rattle.walk.specs.Lent.{stepsFrom}
-use Rattle.number.specs.Interval.{noInterval}
+use Rattle.walk.specs.Lent.{steps_from}
+use Rattle.number.specs.Interval.{no_interval}
 use Rattle.walk.specs.declared.plan.Head.{Head}
-use Rattle.texts.specs.Decimal.{digitsWithin, decimal, signedDecimal}
-use Rattle.texts.specs.Text.{fieldsText, lineText, listLine, refusalLine}
-use Rattle.texts.specs.PlanText.{headLine, stepLine, lines_of, partsFrom, planLines, planText}
+use Rattle.texts.specs.Decimal.{digits_within, decimal, signed_decimal}
+use Rattle.texts.specs.Text.{fields_text, line_text, list_line, refusal_line}
+use Rattle.texts.specs.PlanText.{head_line, step_line, lines_of, parts_from, plan_lines, plan_text}
 
 -- ---- numbers
 
@@ -22,34 +22,34 @@ unfolding decimal
 nought = refl
 
 pub ten : decimal 10 ≡ 49 ∷ 48 ∷ []
-unfolding decimal digitsWithin
+unfolding decimal digits_within
 ten = refl
 
-pub greatest-degree : decimal 4095 ≡ 52 ∷ 48 ∷ 57 ∷ 53 ∷ []
-unfolding decimal digitsWithin
-greatest-degree = refl
+pub greatest_degree : decimal 4095 ≡ 52 ∷ 48 ∷ 57 ∷ 53 ∷ []
+unfolding decimal digits_within
+greatest_degree = refl
 
 -- the least i64, "-9223372036854775808"
-pub least : signedDecimal (negsuc 9223372036854775807)
+pub least : signed_decimal (negsuc 9223372036854775807)
     ≡ 45 ∷ 57 ∷ 50 ∷ 50 ∷ 51 ∷ 51 ∷ 55 ∷ 50 ∷ 48 ∷ 51 ∷ 54 ∷ 56 ∷ 53 ∷ 52 ∷ 55 ∷ 55 ∷ 53 ∷ 56 ∷ 48 ∷ 56 ∷ []
-unfolding digitsWithin decimal signedDecimal
+unfolding digits_within decimal signed_decimal
 least = refl
 
 -- "L -5 0 1024"
-pub signs : listLine (negsuc 4 ∷ pos 0 ∷ pos 1024 ∷ []) ≡ 76 ∷ 9 ∷ 45 ∷ 53 ∷ 9 ∷ 48 ∷ 9 ∷ 49 ∷ 48 ∷ 50 ∷ 52 ∷ 10 ∷ []
-unfolding digitsWithin decimal signedDecimal fieldsText lineText
+pub signs : list_line (negsuc 4 ∷ pos 0 ∷ pos 1024 ∷ []) ≡ 76 ∷ 9 ∷ 45 ∷ 53 ∷ 9 ∷ 48 ∷ 9 ∷ 49 ∷ 48 ∷ 50 ∷ 52 ∷ 10 ∷ []
+unfolding digits_within decimal signed_decimal fields_text line_text
 signs = refl
 
 -- ---- a refusal: "R 12"
 
-pub twelve : refusalLine 12 ≡ 82 ∷ 9 ∷ 49 ∷ 50 ∷ 10 ∷ []
-unfolding digitsWithin decimal fieldsText lineText
+pub twelve : refusal_line 12 ≡ 82 ∷ 9 ∷ 49 ∷ 50 ∷ 10 ∷ []
+unfolding digits_within decimal fields_text line_text
 twelve = refl
 
 -- ---- the plan of nine lines of docs/RULES.md, `M F D N 1 2 3 4 5`
 
-abbrev headWith : PolynomialInputTransform → (lists steps : ℕ) → Head
-headWith transform lists steps = record {
+abbrev head_with : PolynomialInputTransform → (lists steps : ℕ) → Head
+head_with transform lists steps = record {
   basis = Monomial;
   parity = Full;
   strategy = MinDepth;
@@ -62,21 +62,21 @@ headWith transform lists steps = record {
   coefficients = 5;
   lists = lists;
   steps = steps;
-  interval = noInterval;
+  interval = no_interval;
 }
 
 -- steps 1 2 1 1, 1 3 1 2, 1 4 2 2, 2 0 0 0, 2 1 0 0, 4 4 0 0; behind them, as behind the coefficients and boundaries, anything
-abbrev nineSteps : List ℕ
-nineSteps = 1 ∷ 2 ∷ 1 ∷ 1 ∷ 1 ∷ 3 ∷ 1 ∷ 2 ∷ 1 ∷ 4 ∷ 2 ∷ 2 ∷ 2 ∷ 0 ∷ 0 ∷ 0 ∷ 2 ∷ 1 ∷ 0 ∷ 0 ∷ 4 ∷ 4 ∷ 0 ∷ 0 ∷ 1 ∷ 1 ∷ 1 ∷ 1 ∷ 7 ∷ []
+abbrev nine_steps : List ℕ
+nine_steps = 1 ∷ 2 ∷ 1 ∷ 1 ∷ 1 ∷ 3 ∷ 1 ∷ 2 ∷ 1 ∷ 4 ∷ 2 ∷ 2 ∷ 2 ∷ 0 ∷ 0 ∷ 0 ∷ 2 ∷ 1 ∷ 0 ∷ 0 ∷ 4 ∷ 4 ∷ 0 ∷ 0 ∷ 1 ∷ 1 ∷ 1 ∷ 1 ∷ 7 ∷ []
 
-abbrev nineCoefficients : List ℤ
-nineCoefficients = map pos (1 ∷ 2 ∷ 3 ∷ 4 ∷ 5 ∷ 6 ∷ 7 ∷ [])
+abbrev nine_coefficients : List ℤ
+nine_coefficients = map pos (1 ∷ 2 ∷ 3 ∷ 4 ∷ 5 ∷ 6 ∷ 7 ∷ [])
 
-abbrev nineBounds : List ℕ
-nineBounds = 4 ∷ 5 ∷ 9 ∷ []
+abbrev nine_bounds : List ℕ
+nine_bounds = 4 ∷ 5 ∷ 9 ∷ []
 
 -- "H 4 4 0 3 4 3", "L 1 2 3 4", "L 5", "P 2 1 1", "P 3 1 2", "P 4 2 2", "B 0", "B 1", "Q 4"
-pub nine : planLines (headWith Identity 2 6) nineCoefficients nineBounds nineSteps
+pub nine : plan_lines (head_with Identity 2 6) nine_coefficients nine_bounds nine_steps
     ≡ (72 ∷ 9 ∷ 52 ∷ 9 ∷ 52 ∷ 9 ∷ 48 ∷ 9 ∷ 51 ∷ 9 ∷ 52 ∷ 9 ∷ 51 ∷ 10 ∷ [])
     ∷ (76 ∷ 9 ∷ 49 ∷ 9 ∷ 50 ∷ 9 ∷ 51 ∷ 9 ∷ 52 ∷ 10 ∷ [])
     ∷ (76 ∷ 9 ∷ 53 ∷ 10 ∷ [])
@@ -87,24 +87,24 @@ pub nine : planLines (headWith Identity 2 6) nineCoefficients nineBounds nineSte
     ∷ (66 ∷ 9 ∷ 49 ∷ 10 ∷ [])
     ∷ (81 ∷ 9 ∷ 52 ∷ 10 ∷ [])
     ∷ []
-unfolding digitsWithin decimal signedDecimal fieldsText lineText stepsFrom partsFrom lines_of
+unfolding digits_within decimal signed_decimal fields_text line_text steps_from parts_from lines_of
 nine = refl
 
 -- a head that counts no list and no step: its text is one line
-pub only-head : planText (headWith Identity 0 0) nineCoefficients nineBounds nineSteps
+pub only_head : plan_text (head_with Identity 0 0) nine_coefficients nine_bounds nine_steps
     ≡ 72 ∷ 9 ∷ 52 ∷ 9 ∷ 52 ∷ 9 ∷ 48 ∷ 9 ∷ 51 ∷ 9 ∷ 52 ∷ 9 ∷ 51 ∷ 10 ∷ []
-unfolding digitsWithin decimal signedDecimal fieldsText lineText stepsFrom partsFrom lines_of joined
-only-head = refl
+unfolding digits_within decimal signed_decimal fields_text line_text steps_from parts_from lines_of joined
+only_head = refl
 
 -- ---- single lines
 
 -- "H .. 4 ..": the transform by its number
-pub folded : headLine (headWith ChebyshevT2TimesInput 2 6)
+pub folded : head_line (head_with ChebyshevT2TimesInput 2 6)
     ≡ 72 ∷ 9 ∷ 52 ∷ 9 ∷ 52 ∷ 9 ∷ 52 ∷ 9 ∷ 51 ∷ 9 ∷ 52 ∷ 9 ∷ 51 ∷ 10 ∷ []
-unfolding digitsWithin decimal fieldsText lineText
+unfolding digits_within decimal fields_text line_text
 folded = refl
 
 -- "G 64", a combine of kind 3
-pub combine : stepLine (record { kind = 3; x = 64; y = 0; z = 0 }) ≡ 71 ∷ 9 ∷ 54 ∷ 52 ∷ 10 ∷ []
-unfolding digitsWithin decimal fieldsText lineText
+pub combine : step_line (record { kind = 3; x = 64; y = 0; z = 0 }) ≡ 71 ∷ 9 ∷ 54 ∷ 52 ∷ 10 ∷ []
+unfolding digits_within decimal fields_text line_text
 combine = refl

@@ -2,5 +2,5 @@
 use Rattle.std.specs.Prelude.{ℕ}
 
 -- 11: the layouts since request Q-11, which added the conversion call and its answer; the next change of a struct or a signature makes it 12
-abbrev pub layoutNumber : ℕ
-layoutNumber = 11
+abbrev pub layout_number : ℕ
+layout_number = 11

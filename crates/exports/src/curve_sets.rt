@@ -1,6 +1,6 @@
 // The set calls.
 ghost use Rattle.std.specs.Prelude.{◌≡◌};
-ghost use Rattle.exports.specs.Sets.{SetFlat, setSizesFlat};
+ghost use Rattle.exports.specs.Sets.{SetFlat, set_sizes_flat};
 
 use firrozun::{plan_set, set_sizes};
 use flat::flat::{CSizes, flat_sizes};
@@ -26,7 +26,7 @@ pub extern "C" fn firrozun_plan_set(
 
 #[unsafe(no_mangle)]
 pub extern "C" fn firrozun_set_sizes(members: CMembers) -> CSizes
-    ensures { result ≡ setSizesFlat members }
+    ensures { result ≡ set_sizes_flat members }
 {
     if !knows_members(members) {
         return CSizes {

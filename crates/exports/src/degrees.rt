@@ -1,9 +1,9 @@
 // The calls on bare numbers: the split of an index, the choice of the split, counts, depth, bits, the largest degree for a budget and the sizes of a plan.
 ghost use Rattle.std.specs.Prelude.{◌≡◌};
-ghost use Rattle.number.specs.Split.{splitOf};
-ghost use Rattle.counts.specs.Calls.{minDepthCall};
-ghost use Rattle.flat.specs.Flat.{flatParts, flatSplit};
-ghost use Rattle.exports.specs.Degrees.{minMultFlat, countsFlat, depthFlat, bitsFlat, largestFlat, sizesFlat};
+ghost use Rattle.number.specs.Split.{split_of};
+ghost use Rattle.counts.specs.Calls.{min_depth_call};
+ghost use Rattle.flat.specs.Flat.{flat_parts, flat_split};
+ghost use Rattle.exports.specs.Degrees.{min_mult_flat, counts_flat, depth_flat, bits_flat, largest_flat, sizes_flat};
 
 use firrozun::{
     bsgs_consumed_bits, bsgs_eval_depth, bsgs_op_counts, largest_degree, min_depth_split,
@@ -19,21 +19,21 @@ use flat::kinds::{
 
 #[unsafe(no_mangle)]
 pub extern "C" fn firrozun_split_degree(n: usize) -> CParts
-    ensures { result ≡ flatParts (splitOf n) }
+    ensures { result ≡ flat_parts (split_of n) }
 {
     flat_parts(split_degree(n))
 }
 
 #[unsafe(no_mangle)]
 pub extern "C" fn firrozun_min_depth_split(degree: usize) -> CSplit
-    ensures { result ≡ flatSplit (minDepthCall degree) }
+    ensures { result ≡ flat_split (min_depth_call degree) }
 {
     flat_split(min_depth_split(degree))
 }
 
 #[unsafe(no_mangle)]
 pub extern "C" fn firrozun_min_mult_split(parity: u8, basis: u8, degree: usize) -> CSplit
-    ensures { result ≡ minMultFlat parity basis degree }
+    ensures { result ≡ min_mult_flat parity basis degree }
 {
     if !knows_pair(parity, basis) {
         return CSplit {
@@ -51,7 +51,7 @@ pub extern "C" fn firrozun_bsgs_op_counts(
     basis: u8,
     degree: usize,
 ) -> CCounts
-    ensures { result ≡ countsFlat strategy parity basis degree }
+    ensures { result ≡ counts_flat strategy parity basis degree }
 {
     if !knows_all(strategy, parity, basis) {
         return CCounts {
@@ -70,7 +70,7 @@ pub extern "C" fn firrozun_bsgs_op_counts(
 
 #[unsafe(no_mangle)]
 pub extern "C" fn firrozun_bsgs_eval_depth(strategy: u8, degree: usize) -> CDepth
-    ensures { result ≡ depthFlat strategy degree }
+    ensures { result ≡ depth_flat strategy degree }
 {
     if !is_strategy(strategy) {
         return CDepth {
@@ -88,7 +88,7 @@ pub extern "C" fn firrozun_bsgs_consumed_bits(
     input: usize,
     coeff: usize,
 ) -> CBits
-    ensures { result ≡ bitsFlat strategy degree input coeff }
+    ensures { result ≡ bits_flat strategy degree input coeff }
 {
     if !is_strategy(strategy) {
         return CBits {
@@ -106,7 +106,7 @@ pub extern "C" fn firrozun_largest_degree(
     input: usize,
     coeff: usize,
 ) -> CDegree
-    ensures { result ≡ largestFlat strategy budget input coeff }
+    ensures { result ≡ largest_flat strategy budget input coeff }
 {
     if !is_strategy(strategy) {
         return CDegree {
@@ -125,7 +125,7 @@ pub extern "C" fn firrozun_plan_sizes(
     fold: u8,
     degree: usize,
 ) -> CSizes
-    ensures { result ≡ sizesFlat strategy parity basis fold degree }
+    ensures { result ≡ sizes_flat strategy parity basis fold degree }
 {
     if !knows_settings(strategy, parity, basis, fold) {
         return CSizes {

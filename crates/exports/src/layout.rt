@@ -2,11 +2,11 @@
 // layouts does not link with this library. Raise the number with each change of a struct in the crate flat or of a call's signature in this one: here, in
 // specs/Layout, include/firrozun.h and bindings/rust/src/ffi.rs, with a line in .ci/layouts. `.ci/header` fails if one of these is left out.
 ghost use Rattle.std.specs.Prelude.{◌≡◌};
-ghost use Rattle.exports.specs.Layout.{layoutNumber};
+ghost use Rattle.exports.specs.Layout.{layout_number};
 
 #[unsafe(no_mangle)]
 pub extern "C" fn firrozun_layout_11() -> u32
-    ensures { result ≡ layoutNumber }
+    ensures { result ≡ layout_number }
 {
     11
 }

@@ -1,9 +1,9 @@
 // The list calls.
 ghost use Rattle.std.specs.Prelude.{◌≡◌};
-ghost use Rattle.number.specs.Numbers.{wholeNumbers, floatNumbers};
-ghost use Rattle.lists.specs.ListCall.{noLists};
-ghost use Rattle.flat.specs.Unknown.{unknownKind};
-ghost use Rattle.flat.specs.Flat.{flatListed};
+ghost use Rattle.number.specs.Numbers.{whole_numbers, float_numbers};
+ghost use Rattle.lists.specs.ListCall.{no_lists};
+ghost use Rattle.flat.specs.Unknown.{unknown_kind};
+ghost use Rattle.flat.specs.Flat.{flat_listed};
 ghost use Rattle.exports.specs.Listing.{ListFlat};
 
 use firrozun::{decompose_bsgs, decompose_bsgs_f64};
@@ -12,7 +12,7 @@ use flat::kinds::{basis_of, knows_all, parity_of, strategy_of};
 
 // The answer to an unknown kind.
 fn no_lists() -> CListed
-    ensures { result ≡ flatListed (noLists unknownKind) }
+    ensures { result ≡ flat_listed (no_lists unknown_kind) }
 {
     CListed {
         refusal: 43,
@@ -32,7 +32,7 @@ pub extern "C" fn firrozun_decompose_bsgs(
     out: &mut [i64],
     bounds: &mut [u16],
 ) -> CListed
-    ensures { ListFlat wholeNumbers strategy parity basis c.now out.old bounds.old
+    ensures { ListFlat whole_numbers strategy parity basis c.now out.old bounds.old
         result out.new bounds.new }
 {
     if !knows_all(strategy, parity, basis) {
@@ -57,7 +57,7 @@ pub extern "C" fn firrozun_decompose_bsgs_f64(
     out: &mut [f64],
     bounds: &mut [u16],
 ) -> CListed
-    ensures { ListFlat floatNumbers strategy parity basis c.now out.old bounds.old
+    ensures { ListFlat float_numbers strategy parity basis c.now out.old bounds.old
         result out.new bounds.new }
 {
     if !knows_all(strategy, parity, basis) {

@@ -1,6 +1,6 @@
 // The plan call, the trial walk and the heaviest chain.
 ghost use Rattle.std.specs.Prelude.{◌≡◌};
-ghost use Rattle.exports.specs.Planning.{PlanFlat, trialFlat, chainFlat};
+ghost use Rattle.exports.specs.Planning.{PlanFlat, trial_flat, chain_flat};
 
 use firrozun::{heaviest_chain, plan, trial_walk};
 use flat::flat::{CChain, CTrial, flat_chain, flat_trial};
@@ -49,7 +49,7 @@ pub extern "C" fn firrozun_trial_walk(
     point: i64,
     modulus: u64,
 ) -> CTrial
-    ensures { result ≡ trialFlat head coefficients.now bounds.now steps.now point modulus }
+    ensures { result ≡ trial_flat head coefficients.now bounds.now steps.now point modulus }
 {
     if !knows_head(head) {
         return CTrial {
@@ -69,7 +69,7 @@ pub extern "C" fn firrozun_heaviest_chain(
     input: usize,
     coeff: usize,
 ) -> CChain
-    ensures { result ≡ chainFlat head coefficients.now bounds.now steps.now input coeff }
+    ensures { result ≡ chain_flat head coefficients.now bounds.now steps.now input coeff }
 {
     if !knows_head(head) {
         return CChain {

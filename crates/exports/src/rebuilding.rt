@@ -1,8 +1,8 @@
 // The rebuild call.
 ghost use Rattle.std.specs.Prelude.{◌≡◌};
-ghost use Rattle.rebuild.specs.RebuildCall.{noRebuilt};
-ghost use Rattle.flat.specs.Unknown.{unknownKind};
-ghost use Rattle.flat.specs.Flat.{flatRebuilt};
+ghost use Rattle.rebuild.specs.RebuildCall.{no_rebuilt};
+ghost use Rattle.flat.specs.Unknown.{unknown_kind};
+ghost use Rattle.flat.specs.Flat.{flat_rebuilt};
 ghost use Rattle.exports.specs.Rebuilding.{RebuildFlat};
 
 use firrozun::rebuild;
@@ -11,7 +11,7 @@ use flat::kinds::{basis_of, knows_all, parity_of, strategy_of};
 
 // The answer to an unknown kind.
 fn no_rebuilt() -> CRebuilt
-    ensures { result ≡ flatRebuilt (noRebuilt unknownKind) }
+    ensures { result ≡ flat_rebuilt (no_rebuilt unknown_kind) }
 {
     CRebuilt {
         refusal: 43,

@@ -1,12 +1,12 @@
 // The calls on coefficients below planning: folding, conversion to the other basis, evaluation, parity detection, the change of basis and interpolation.
 ghost use Rattle.std.specs.Prelude.{◌≡◌};
-ghost use Rattle.algebra.specs.EnumNumbers.{parityNumber};
-ghost use Rattle.number.specs.Numbers.{wholeNumbers, floatNumbers};
-ghost use Rattle.number.specs.FoldCall.{noFold};
-ghost use Rattle.number.specs.Parity.{parityOf};
-ghost use Rattle.flat.specs.Unknown.{unknownKind};
-ghost use Rattle.flat.specs.Flat.{flatFolded};
-ghost use Rattle.exports.specs.Values.{FoldFlat, ConvertFlat, evaluateFlat, changeFlat, InterpolateFlat};
+ghost use Rattle.algebra.specs.EnumNumbers.{parity_number};
+ghost use Rattle.number.specs.Numbers.{whole_numbers, float_numbers};
+ghost use Rattle.number.specs.FoldCall.{no_fold};
+ghost use Rattle.number.specs.Parity.{parity_of};
+ghost use Rattle.flat.specs.Unknown.{unknown_kind};
+ghost use Rattle.flat.specs.Flat.{flat_folded};
+ghost use Rattle.exports.specs.Values.{FoldFlat, ConvertFlat, evaluate_flat, change_flat, InterpolateFlat};
 
 use firrozun::{
     change_of_basis, chebyshev_interpolate, convert_coeffs, detect_parity, detect_parity_f64,
@@ -21,7 +21,7 @@ use number::no_interval;
 
 // The answer to an unknown kind.
 fn no_fold() -> CFolded
-    ensures { result ≡ flatFolded (noFold unknownKind) }
+    ensures { result ≡ flat_folded (no_fold unknown_kind) }
 {
     CFolded {
         refusal: 43,
@@ -33,7 +33,7 @@ fn no_fold() -> CFolded
 
 #[unsafe(no_mangle)]
 pub extern "C" fn firrozun_fold_parity(parity: u8, basis: u8, c: &[i64], out: &mut [i64]) -> CFolded
-    ensures { FoldFlat wholeNumbers parity basis c.now out.old result out.new }
+    ensures { FoldFlat whole_numbers parity basis c.now out.old result out.new }
 {
     if !knows_pair(parity, basis) {
         return no_fold();
@@ -48,7 +48,7 @@ pub extern "C" fn firrozun_fold_parity_f64(
     c: &[f64],
     out: &mut [f64],
 ) -> CFolded
-    ensures { FoldFlat floatNumbers parity basis c.now out.old result out.new }
+    ensures { FoldFlat float_numbers parity basis c.now out.old result out.new }
 {
     if !knows_pair(parity, basis) {
         return no_fold();
@@ -71,7 +71,7 @@ pub extern "C" fn firrozun_convert_coeffs(to: u8, c: &[i64], out: &mut [i64]) ->
 
 #[unsafe(no_mangle)]
 pub extern "C" fn firrozun_evaluate_coeffs(basis: u8, coeffs: &[f64], x: f64) -> CValue
-    ensures { result ≡ evaluateFlat basis coeffs.now x }
+    ensures { result ≡ evaluate_flat basis coeffs.now x }
 {
     if !is_basis(basis) {
         return CValue {
@@ -87,21 +87,21 @@ pub extern "C" fn firrozun_evaluate_coeffs(basis: u8, coeffs: &[f64], x: f64) ->
 
 #[unsafe(no_mangle)]
 pub extern "C" fn firrozun_detect_parity(c: &[i64]) -> u8
-    ensures { result ≡ parityNumber (parityOf wholeNumbers c.now) }
+    ensures { result ≡ parity_number (parity_of whole_numbers c.now) }
 {
     parity_number(detect_parity(c))
 }
 
 #[unsafe(no_mangle)]
 pub extern "C" fn firrozun_detect_parity_f64(c: &[f64]) -> u8
-    ensures { result ≡ parityNumber (parityOf floatNumbers c.now) }
+    ensures { result ≡ parity_number (parity_of float_numbers c.now) }
 {
     parity_number(detect_parity_f64(c))
 }
 
 #[unsafe(no_mangle)]
 pub extern "C" fn firrozun_change_of_basis(basis: u8, a: f64, b: f64) -> CInterval
-    ensures { result ≡ changeFlat basis a b }
+    ensures { result ≡ change_flat basis a b }
 {
     if !is_basis(basis) {
         return flat_interval(43, no_interval());

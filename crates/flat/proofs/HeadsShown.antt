@@ -2,30 +2,30 @@
 use mathlib.Core.Path.{◌≡◌}
 use mathlib.Core.Bool.{true}
 use Rattle.walk.specs.declared.plan.Head.{Head}
-use Rattle.flat.specs.Kinds.{knowsPair, knowsAll}
-use Rattle.flat.specs.Heads.{knowsHead, headMeant, flatHead}
+use Rattle.flat.specs.Kinds.{knows_pair, knows_all}
+use Rattle.flat.specs.Heads.{knows_head, head_meant, flat_head}
 use Rattle.flat.specs.HeadsShown.{HeadsShown}
-use Rattle.flat.proofs.KindNumbers.{kinds-told}
+use Rattle.flat.proofs.KindNumbers.{kinds_told}
 
-shown-accepted : (h : Head) → knowsHead (flatHead h) ≡ true
-unfolding knowsHead knowsAll knowsPair
-shown-accepted h =
+shown_accepted : (h : Head) → knows_head (flat_head h) ≡ true
+unfolding knows_head knows_all knows_pair
+shown_accepted h =
     rw (
-      kinds-told.transforms.accepted h.transform,
-      kinds-told.strategies.accepted h.strategy,
-      kinds-told.parities.accepted h.parity,
-      kinds-told.bases.accepted h.basis,
+      kinds_told.transforms.accepted h.transform,
+      kinds_told.strategies.accepted h.strategy,
+      kinds_told.parities.accepted h.parity,
+      kinds_told.bases.accepted h.basis,
     )
 
-shown-same : (h : Head) → headMeant (flatHead h) ≡ h
-unfolding headMeant
-shown-same h =
+shown_same : (h : Head) → head_meant (flat_head h) ≡ h
+unfolding head_meant
+shown_same h =
     rw (
-      kinds-told.transforms.same h.transform,
-      kinds-told.strategies.same h.strategy,
-      kinds-told.parities.same h.parity,
-      kinds-told.bases.same h.basis,
+      kinds_told.transforms.same h.transform,
+      kinds_told.strategies.same h.strategy,
+      kinds_told.parities.same h.parity,
+      kinds_told.bases.same h.basis,
     )
 
-pub heads-shown : HeadsShown
-heads-shown h = record { accepted = shown-accepted h; same = shown-same h }
+pub heads_shown : HeadsShown
+heads_shown h = record { accepted = shown_accepted h; same = shown_same h }

@@ -4,120 +4,120 @@ use mathlib.Core.Bool.{Bool, true, false}
 use Prim.Native.Nat.{ℕ, zero, suc}
 use native.Mathlib.Omega.{arith}
 use borrow.Author.Tests.{ltb-true}
-use Rattle.algebra.specs.EnumNumbers.{basisNumber, parityNumber, transformNumber}
+use Rattle.algebra.specs.EnumNumbers.{basis_number, parity_number, transform_number}
 use Rattle.algebra.specs.declared.Basis.{Basis}
 use Rattle.algebra.specs.declared.Basis.TheVariants.{Monomial, Chebyshev}
 use Rattle.algebra.specs.declared.Parity.{Parity}
 use Rattle.algebra.specs.declared.Parity.TheVariants.{Full, Even, Odd}
 use Rattle.algebra.specs.declared.PolynomialInputTransform.{PolynomialInputTransform}
 use Rattle.algebra.specs.declared.PolynomialInputTransform.TheVariants.{Identity, Square, SquareTimesInput, ChebyshevT2, ChebyshevT2TimesInput}
-use Rattle.counts.specs.StrategyNumber.{strategyNumber}
+use Rattle.counts.specs.StrategyNumber.{strategy_number}
 use Rattle.counts.specs.declared.choice.SplitStrategy.{SplitStrategy}
 use Rattle.counts.specs.declared.choice.SplitStrategy.TheVariants.{MinDepth, MinMult}
-use Rattle.flat.specs.Kinds.{isBasis, isParity, isStrategy, isTransform, isFold}
-use Rattle.flat.specs.Kinds.{basisNumbered, parityNumbered, strategyNumbered, transformNumbered, foldNumbered}
-use Rattle.flat.specs.KindNumbers.{foldNumber, KindsTold}
+use Rattle.flat.specs.Kinds.{is_basis, is_parity, is_strategy, is_transform, is_fold}
+use Rattle.flat.specs.Kinds.{basis_numbered, parity_numbered, strategy_numbered, transform_numbered, fold_numbered}
+use Rattle.flat.specs.KindNumbers.{fold_number, KindsTold}
 
 -- ---- bases
 
-basis-accepted : (b : Basis) → isBasis (basisNumber b) ≡ true
-basis-accepted Monomial = refl
-basis-accepted Chebyshev = refl
+basis_accepted : (b : Basis) → is_basis (basis_number b) ≡ true
+basis_accepted Monomial = refl
+basis_accepted Chebyshev = refl
 
-basis-same : (b : Basis) → basisNumbered (basisNumber b) ≡ b
-unfolding basisNumbered
-basis-same Monomial = refl
-basis-same Chebyshev = refl
+basis_same : (b : Basis) → basis_numbered (basis_number b) ≡ b
+unfolding basis_numbered
+basis_same Monomial = refl
+basis_same Chebyshev = refl
 
-basis-back : (n : ℕ) → isBasis n ≡ true → basisNumber (basisNumbered n) ≡ n
-unfolding basisNumbered
-basis-back zero known = refl
-basis-back (suc zero) known = refl
-basis-back (suc (suc n)) known = absurd (omega (arith, ltb-true (suc (suc n)) 2 known))
+basis_back : (n : ℕ) → is_basis n ≡ true → basis_number (basis_numbered n) ≡ n
+unfolding basis_numbered
+basis_back zero known = refl
+basis_back (suc zero) known = refl
+basis_back (suc (suc n)) known = absurd (omega (arith, ltb-true (suc (suc n)) 2 known))
 
 -- ---- parities
 
-parity-accepted : (p : Parity) → isParity (parityNumber p) ≡ true
-parity-accepted Full = refl
-parity-accepted Even = refl
-parity-accepted Odd = refl
+parity_accepted : (p : Parity) → is_parity (parity_number p) ≡ true
+parity_accepted Full = refl
+parity_accepted Even = refl
+parity_accepted Odd = refl
 
-parity-same : (p : Parity) → parityNumbered (parityNumber p) ≡ p
-unfolding parityNumbered
-parity-same Full = refl
-parity-same Even = refl
-parity-same Odd = refl
+parity_same : (p : Parity) → parity_numbered (parity_number p) ≡ p
+unfolding parity_numbered
+parity_same Full = refl
+parity_same Even = refl
+parity_same Odd = refl
 
-parity-back : (n : ℕ) → isParity n ≡ true → parityNumber (parityNumbered n) ≡ n
-unfolding parityNumbered
-parity-back zero known = refl
-parity-back (suc zero) known = refl
-parity-back (suc (suc zero)) known = refl
-parity-back (suc (suc (suc n))) known = absurd (omega (arith, ltb-true (suc (suc (suc n))) 3 known))
+parity_back : (n : ℕ) → is_parity n ≡ true → parity_number (parity_numbered n) ≡ n
+unfolding parity_numbered
+parity_back zero known = refl
+parity_back (suc zero) known = refl
+parity_back (suc (suc zero)) known = refl
+parity_back (suc (suc (suc n))) known = absurd (omega (arith, ltb-true (suc (suc (suc n))) 3 known))
 
 -- ---- strategies
 
-strategy-accepted : (s : SplitStrategy) → isStrategy (strategyNumber s) ≡ true
-strategy-accepted MinDepth = refl
-strategy-accepted MinMult = refl
+strategy_accepted : (s : SplitStrategy) → is_strategy (strategy_number s) ≡ true
+strategy_accepted MinDepth = refl
+strategy_accepted MinMult = refl
 
-strategy-same : (s : SplitStrategy) → strategyNumbered (strategyNumber s) ≡ s
-unfolding strategyNumbered
-strategy-same MinDepth = refl
-strategy-same MinMult = refl
+strategy_same : (s : SplitStrategy) → strategy_numbered (strategy_number s) ≡ s
+unfolding strategy_numbered
+strategy_same MinDepth = refl
+strategy_same MinMult = refl
 
-strategy-back : (n : ℕ) → isStrategy n ≡ true → strategyNumber (strategyNumbered n) ≡ n
-unfolding strategyNumbered
-strategy-back zero known = refl
-strategy-back (suc zero) known = refl
-strategy-back (suc (suc n)) known = absurd (omega (arith, ltb-true (suc (suc n)) 2 known))
+strategy_back : (n : ℕ) → is_strategy n ≡ true → strategy_number (strategy_numbered n) ≡ n
+unfolding strategy_numbered
+strategy_back zero known = refl
+strategy_back (suc zero) known = refl
+strategy_back (suc (suc n)) known = absurd (omega (arith, ltb-true (suc (suc n)) 2 known))
 
 -- ---- transforms
 
-transform-accepted : (t : PolynomialInputTransform) → isTransform (transformNumber t) ≡ true
-transform-accepted Identity = refl
-transform-accepted Square = refl
-transform-accepted SquareTimesInput = refl
-transform-accepted ChebyshevT2 = refl
-transform-accepted ChebyshevT2TimesInput = refl
+transform_accepted : (t : PolynomialInputTransform) → is_transform (transform_number t) ≡ true
+transform_accepted Identity = refl
+transform_accepted Square = refl
+transform_accepted SquareTimesInput = refl
+transform_accepted ChebyshevT2 = refl
+transform_accepted ChebyshevT2TimesInput = refl
 
-transform-same : (t : PolynomialInputTransform) → transformNumbered (transformNumber t) ≡ t
-unfolding transformNumbered
-transform-same Identity = refl
-transform-same Square = refl
-transform-same SquareTimesInput = refl
-transform-same ChebyshevT2 = refl
-transform-same ChebyshevT2TimesInput = refl
+transform_same : (t : PolynomialInputTransform) → transform_numbered (transform_number t) ≡ t
+unfolding transform_numbered
+transform_same Identity = refl
+transform_same Square = refl
+transform_same SquareTimesInput = refl
+transform_same ChebyshevT2 = refl
+transform_same ChebyshevT2TimesInput = refl
 
-transform-back : (n : ℕ) → isTransform n ≡ true → transformNumber (transformNumbered n) ≡ n
-unfolding transformNumbered
-transform-back zero known = refl
-transform-back (suc zero) known = refl
-transform-back (suc (suc zero)) known = refl
-transform-back (suc (suc (suc zero))) known = refl
-transform-back (suc (suc (suc (suc zero)))) known = refl
-transform-back (suc (suc (suc (suc (suc n))))) known = absurd (omega (arith, ltb-true (suc (suc (suc (suc (suc n))))) 5 known))
+transform_back : (n : ℕ) → is_transform n ≡ true → transform_number (transform_numbered n) ≡ n
+unfolding transform_numbered
+transform_back zero known = refl
+transform_back (suc zero) known = refl
+transform_back (suc (suc zero)) known = refl
+transform_back (suc (suc (suc zero))) known = refl
+transform_back (suc (suc (suc (suc zero)))) known = refl
+transform_back (suc (suc (suc (suc (suc n))))) known = absurd (omega (arith, ltb-true (suc (suc (suc (suc (suc n))))) 5 known))
 
 -- ---- folds
 
-fold-accepted : (f : Bool) → isFold (foldNumber f) ≡ true
-fold-accepted true = refl
-fold-accepted false = refl
+fold_accepted : (f : Bool) → is_fold (fold_number f) ≡ true
+fold_accepted true = refl
+fold_accepted false = refl
 
-fold_same : (f : Bool) → foldNumbered (foldNumber f) ≡ f
+fold_same : (f : Bool) → fold_numbered (fold_number f) ≡ f
 fold_same true = refl
 fold_same false = refl
 
-fold-back : (n : ℕ) → isFold n ≡ true → foldNumber (foldNumbered n) ≡ n
-fold-back zero known = refl
-fold-back (suc zero) known = refl
-fold-back (suc (suc n)) known = absurd (omega (arith, ltb-true (suc (suc n)) 2 known))
+fold_back : (n : ℕ) → is_fold n ≡ true → fold_number (fold_numbered n) ≡ n
+fold_back zero known = refl
+fold_back (suc zero) known = refl
+fold_back (suc (suc n)) known = absurd (omega (arith, ltb-true (suc (suc n)) 2 known))
 
-pub kinds-told : KindsTold
-kinds-told = record {
-  bases = record { accepted = basis-accepted; same = basis-same; back = basis-back };
-  parities = record { accepted = parity-accepted; same = parity-same; back = parity-back };
-  strategies = record { accepted = strategy-accepted; same = strategy-same; back = strategy-back };
-  transforms = record { accepted = transform-accepted; same = transform-same; back = transform-back };
-  folds = record { accepted = fold-accepted; same = fold_same; back = fold-back };
+pub kinds_told : KindsTold
+kinds_told = record {
+  bases = record { accepted = basis_accepted; same = basis_same; back = basis_back };
+  parities = record { accepted = parity_accepted; same = parity_same; back = parity_back };
+  strategies = record { accepted = strategy_accepted; same = strategy_same; back = strategy_back };
+  transforms = record { accepted = transform_accepted; same = transform_same; back = transform_back };
+  folds = record { accepted = fold_accepted; same = fold_same; back = fold_back };
 }

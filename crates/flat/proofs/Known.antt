@@ -5,7 +5,7 @@ use borrow.Author.Tests.{not-true, not-false}
 use Rattle.algebra.specs.declared.Basis.{Basis}
 use Rattle.algebra.specs.declared.Parity.{Parity}
 use Rattle.counts.specs.declared.choice.SplitStrategy.{SplitStrategy}
-use Rattle.flat.specs.Unknown.{whenKnown}
+use Rattle.flat.specs.Unknown.{when_known}
 
 pub unknown : {k knows : Bool} → not k ≡ true → k ≡ knows → knows ≡ false
 unknown {k} {knows} test same = sym same ∙ not-true k test
@@ -14,12 +14,12 @@ pub known : {k knows : Bool} → not k ≡ false → k ≡ knows → knows ≡ t
 known {k} {knows} test same = sym same ∙ not-false k test
 
 -- with known kinds it is what is accepted
-pub when-known : {X : Type 0} {knows : Bool} (accepted refused : X) → knows ≡ true → accepted ≡ whenKnown knows accepted refused
-unfolding whenKnown
-when-known accepted refused sure = rw sure
+pub when_known_lem : {X : Type 0} {knows : Bool} (accepted refused : X) → knows ≡ true → accepted ≡ when_known knows accepted refused
+unfolding when_known
+when_known_lem accepted refused sure = rw sure
 
 -- a definition says the same of settings that are the same
-pub same-settings : {X : Type 0} (of : SplitStrategy → Parity → Basis → Bool → X) {strategy strategy' : SplitStrategy} {parity parity' : Parity}
+pub same_settings : {X : Type 0} (of : SplitStrategy → Parity → Basis → Bool → X) {strategy strategy' : SplitStrategy} {parity parity' : Parity}
     {basis basis' : Basis} {fold fold' : Bool} → strategy ≡ strategy' → parity ≡ parity' → basis ≡ basis' → fold ≡ fold'
     → of strategy parity basis fold ≡ of strategy' parity' basis' fold'
-same-settings of strategies parities bases folds = rw (strategies, parities, bases, folds)
+same_settings of strategies parities bases folds = rw (strategies, parities, bases, folds)

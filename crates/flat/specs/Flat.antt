@@ -1,6 +1,6 @@
 -- Answers as structs of numbers: field by field, a kind by its number.
 use Rattle.std.specs.Prelude.{ℕ}
-use Rattle.algebra.specs.EnumNumbers.{parityNumber, transformNumber}
+use Rattle.algebra.specs.EnumNumbers.{parity_number, transform_number}
 use Rattle.number.specs.declared.split.Parts.{Parts}
 use Rattle.number.specs.declared.fold.Folded.{Folded}
 use Rattle.number.specs.declared.interval.Interval.{Interval}
@@ -32,55 +32,55 @@ use Rattle.flat.specs.declared.flat.CSizes.{CSizes}
 use Rattle.flat.specs.declared.flat.CTrial.{CTrial}
 use Rattle.flat.specs.declared.flat.CChain.{CChain}
 
-abbrev pub flatParts : Parts → CParts
-flatParts r = record { refusal = r.refusal; a = r.a; b = r.b; distance = r.distance }
+abbrev pub flat_parts : Parts → CParts
+flat_parts r = record { refusal = r.refusal; a = r.a; b = r.b; distance = r.distance }
 
-abbrev pub flatSplit : SplitChoice → CSplit
-flatSplit r = record { refusal = r.refusal; split = r.split }
+abbrev pub flat_split : SplitChoice → CSplit
+flat_split r = record { refusal = r.refusal; split = r.split }
 
-abbrev pub flatCounts : OpCounts → CCounts
-flatCounts r = record { refusal = r.refusal; ct = r.ct; pt = r.pt }
+abbrev pub flat_counts : OpCounts → CCounts
+flat_counts r = record { refusal = r.refusal; ct = r.ct; pt = r.pt }
 
-abbrev pub flatDepth : EvalDepth → CDepth
-flatDepth r = record { refusal = r.refusal; depth = r.depth }
+abbrev pub flat_depth : EvalDepth → CDepth
+flat_depth r = record { refusal = r.refusal; depth = r.depth }
 
-abbrev pub flatBits : ConsumedBits → CBits
-flatBits r = record { refusal = r.refusal; bits = r.bits }
+abbrev pub flat_bits : ConsumedBits → CBits
+flat_bits r = record { refusal = r.refusal; bits = r.bits }
 
-abbrev pub flatDegree : LargestDegree → CDegree
-flatDegree r = record { refusal = r.refusal; degree = r.degree }
+abbrev pub flat_degree : LargestDegree → CDegree
+flat_degree r = record { refusal = r.refusal; degree = r.degree }
 
-abbrev pub flatFolded : Folded → CFolded
-flatFolded r = record { refusal = r.refusal; transform = transformNumber r.transform; parity = parityNumber r.parity; count = r.count }
+abbrev pub flat_folded : Folded → CFolded
+flat_folded r = record { refusal = r.refusal; transform = transform_number r.transform; parity = parity_number r.parity; count = r.count }
 
-abbrev pub flatConverted : Converted → CConverted
-flatConverted r = record { refusal = r.refusal; count = r.count }
+abbrev pub flat_converted : Converted → CConverted
+flat_converted r = record { refusal = r.refusal; count = r.count }
 
-abbrev pub flatInterval : (refusal : ℕ) → Interval → CInterval
-flatInterval refusal r = record { refusal = refusal; a = r.a; b = r.b; u = r.u; w = r.w }
+abbrev pub flat_interval : (refusal : ℕ) → Interval → CInterval
+flat_interval refusal r = record { refusal = refusal; a = r.a; b = r.b; u = r.u; w = r.w }
 
-abbrev pub flatInterpolated : Interpolated → CInterpolated
-flatInterpolated r = record {
+abbrev pub flat_interpolated : Interpolated → CInterpolated
+flat_interpolated r = record {
   refusal = r.refusal;
   count = r.count;
-  parity = parityNumber r.parity;
+  parity = parity_number r.parity;
   a = r.interval.a;
   b = r.interval.b;
   u = r.interval.u;
   w = r.interval.w;
 }
 
-abbrev pub flatListed : Listed → CListed
-flatListed r = record { refusal = r.refusal; degree = r.degree; base = r.base; coefficients = r.coefficients; lists = r.lists }
+abbrev pub flat_listed : Listed → CListed
+flat_listed r = record { refusal = r.refusal; degree = r.degree; base = r.base; coefficients = r.coefficients; lists = r.lists }
 
-abbrev pub flatRebuilt : Rebuilt → CRebuilt
-flatRebuilt r = record { refusal = r.refusal; coefficients = r.coefficients }
+abbrev pub flat_rebuilt : Rebuilt → CRebuilt
+flat_rebuilt r = record { refusal = r.refusal; coefficients = r.coefficients }
 
-abbrev pub flatSizes : PlanSizes → CSizes
-flatSizes r = record { refusal = r.refusal; coefficients = r.coefficients; lists = r.lists; steps = r.steps }
+abbrev pub flat_sizes : PlanSizes → CSizes
+flat_sizes r = record { refusal = r.refusal; coefficients = r.coefficients; lists = r.lists; steps = r.steps }
 
-abbrev pub flatTrial : Trial → CTrial
-flatTrial r = record { refusal = r.refusal; remainder = r.remainder }
+abbrev pub flat_trial : Trial → CTrial
+flat_trial r = record { refusal = r.refusal; remainder = r.remainder }
 
-abbrev pub flatChain : Chain → CChain
-flatChain r = record { refusal = r.refusal; weight = r.weight }
+abbrev pub flat_chain : Chain → CChain
+flat_chain r = record { refusal = r.refusal; weight = r.weight }

@@ -2,11 +2,11 @@
 -- was meant.
 use Rattle.std.specs.Prelude.{◌≡◌, true}
 use Rattle.walk.specs.declared.plan.Head.{Head}
-use Rattle.flat.specs.Heads.{flatHead, headMeant, knowsHead}
+use Rattle.flat.specs.Heads.{flat_head, head_meant, knows_head}
 
 pub record Shown (h : Head) : Type 0 where
-  pub accepted : knowsHead (flatHead h) ≡ true
-  pub same : headMeant (flatHead h) ≡ h
+  pub accepted : knows_head (flat_head h) ≡ true
+  pub same : head_meant (flat_head h) ≡ h
 
 abbrev pub HeadsShown : Type 0
 HeadsShown = (h : Head) → Shown h

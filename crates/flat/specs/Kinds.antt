@@ -10,46 +10,46 @@ use Rattle.algebra.specs.declared.PolynomialInputTransform.TheVariants.{Identity
 use Rattle.counts.specs.declared.choice.SplitStrategy.{SplitStrategy}
 use Rattle.counts.specs.declared.choice.SplitStrategy.TheVariants.{MinDepth, MinMult}
 
-abbrev pub isBasis : ℕ → Bool
-isBasis n = ltb n 2
+abbrev pub is_basis : ℕ → Bool
+is_basis n = ltb n 2
 
-unfoldable pub basisNumbered : ℕ → Basis
-basisNumbered n = cond (eqb n 0) Monomial Chebyshev
+unfoldable pub basis_numbered : ℕ → Basis
+basis_numbered n = cond (eqb n 0) Monomial Chebyshev
 
-abbrev pub isParity : ℕ → Bool
-isParity n = ltb n 3
+abbrev pub is_parity : ℕ → Bool
+is_parity n = ltb n 3
 
-unfoldable pub parityNumbered : ℕ → Parity
-parityNumbered n = cond (eqb n 0) Full (cond (eqb n 1) Even Odd)
+unfoldable pub parity_numbered : ℕ → Parity
+parity_numbered n = cond (eqb n 0) Full (cond (eqb n 1) Even Odd)
 
-abbrev pub isStrategy : ℕ → Bool
-isStrategy n = ltb n 2
+abbrev pub is_strategy : ℕ → Bool
+is_strategy n = ltb n 2
 
-unfoldable pub strategyNumbered : ℕ → SplitStrategy
-strategyNumbered n = cond (eqb n 0) MinDepth MinMult
+unfoldable pub strategy_numbered : ℕ → SplitStrategy
+strategy_numbered n = cond (eqb n 0) MinDepth MinMult
 
-abbrev pub isTransform : ℕ → Bool
-isTransform n = ltb n 5
+abbrev pub is_transform : ℕ → Bool
+is_transform n = ltb n 5
 
-unfoldable pub transformNumbered : ℕ → PolynomialInputTransform
-transformNumbered n =
+unfoldable pub transform_numbered : ℕ → PolynomialInputTransform
+transform_numbered n =
     cond (eqb n 0) Identity (cond (eqb n 1) Square (cond (eqb n 2) SquareTimesInput (cond (eqb n 3) ChebyshevT2 ChebyshevT2TimesInput)))
 
 -- without folding 0, with it 1
-abbrev pub isFold : ℕ → Bool
-isFold n = ltb n 2
+abbrev pub is_fold : ℕ → Bool
+is_fold n = ltb n 2
 
-abbrev pub foldNumbered : ℕ → Bool
-foldNumbered n = eqb n 1
+abbrev pub fold_numbered : ℕ → Bool
+fold_numbered n = eqb n 1
 
 -- ---- whether a call knows all its kinds
 
-unfoldable pub knowsPair : (parity basis : ℕ) → Bool
-knowsPair parity basis = isParity parity && isBasis basis
+unfoldable pub knows_pair : (parity basis : ℕ) → Bool
+knows_pair parity basis = is_parity parity && is_basis basis
 
-unfoldable pub knowsAll : (strategy parity basis : ℕ) → Bool
-knowsAll strategy parity basis = isStrategy strategy && knowsPair parity basis
+unfoldable pub knows_all : (strategy parity basis : ℕ) → Bool
+knows_all strategy parity basis = is_strategy strategy && knows_pair parity basis
 
 -- with folding or without
-unfoldable pub knowsSettings : (strategy parity basis fold : ℕ) → Bool
-knowsSettings strategy parity basis fold = isFold fold && knowsAll strategy parity basis
+unfoldable pub knows_settings : (strategy parity basis fold : ℕ) → Bool
+knows_settings strategy parity basis fold = is_fold fold && knows_all strategy parity basis

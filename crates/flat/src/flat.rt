@@ -1,7 +1,7 @@
 // Answers as structs of numbers, for C.
 ghost use Rattle.std.specs.Prelude.{◌≡◌};
-ghost use Rattle.flat.specs.Flat.{flatParts, flatSplit, flatCounts, flatDepth, flatBits, flatDegree, flatFolded, flatConverted, flatInterval};
-ghost use Rattle.flat.specs.Flat.{flatInterpolated, flatListed, flatRebuilt, flatSizes, flatTrial, flatChain};
+ghost use Rattle.flat.specs.Flat.{flat_parts, flat_split, flat_counts, flat_depth, flat_bits, flat_degree, flat_folded, flat_converted, flat_interval};
+ghost use Rattle.flat.specs.Flat.{flat_interpolated, flat_listed, flat_rebuilt, flat_sizes, flat_trial, flat_chain};
 
 use firrozun::{
     Chain, ConsumedBits, Converted, EvalDepth, Folded, Interpolated, Interval, LargestDegree,
@@ -142,7 +142,7 @@ pub struct CChain {
 }
 
 pub fn flat_parts(parts: Parts) -> CParts
-    ensures { result ≡ flatParts parts }
+    ensures { result ≡ flat_parts parts }
 {
     CParts {
         refusal: parts.refusal,
@@ -153,7 +153,7 @@ pub fn flat_parts(parts: Parts) -> CParts
 }
 
 pub fn flat_split(choice: SplitChoice) -> CSplit
-    ensures { result ≡ flatSplit choice }
+    ensures { result ≡ flat_split choice }
 {
     CSplit {
         refusal: choice.refusal,
@@ -162,7 +162,7 @@ pub fn flat_split(choice: SplitChoice) -> CSplit
 }
 
 pub fn flat_counts(counts: OpCounts) -> CCounts
-    ensures { result ≡ flatCounts counts }
+    ensures { result ≡ flat_counts counts }
 {
     CCounts {
         refusal: counts.refusal,
@@ -172,7 +172,7 @@ pub fn flat_counts(counts: OpCounts) -> CCounts
 }
 
 pub fn flat_depth(answer: EvalDepth) -> CDepth
-    ensures { result ≡ flatDepth answer }
+    ensures { result ≡ flat_depth answer }
 {
     CDepth {
         refusal: answer.refusal,
@@ -181,7 +181,7 @@ pub fn flat_depth(answer: EvalDepth) -> CDepth
 }
 
 pub fn flat_bits(answer: ConsumedBits) -> CBits
-    ensures { result ≡ flatBits answer }
+    ensures { result ≡ flat_bits answer }
 {
     CBits {
         refusal: answer.refusal,
@@ -190,7 +190,7 @@ pub fn flat_bits(answer: ConsumedBits) -> CBits
 }
 
 pub fn flat_degree(answer: LargestDegree) -> CDegree
-    ensures { result ≡ flatDegree answer }
+    ensures { result ≡ flat_degree answer }
 {
     CDegree {
         refusal: answer.refusal,
@@ -199,7 +199,7 @@ pub fn flat_degree(answer: LargestDegree) -> CDegree
 }
 
 pub fn flat_folded(answer: Folded) -> CFolded
-    ensures { result ≡ flatFolded answer }
+    ensures { result ≡ flat_folded answer }
 {
     let transform = answer.transform;
     let parity = answer.parity;
@@ -212,7 +212,7 @@ pub fn flat_folded(answer: Folded) -> CFolded
 }
 
 pub fn flat_converted(answer: Converted) -> CConverted
-    ensures { result ≡ flatConverted answer }
+    ensures { result ≡ flat_converted answer }
 {
     CConverted {
         refusal: answer.refusal,
@@ -221,7 +221,7 @@ pub fn flat_converted(answer: Converted) -> CConverted
 }
 
 pub fn flat_interval(refusal: u8, interval: Interval) -> CInterval
-    ensures { result ≡ flatInterval refusal interval }
+    ensures { result ≡ flat_interval refusal interval }
 {
     CInterval {
         refusal,
@@ -233,7 +233,7 @@ pub fn flat_interval(refusal: u8, interval: Interval) -> CInterval
 }
 
 pub fn flat_interpolated(answer: Interpolated) -> CInterpolated
-    ensures { result ≡ flatInterpolated answer }
+    ensures { result ≡ flat_interpolated answer }
 {
     let parity = answer.parity;
     let interval = answer.interval;
@@ -249,7 +249,7 @@ pub fn flat_interpolated(answer: Interpolated) -> CInterpolated
 }
 
 pub fn flat_listed(answer: Listed) -> CListed
-    ensures { result ≡ flatListed answer }
+    ensures { result ≡ flat_listed answer }
 {
     CListed {
         refusal: answer.refusal,
@@ -261,7 +261,7 @@ pub fn flat_listed(answer: Listed) -> CListed
 }
 
 pub fn flat_rebuilt(rebuilt: Rebuilt) -> CRebuilt
-    ensures { result ≡ flatRebuilt rebuilt }
+    ensures { result ≡ flat_rebuilt rebuilt }
 {
     CRebuilt {
         refusal: rebuilt.refusal,
@@ -270,7 +270,7 @@ pub fn flat_rebuilt(rebuilt: Rebuilt) -> CRebuilt
 }
 
 pub fn flat_sizes(sizes: PlanSizes) -> CSizes
-    ensures { result ≡ flatSizes sizes }
+    ensures { result ≡ flat_sizes sizes }
 {
     CSizes {
         refusal: sizes.refusal,
@@ -281,7 +281,7 @@ pub fn flat_sizes(sizes: PlanSizes) -> CSizes
 }
 
 pub fn flat_trial(answer: Trial) -> CTrial
-    ensures { result ≡ flatTrial answer }
+    ensures { result ≡ flat_trial answer }
 {
     CTrial {
         refusal: answer.refusal,
@@ -290,7 +290,7 @@ pub fn flat_trial(answer: Trial) -> CTrial
 }
 
 pub fn flat_chain(answer: Chain) -> CChain
-    ensures { result ≡ flatChain answer }
+    ensures { result ≡ flat_chain answer }
 {
     CChain {
         refusal: answer.refusal,

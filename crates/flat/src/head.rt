@@ -1,6 +1,6 @@
 // The head of a plan as a struct of numbers, and back.
 ghost use Rattle.std.specs.Prelude.{◌≡◌};
-ghost use Rattle.flat.specs.Heads.{flatHeadInterval, intervalMeant, flatHead, headMeant, knowsHead, flatPlanned, noPlan};
+ghost use Rattle.flat.specs.Heads.{flat_head_interval, interval_meant, flat_head, head_meant, knows_head, flat_planned, no_plan};
 
 use super::kinds::{basis_of, is_transform, knows_all, parity_of, strategy_of, transform_of};
 use firrozun::{
@@ -44,7 +44,7 @@ pub struct CPlanned {
 }
 
 fn flat_head_interval(interval: Interval) -> CHeadInterval
-    ensures { result ≡ flatHeadInterval interval }
+    ensures { result ≡ flat_head_interval interval }
 {
     CHeadInterval {
         a: interval.a,
@@ -55,7 +55,7 @@ fn flat_head_interval(interval: Interval) -> CHeadInterval
 }
 
 fn interval_of(flat: CHeadInterval) -> Interval
-    ensures { result ≡ intervalMeant flat }
+    ensures { result ≡ interval_meant flat }
 {
     Interval {
         a: flat.a,
@@ -66,7 +66,7 @@ fn interval_of(flat: CHeadInterval) -> Interval
 }
 
 pub fn flat_head(head: Head) -> CHead
-    ensures { result ≡ flatHead head }
+    ensures { result ≡ flat_head head }
 {
     let basis = head.basis;
     let parity = head.parity;
@@ -92,7 +92,7 @@ pub fn flat_head(head: Head) -> CHead
 
 // The head that is meant.
 pub fn head_of(head: CHead) -> Head
-    ensures { result ≡ headMeant head }
+    ensures { result ≡ head_meant head }
 {
     let interval = head.interval;
     Head {
@@ -114,7 +114,7 @@ pub fn head_of(head: CHead) -> Head
 
 // Whether all four kinds are known.
 pub fn knows_head(head: CHead) -> bool
-    ensures { result ≡ knowsHead head }
+    ensures { result ≡ knows_head head }
 {
     if !is_transform(head.transform) {
         return false;
@@ -123,7 +123,7 @@ pub fn knows_head(head: CHead) -> bool
 }
 
 pub fn flat_planned(answer: Planned) -> CPlanned
-    ensures { result ≡ flatPlanned answer }
+    ensures { result ≡ flat_planned answer }
 {
     let head = answer.head;
     CPlanned {
@@ -134,7 +134,7 @@ pub fn flat_planned(answer: Planned) -> CPlanned
 
 // The answer to an unknown kind.
 pub fn no_plan() -> CPlanned
-    ensures { result ≡ noPlan }
+    ensures { result ≡ no_plan }
 {
     CPlanned {
         refusal: 43,

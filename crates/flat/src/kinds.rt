@@ -1,19 +1,19 @@
 // The kinds by their numbers, and which numbers are a kind's. An unknown number stands for the last kind, and no call uses it.
 ghost use Rattle.std.specs.Prelude.{◌≡◌};
-ghost use Rattle.flat.specs.Kinds.{isBasis, isParity, isStrategy, isTransform, isFold};
-ghost use Rattle.flat.specs.Kinds.{basisNumbered, parityNumbered, strategyNumbered, transformNumbered, foldNumbered};
-ghost use Rattle.flat.specs.Kinds.{knowsPair, knowsAll, knowsSettings};
+ghost use Rattle.flat.specs.Kinds.{is_basis, is_parity, is_strategy, is_transform, is_fold};
+ghost use Rattle.flat.specs.Kinds.{basis_numbered, parity_numbered, strategy_numbered, transform_numbered, fold_numbered};
+ghost use Rattle.flat.specs.Kinds.{knows_pair, knows_all, knows_settings};
 
 use firrozun::{Basis, Parity, PolynomialInputTransform, SplitStrategy};
 
 pub fn is_basis(n: u8) -> bool
-    ensures { result ≡ isBasis n }
+    ensures { result ≡ is_basis n }
 {
     n < 2
 }
 
 pub fn basis_of(n: u8) -> Basis
-    ensures { result ≡ basisNumbered n }
+    ensures { result ≡ basis_numbered n }
 {
     if n == 0 {
         Basis::Monomial
@@ -23,13 +23,13 @@ pub fn basis_of(n: u8) -> Basis
 }
 
 pub fn is_parity(n: u8) -> bool
-    ensures { result ≡ isParity n }
+    ensures { result ≡ is_parity n }
 {
     n < 3
 }
 
 pub fn parity_of(n: u8) -> Parity
-    ensures { result ≡ parityNumbered n }
+    ensures { result ≡ parity_numbered n }
 {
     if n == 0 {
         return Parity::Full;
@@ -38,13 +38,13 @@ pub fn parity_of(n: u8) -> Parity
 }
 
 pub fn is_strategy(n: u8) -> bool
-    ensures { result ≡ isStrategy n }
+    ensures { result ≡ is_strategy n }
 {
     n < 2
 }
 
 pub fn strategy_of(n: u8) -> SplitStrategy
-    ensures { result ≡ strategyNumbered n }
+    ensures { result ≡ strategy_numbered n }
 {
     if n == 0 {
         SplitStrategy::MinDepth
@@ -54,13 +54,13 @@ pub fn strategy_of(n: u8) -> SplitStrategy
 }
 
 pub fn is_transform(n: u8) -> bool
-    ensures { result ≡ isTransform n }
+    ensures { result ≡ is_transform n }
 {
     n < 5
 }
 
 pub fn transform_of(n: u8) -> PolynomialInputTransform
-    ensures { result ≡ transformNumbered n }
+    ensures { result ≡ transform_numbered n }
 {
     if n == 0 {
         return PolynomialInputTransform::Identity;
@@ -80,20 +80,20 @@ pub fn transform_of(n: u8) -> PolynomialInputTransform
 
 // Without folding 0, with it 1.
 pub fn is_fold(n: u8) -> bool
-    ensures { result ≡ isFold n }
+    ensures { result ≡ is_fold n }
 {
     n < 2
 }
 
 pub fn fold_of(n: u8) -> bool
-    ensures { result ≡ foldNumbered n }
+    ensures { result ≡ fold_numbered n }
 {
     n == 1
 }
 
 // Whether a call with these two may go on.
 pub fn knows_pair(parity: u8, basis: u8) -> bool
-    ensures { result ≡ knowsPair parity basis }
+    ensures { result ≡ knows_pair parity basis }
 {
     if !is_parity(parity) {
         return false;
@@ -103,7 +103,7 @@ pub fn knows_pair(parity: u8, basis: u8) -> bool
 
 // Whether a call with these three may go on.
 pub fn knows_all(strategy: u8, parity: u8, basis: u8) -> bool
-    ensures { result ≡ knowsAll strategy parity basis }
+    ensures { result ≡ knows_all strategy parity basis }
 {
     if !is_strategy(strategy) {
         return false;
@@ -113,7 +113,7 @@ pub fn knows_all(strategy: u8, parity: u8, basis: u8) -> bool
 
 // Whether a plan call with these settings may go on.
 pub fn knows_settings(strategy: u8, parity: u8, basis: u8, fold: u8) -> bool
-    ensures { result ≡ knowsSettings strategy parity basis fold }
+    ensures { result ≡ knows_settings strategy parity basis fold }
 {
     if !is_fold(fold) {
         return false;

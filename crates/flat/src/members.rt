@@ -1,6 +1,6 @@
 // The members of a set as structs of numbers, and the members that they mean.
 ghost use Rattle.std.specs.Prelude.{◌≡◌};
-ghost use Rattle.flat.specs.Sets.{memberMeant, membersMeant, knowsMember, knowsMembers};
+ghost use Rattle.flat.specs.Sets.{member_meant, members_meant, knows_member, knows_members};
 
 use super::kinds::{basis_of, fold_of, knows_settings, parity_of, strategy_of};
 use firrozun::{MEMBERS, Member, Members};
@@ -28,14 +28,14 @@ pub struct CMembers {
 
 // Whether a member's kinds are known.
 fn knows_member(member: CMember) -> bool
-    ensures { result ≡ knowsMember member }
+    ensures { result ≡ knows_member member }
 {
     knows_settings(member.strategy, member.parity, member.basis, member.fold)
 }
 
 // Whether those of every member are: of the first `count`, or of all 16 if the count is above 16.
 pub fn knows_members(handed: CMembers) -> bool
-    ensures { result ≡ knowsMembers handed }
+    ensures { result ≡ knows_members handed }
 {
     let mut i = 0;
     while i < MEMBERS {
@@ -53,7 +53,7 @@ pub fn knows_members(handed: CMembers) -> bool
 
 // The member that is meant.
 fn member_of(member: CMember) -> Member
-    ensures { result ≡ memberMeant member }
+    ensures { result ≡ member_meant member }
 {
     Member {
         strategy: strategy_of(member.strategy),
@@ -68,7 +68,7 @@ fn member_of(member: CMember) -> Member
 
 // The members that are meant, with what the places beyond them would mean.
 pub fn members_of(handed: CMembers) -> Members
-    ensures { result ≡ membersMeant handed }
+    ensures { result ≡ members_meant handed }
 {
     let first = handed.members[0];
     let meant = member_of(first);

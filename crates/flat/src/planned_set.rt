@@ -1,6 +1,6 @@
 // A planned set as a struct of numbers.
 ghost use Rattle.std.specs.Prelude.{◌≡◌};
-ghost use Rattle.flat.specs.Sets.{flatSet, flatSetPlanned, noSetPlanned};
+ghost use Rattle.flat.specs.Sets.{flat_set, flat_set_planned, no_set_planned};
 
 use super::head::{CHead, flat_head, no_plan};
 use firrozun::{CurveSet, MEMBERS, SetPlanned};
@@ -25,7 +25,7 @@ pub struct CSetPlanned {
 }
 
 fn flat_set(set: CurveSet) -> CCurveSet
-    ensures { result ≡ flatSet set }
+    ensures { result ≡ flat_set set }
 {
     let first = set.heads[0];
     let shown = flat_head(first);
@@ -46,7 +46,7 @@ fn flat_set(set: CurveSet) -> CCurveSet
 }
 
 pub fn flat_set_planned(answer: SetPlanned) -> CSetPlanned
-    ensures { result ≡ flatSetPlanned answer }
+    ensures { result ≡ flat_set_planned answer }
 {
     let set = answer.set;
     CSetPlanned {
@@ -57,7 +57,7 @@ pub fn flat_set_planned(answer: SetPlanned) -> CSetPlanned
 
 // The answer to an unknown kind.
 pub fn no_set() -> CSetPlanned
-    ensures { result ≡ noSetPlanned }
+    ensures { result ≡ no_set_planned }
 {
     let plan = no_plan();
     let none = plan.head;

@@ -5,37 +5,37 @@ use Rattle.std.specs.Float.{binary64}
 use Rattle.std.specs.Float.Ieee.{div, of_int}
 use Rattle.algebra.specs.Operations.{Operations, double}
 use Rattle.algebra.specs.Power.{cheb}
-use Rattle.number.specs.Numbers.{floatOps}
+use Rattle.number.specs.Numbers.{float_ops}
 
 module _ {A : Type 0} (𝓞 : Operations A) where
   -- one node: value·T_j(node) is added to the sum of coefficient j, here from place j on
-  unfoldable pub addNode : (j : ℕ) → (node value : A) → (sums : List A) → List A
-  addNode j node value [] = []
-  addNode j node value (s ∷ sums) = 𝓞.add s (𝓞.mul value (cheb 𝓞 node j)) ∷ addNode (suc j) node value sums
+  unfoldable pub add_node : (j : ℕ) → (node value : A) → (sums : List A) → List A
+  add_node j node value [] = []
+  add_node j node value (s ∷ sums) = 𝓞.add s (𝓞.mul value (cheb 𝓞 node j)) ∷ add_node (suc j) node value sums
 
   -- every node with its value, in the order given
-  unfoldable pub addNodes : (nodes values sums : List A) → List A
-  addNodes [] values sums = sums
-  addNodes (node ∷ nodes) [] sums = sums
-  addNodes (node ∷ nodes) (value ∷ values) sums = addNodes nodes values (addNode 0 node value sums)
+  unfoldable pub add_nodes : (nodes values sums : List A) → List A
+  add_nodes [] values sums = sums
+  add_nodes (node ∷ nodes) [] sums = sums
+  add_nodes (node ∷ nodes) (value ∷ values) sums = add_nodes nodes values (add_node 0 node value sums)
 
   -- the sums, one for each node, each begun at zero
-  abbrev pub sumsOf : (nodes values : List A) → List A
-  sumsOf nodes values = addNodes nodes values (replicate (length nodes) 𝓞.zero)
+  abbrev pub sums_of : (nodes values : List A) → List A
+  sums_of nodes values = add_nodes nodes values (replicate (length nodes) 𝓞.zero)
 
   -- each times the same factor
-  abbrev pub scaledBy : (factor : A) → (sums : List A) → List A
-  scaledBy factor sums = map (λ (s : A). 𝓞.mul s factor) sums
+  abbrev pub scaled_by : (factor : A) → (sums : List A) → List A
+  scaled_by factor sums = map (λ (s : A). 𝓞.mul s factor) sums
 
   -- the sum of coefficient 0 times 1/n, the others times 2·(1/n)
   unfoldable pub scaled : (inverse : A) → (sums : List A) → List A
   scaled inverse [] = []
-  scaled inverse (s ∷ sums) = 𝓞.mul s inverse ∷ scaledBy (double 𝓞 inverse) sums
+  scaled inverse (s ∷ sums) = 𝓞.mul s inverse ∷ scaled_by (double 𝓞 inverse) sums
 
 -- 1/n
-abbrev pub inverseOf : (n : ℕ) → Float
-inverseOf n = div binary64 floatOps.one (of_int binary64 (pos n))
+abbrev pub inverse_of : (n : ℕ) → Float
+inverse_of n = div binary64 float_ops.one (of_int binary64 (pos n))
 
 -- the coefficients, one for each node
-abbrev pub coefficientsOf : (nodes values : List Float) → List Float
-coefficientsOf nodes values = scaled floatOps (inverseOf (length nodes)) (sumsOf floatOps nodes values)
+abbrev pub coefficients_of : (nodes values : List Float) → List Float
+coefficients_of nodes values = scaled float_ops (inverse_of (length nodes)) (sums_of float_ops nodes values)

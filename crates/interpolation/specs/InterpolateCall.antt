@@ -3,39 +3,39 @@ use Rattle.std.specs.Prelude.{◌≡◌, List, [], ◌∷◌, ℕ, length, Float
 use Rattle.std.proofs.lemmas.List.Edits.{sets}
 use Rattle.algebra.specs.declared.Basis.TheVariants.{Chebyshev}
 use Rattle.algebra.specs.declared.Parity.TheVariants.{Full}
-use Rattle.number.specs.Interval.{changeOfBasis, noInterval}
-use Rattle.number.specs.Numbers.{floatNumbers}
-use Rattle.number.specs.Parity.{parityOf}
-use Rattle.number.specs.Refusal.{firstRefusal, unlessRefused}
-use Rattle.number.specs.Tests.{unordered, miscounted, noRoom}
-use Rattle.interpolation.specs.Interpolate.{coefficientsOf}
+use Rattle.number.specs.Interval.{change_of_basis, no_interval}
+use Rattle.number.specs.Numbers.{float_numbers}
+use Rattle.number.specs.Parity.{parity_of}
+use Rattle.number.specs.Refusal.{first_refusal, unless_refused}
+use Rattle.number.specs.Tests.{unordered, miscounted, no_room}
+use Rattle.interpolation.specs.Interpolate.{coefficients_of}
 use Rattle.interpolation.specs.declared.Interpolated.{Interpolated}
 
 -- after a refusal zero in every other field, and the first parity
-abbrev pub noInterpolation : (refusal : ℕ) → Interpolated
-noInterpolation refusal = record { refusal = refusal; count = 0; parity = Full; interval = noInterval }
+abbrev pub no_interpolation : (refusal : ℕ) → Interpolated
+no_interpolation refusal = record { refusal = refusal; count = 0; parity = Full; interval = no_interval }
 
 module _ (nodes values : List Float) (a b : Float) (out : List Float) where
   -- 8, 7, and 21 for a buffer without a place for each coefficient
-  unfoldable pub interpolateRefusal : ℕ
-  interpolateRefusal =
-      firstRefusal (miscounted (length nodes) (length values) ∷ unordered a b ∷ noRoom (length out) (length nodes) ∷ [])
+  unfoldable pub interpolate_refusal : ℕ
+  interpolate_refusal =
+      first_refusal (miscounted (length nodes) (length values) ∷ unordered a b ∷ no_room (length out) (length nodes) ∷ [])
 
   -- the answer: how many coefficients, their parity, and the interval with its change pair
-  unfoldable pub interpolateAnswer : Interpolated
-  interpolateAnswer =
-      unlessRefused interpolateRefusal (record {
+  unfoldable pub interpolate_answer : Interpolated
+  interpolate_answer =
+      unless_refused interpolate_refusal (record {
         refusal = 0;
         count = length nodes;
-        parity = parityOf floatNumbers (coefficientsOf nodes values);
-        interval = changeOfBasis Chebyshev a b;
-      }) (noInterpolation interpolateRefusal)
+        parity = parity_of float_numbers (coefficients_of nodes values);
+        interval = change_of_basis Chebyshev a b;
+      }) (no_interpolation interpolate_refusal)
 
   -- the buffer: the coefficients in its first places, and the places beyond unchanged; after a refusal all of it unchanged
-  unfoldable pub interpolateBuffer : List Float
-  interpolateBuffer = unlessRefused interpolateRefusal (sets out 0 (coefficientsOf nodes values)) out
+  unfoldable pub interpolate_buffer : List Float
+  interpolate_buffer = unless_refused interpolate_refusal (sets out 0 (coefficients_of nodes values)) out
 
   -- what the call says, and what it leaves in the buffer
   pub record InterpolateCall (r : Interpolated) (left : List Float) : Type 0 where
-    pub answer : r ≡ interpolateAnswer
-    pub buffer : left ≡ interpolateBuffer
+    pub answer : r ≡ interpolate_answer
+    pub buffer : left ≡ interpolate_buffer

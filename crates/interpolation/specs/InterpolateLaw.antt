@@ -4,13 +4,13 @@ use Rattle.algebra.specs.Operations.{Operations}
 use Rattle.algebra.specs.Power.{cheb}
 use Rattle.algebra.specs.Ring.{Ring}
 use Rattle.algebra.specs.Value.{dot}
-use Rattle.interpolation.specs.Interpolate.{sumsOf}
+use Rattle.interpolation.specs.Interpolate.{sums_of}
 
 -- the sum of value·T_j(node) over the nodes
-abbrev pub nodeSum : {A : Type 0} → Operations A → (j : ℕ) → (nodes values : List A) → A
-nodeSum 𝓞 j nodes values = dot 𝓞 (λ k. cheb 𝓞 (get_or nodes k 𝓞.zero) j) values
+abbrev pub node_sum : {A : Type 0} → Operations A → (j : ℕ) → (nodes values : List A) → A
+node_sum 𝓞 j nodes values = dot 𝓞 (λ k. cheb 𝓞 (get_or nodes k 𝓞.zero) j) values
 
 -- over every ring, before scaling, coefficient j is the sum of value·T_j(node) over the nodes
 abbrev pub InterpolateLaw : {A : Type 0} → Ring A → Type 0
 InterpolateLaw {A} 𝓡 = (nodes values : List A) (j : ℕ) → length nodes ≡ length values → j < length nodes
-    → get_or (sumsOf 𝓡.ops nodes values) j 𝓡.ops.zero ≡ nodeSum 𝓡.ops j nodes values
+    → get_or (sums_of 𝓡.ops nodes values) j 𝓡.ops.zero ≡ node_sum 𝓡.ops j nodes values

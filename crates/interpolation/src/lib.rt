@@ -1,11 +1,11 @@
 // Chebyshev interpolation from lent nodes and values, which stand for k = n down to 1.
 ghost use Rattle.std.specs.Prelude.{◌≡◌, ◌<◌, ◌≤◌, length, replicate};
-ghost use Rattle.number.specs.Limits.{countLimit};
-ghost use Rattle.number.specs.Numbers.{floatOps, floatNumbers};
-ghost use Rattle.number.specs.Parity.{parityOf};
+ghost use Rattle.number.specs.Limits.{count_limit};
+ghost use Rattle.number.specs.Numbers.{float_ops, float_numbers};
+ghost use Rattle.number.specs.Parity.{parity_of};
 ghost use Rattle.number.specs.Tests.{miscounted};
-ghost use Rattle.interpolation.specs.Interpolate.{addNode, addNodes, scaledBy, scaled, inverseOf, coefficientsOf};
-ghost use Rattle.interpolation.specs.InterpolateCall.{interpolateRefusal, InterpolateCall};
+ghost use Rattle.interpolation.specs.Interpolate.{add_node, add_nodes, scaled_by, scaled, inverse_of, coefficients_of};
+ghost use Rattle.interpolation.specs.InterpolateCall.{interpolate_refusal, InterpolateCall};
 ghost use Rattle.interpolation.specs.inside.Filling.{Fillable};
 
 use number::{
@@ -23,7 +23,7 @@ pub struct Interpolated {
 
 // Every element becomes +0.
 fn clear(sums: &mut [f64])
-    ensures { sums.new ≡ replicate (length sums.old) floatOps.zero }
+    ensures { sums.new ≡ replicate (length sums.old) float_ops.zero }
 {
     let mut i = 0;
     while i < sums.len() {
@@ -34,7 +34,7 @@ fn clear(sums: &mut [f64])
 
 // One node: typeof.value.T_i(node) is added to element i.
 fn add_node(sums: &mut [f64], node: f64, value: f64)
-    ensures { sums.new ≡ addNode floatOps 0 node value sums.old }
+    ensures { sums.new ≡ add_node float_ops 0 node value sums.old }
 {
     let two = 1.0f64 + 1.0f64;
     let mut t_prev = 1.0f64;
@@ -52,7 +52,7 @@ fn add_node(sums: &mut [f64], node: f64, value: f64)
 // Each node with its value, in the order lent.
 fn add_nodes(sums: &mut [f64], nodes: &[f64], values: &[f64])
     requires { length nodes.now ≡ length values.now }
-    ensures { sums.new ≡ addNodes floatOps nodes.now values.now sums.old }
+    ensures { sums.new ≡ add_nodes float_ops nodes.now values.now sums.old }
 {
     let mut k = 0;
     while k < nodes.len() {
@@ -63,7 +63,7 @@ fn add_nodes(sums: &mut [f64], nodes: &[f64], values: &[f64])
 
 // Every element times `factor`.
 fn scale_by(sums: &mut [f64], factor: f64)
-    ensures { sums.new ≡ scaledBy floatOps factor sums.old }
+    ensures { sums.new ≡ scaled_by float_ops factor sums.old }
 {
     let mut i = 0;
     while i < sums.len() {
@@ -74,8 +74,8 @@ fn scale_by(sums: &mut [f64], factor: f64)
 
 // The first element over n, the others twice that.
 fn scale(sums: &mut [f64], n: usize)
-    requires { (n ≤ countLimit) × (0 < length sums.old) }
-    ensures { sums.new ≡ scaled floatOps (inverseOf n) sums.old }
+    requires { (n ≤ count_limit) × (0 < length sums.old) }
+    ensures { sums.new ≡ scaled float_ops (inverse_of n) sums.old }
 {
     let inv_n = 1.0 / (n as f64);
     let two = 1.0f64 + 1.0f64;
@@ -87,8 +87,8 @@ fn scale(sums: &mut [f64], n: usize)
 // Writes the coefficients, one for each node, and tells their parity.
 fn fill(out: &mut [f64], nodes: &[f64], values: &[f64]) -> Parity
     requires { Fillable nodes.now values.now out.old }
-    ensures { (result ≡ parityOf floatNumbers (coefficientsOf nodes.now values.now))
-        × (out.new ≡ coefficientsOf nodes.now values.now) }
+    ensures { (result ≡ parity_of float_numbers (coefficients_of nodes.now values.now))
+        × (out.new ≡ coefficients_of nodes.now values.now) }
 {
     clear(out);
     add_nodes(out, nodes, values);
@@ -105,7 +105,7 @@ fn miscounted(nodes: usize, values: usize) -> bool
 
 // The first test that holds, or 0.
 fn interpolate_refusal(nodes: &[f64], values: &[f64], a: f64, b: f64, out: &[f64]) -> u8
-    ensures { result ≡ interpolateRefusal nodes.now values.now a b out.now }
+    ensures { result ≡ interpolate_refusal nodes.now values.now a b out.now }
 {
     let n = nodes.len();
     let wrong_count = miscounted(n, values.len());

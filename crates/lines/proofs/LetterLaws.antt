@@ -4,7 +4,7 @@ use mathlib.Core.Bool.{Bool, true, false, cond}
 use Prim.Native.Nat.{ℕ}
 use borrow.Author.Tests.{eqb-true}
 use lib.Dec.{eqb}
-use Rattle.lines.specs.Bytes.{letterN, letterY}
+use Rattle.lines.specs.Bytes.{letter_n, letter_y}
 use Rattle.lines.specs.Letters.{folds, says}
 
 -- the same either way
@@ -13,9 +13,9 @@ either_way true x = refl
 either_way false x = refl
 
 -- `Y` alone says to fold
-pub fold-said : (b : ℕ) → eqb b letterY ≡ says false folds b
-fold-said b = by-test (eqb b letterY) refl
+pub fold_said : (b : ℕ) → eqb b letter_y ≡ says false folds b
+fold_said b = by_test (eqb b letter_y) refl
   where
-    by-test : (t : Bool) → eqb b letterY ≡ t → eqb b letterY ≡ says false folds b
-    by-test true e = rw (eqb-true b letterY e)
-    by-test false e = rw e (either_way (eqb b letterN) false)
+    by_test : (t : Bool) → eqb b letter_y ≡ t → eqb b letter_y ≡ says false folds b
+    by_test true e = rw (eqb-true b letter_y e)
+    by_test false e = rw e (either_way (eqb b letter_n) false)

@@ -2,13 +2,13 @@
 use mathlib.Core.Path.{refl}
 use Rattle.lines.specs.LettersSay.{LettersSay}
 
-pub letters-say : LettersSay
-letters-say = record {
-  basis-numbers = refl;
-  parity-numbers = refl;
-  strategy-numbers = refl;
-  basis-read = refl;
-  parity-read = refl;
-  strategy-read = refl;
-  fold-read = refl;
+pub letters_say : LettersSay
+letters_say = record {
+  basis_numbers = refl;
+  parity_numbers = refl;
+  strategy_numbers = refl;
+  basis_read = refl;
+  parity_read = refl;
+  strategy_read = refl;
+  fold_read = refl;
 }

@@ -1,11 +1,11 @@
 -- Lines with the same settings and coefficients are read alike: an answer and a buffer are made of these alone.
-use Rattle.number.specs.Refusal.{unlessRefused}
-use Rattle.lines.specs.ReadLine.{lineRefusal, lineAnswer, lineBuffer}
+use Rattle.number.specs.Refusal.{unless_refused}
+use Rattle.lines.specs.ReadLine.{line_refusal, line_answer, line_buffer}
 use Rattle.lines.specs.LinesSame.{LinesSame}
 
 pub lines_same : LinesSame
-unfolding lineRefusal lineAnswer lineBuffer unlessRefused
+unfolding line_refusal line_answer line_buffer unless_refused
 lines_same one other same = record {
-  answer = rw (same.one-is, same.other-is, same.basis, same.parity, same.strategy, same.fold, same.coefficients);
-  buffer = λ buffer. rw (same.one-is, same.other-is, same.coefficients);
+  answer = rw (same.one_is, same.other_is, same.basis, same.parity, same.strategy, same.fold, same.coefficients);
+  buffer = λ buffer. rw (same.one_is, same.other_is, same.coefficients);
 }

@@ -6,8 +6,8 @@ abbrev pub tab : ℕ
 tab = 9
 
 -- at the end of a line
-abbrev pub lineFeed : ℕ
-lineFeed = 10
+abbrev pub line_feed : ℕ
+line_feed = 10
 
 -- a sign, and the first and the last digit
 abbrev pub minus : ℕ
@@ -20,48 +20,48 @@ abbrev pub digit9 : ℕ
 digit9 = 57
 
 -- the capital letters of the settings
-abbrev pub letterC : ℕ
-letterC = 67
+abbrev pub letter_c : ℕ
+letter_c = 67
 
-abbrev pub letterD : ℕ
-letterD = 68
+abbrev pub letter_d : ℕ
+letter_d = 68
 
-abbrev pub letterE : ℕ
-letterE = 69
+abbrev pub letter_e : ℕ
+letter_e = 69
 
-abbrev pub letterF : ℕ
-letterF = 70
+abbrev pub letter_f : ℕ
+letter_f = 70
 
-abbrev pub letterM : ℕ
-letterM = 77
+abbrev pub letter_m : ℕ
+letter_m = 77
 
-abbrev pub letterN : ℕ
-letterN = 78
+abbrev pub letter_n : ℕ
+letter_n = 78
 
-abbrev pub letterO : ℕ
-letterO = 79
+abbrev pub letter_o : ℕ
+letter_o = 79
 
-abbrev pub letterY : ℕ
-letterY = 89
+abbrev pub letter_y : ℕ
+letter_y = 89
 
 -- the letters that printed lines begin with
-abbrev pub letterB : ℕ
-letterB = 66
+abbrev pub letter_b : ℕ
+letter_b = 66
 
-abbrev pub letterG : ℕ
-letterG = 71
+abbrev pub letter_g : ℕ
+letter_g = 71
 
-abbrev pub letterH : ℕ
-letterH = 72
+abbrev pub letter_h : ℕ
+letter_h = 72
 
-abbrev pub letterL : ℕ
-letterL = 76
+abbrev pub letter_l : ℕ
+letter_l = 76
 
-abbrev pub letterP : ℕ
-letterP = 80
+abbrev pub letter_p : ℕ
+letter_p = 80
 
-abbrev pub letterQ : ℕ
-letterQ = 81
+abbrev pub letter_q : ℕ
+letter_q = 81
 
-abbrev pub letterR : ℕ
-letterR = 82
+abbrev pub letter_r : ℕ
+letter_r = 82

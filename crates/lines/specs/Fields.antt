@@ -7,7 +7,7 @@ abbrev pub first : List (List ℕ) → List ℕ
 first fs = get_or fs 0 []
 
 -- a byte in front of these fields: a tab puts an empty field in front, and any other byte belongs to the first field
-abbrev pub front : (isTab : Bool) → ℕ → List (List ℕ) → List (List ℕ)
+abbrev pub front : (is_tab : Bool) → ℕ → List (List ℕ) → List (List ℕ)
 front true b fs = [] ∷ fs
 front false b fs = (b ∷ first fs) ∷ drop 1 fs
 

@@ -10,16 +10,16 @@ joined (f ∷ []) = f
 joined (f ∷ g ∷ fs) = f ++ (tab ∷ joined (g ∷ fs))
 
 -- a field without a tab
-unfoldable pub noTab : List ℕ → Bool
-noTab [] = true
-noTab (b ∷ bs) = not (eqb b tab) && noTab bs
+unfoldable pub no_tab : List ℕ → Bool
+no_tab [] = true
+no_tab (b ∷ bs) = not (eqb b tab) && no_tab bs
 
-unfoldable pub noTabs : List (List ℕ) → Bool
-noTabs [] = true
-noTabs (f ∷ fs) = noTab f && noTabs fs
+unfoldable pub no_tabs : List (List ℕ) → Bool
+no_tabs [] = true
+no_tabs (f ∷ fs) = no_tab f && no_tabs fs
 
 -- a line's fields make up the line, and fields made into a line are its fields
 pub record FieldsJoined : Type 0 where
-  pub parted : (line : List ℕ) → noTabs (fields line) ≡ true
+  pub parted : (line : List ℕ) → no_tabs (fields line) ≡ true
   pub joins : (line : List ℕ) → joined (fields line) ≡ line
-  pub parts : (f : List ℕ) (fs : List (List ℕ)) → noTabs (f ∷ fs) ≡ true → fields (joined (f ∷ fs)) ≡ f ∷ fs
+  pub parts : (f : List ℕ) (fs : List (List ℕ)) → no_tabs (f ∷ fs) ≡ true → fields (joined (f ∷ fs)) ≡ f ∷ fs

@@ -6,7 +6,7 @@ use Rattle.algebra.specs.declared.Parity.{Parity}
 use Rattle.algebra.specs.declared.Parity.TheVariants.{Full, Even, Odd}
 use Rattle.counts.specs.declared.choice.SplitStrategy.{SplitStrategy}
 use Rattle.counts.specs.declared.choice.SplitStrategy.TheVariants.{MinDepth, MinMult}
-use Rattle.lines.specs.Bytes.{letterC, letterD, letterE, letterF, letterM, letterN, letterO, letterY}
+use Rattle.lines.specs.Bytes.{letter_c, letter_d, letter_e, letter_f, letter_m, letter_n, letter_o, letter_y}
 
 -- letters, each with what it says
 abbrev pub Letters : Type 0 → Type 0
@@ -15,24 +15,24 @@ Letters X = List (ℕ × X)
 -- ---- the four tables, in the order of the kinds' numbers
 
 abbrev pub bases : Letters Basis
-bases = (letterM, Monomial) ∷ (letterC, Chebyshev) ∷ []
+bases = (letter_m, Monomial) ∷ (letter_c, Chebyshev) ∷ []
 
 abbrev pub parities : Letters Parity
-parities = (letterF, Full) ∷ (letterE, Even) ∷ (letterO, Odd) ∷ []
+parities = (letter_f, Full) ∷ (letter_e, Even) ∷ (letter_o, Odd) ∷ []
 
 abbrev pub strategies : Letters SplitStrategy
-strategies = (letterD, MinDepth) ∷ (letterM, MinMult) ∷ []
+strategies = (letter_d, MinDepth) ∷ (letter_m, MinMult) ∷ []
 
 -- without folding and with it
 abbrev pub folds : Letters Bool
-folds = (letterN, false) ∷ (letterY, true) ∷ []
+folds = (letter_n, false) ∷ (letter_y, true) ∷ []
 
 -- ---- reading a letter by its table
 
 -- whether a byte is one of the letters
-abbrev pub isLetter : {X : Type 0} → Letters X → ℕ → Bool
-isLetter [] b = false
-isLetter (row ∷ rows) b = eqb b row.0 || isLetter rows b
+abbrev pub is_letter : {X : Type 0} → Letters X → ℕ → Bool
+is_letter [] b = false
+is_letter (row ∷ rows) b = eqb b row.0 || is_letter rows b
 
 -- what a byte says; `otherwise` where it is none of the letters
 abbrev pub says : {X : Type 0} → (otherwise : X) → Letters X → ℕ → X

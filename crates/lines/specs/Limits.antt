@@ -2,9 +2,9 @@
 use Rattle.std.specs.Prelude.{ℕ}
 
 -- the most bytes of a line, without its line feed
-abbrev pub lineLimit : ℕ
-lineLimit = 65535
+abbrev pub line_limit : ℕ
+line_limit = 65535
 
 -- the most digits of a coefficient
-abbrev pub digitLimit : ℕ
-digitLimit = 18
+abbrev pub digit_limit : ℕ
+digit_limit = 18

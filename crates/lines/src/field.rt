@@ -1,6 +1,6 @@
 // The fields of a line.
 ghost use Rattle.std.specs.Prelude.{◌≡◌, ◌≤◌, length};
-ghost use Rattle.lines.specs.Line.{onlyByte};
+ghost use Rattle.lines.specs.Line.{only_byte};
 ghost use Rattle.lines.specs.inside.Reading.{FieldEnd};
 
 // Where the field that begins at `at` ends: at a tab or at the line's end.
@@ -20,7 +20,7 @@ pub fn field_end(line: &[u8], at: usize) -> usize
 
 // The byte of a field that has just one, or 0.
 pub fn only_byte(field: &[u8]) -> u8
-    ensures { result ≡ onlyByte field.now }
+    ensures { result ≡ only_byte field.now }
 {
     if field.len() == 1 { field[0] } else { 0 }
 }

@@ -3,21 +3,21 @@ ghost use Rattle.std.specs.Prelude.{◌≡◌, false};
 ghost use Rattle.algebra.specs.declared.Basis.TheVariants.{Monomial};
 ghost use Rattle.algebra.specs.declared.Parity.TheVariants.{Full};
 ghost use Rattle.counts.specs.declared.choice.SplitStrategy.TheVariants.{MinDepth};
-ghost use Rattle.lines.specs.Letters.{bases, parities, strategies, folds, isLetter, says};
+ghost use Rattle.lines.specs.Letters.{bases, parities, strategies, folds, is_letter, says};
 
 use algebra::{Basis, Parity};
 use counts::SplitStrategy;
 
 // M or C.
 pub fn is_basis(letter: u8) -> bool
-    ensures { result ≡ isLetter bases letter }
+    ensures { result ≡ is_letter bases letter }
 {
     letter == b'M' || letter == b'C'
 }
 
 // F, E or O.
 pub fn is_parity(letter: u8) -> bool
-    ensures { result ≡ isLetter parities letter }
+    ensures { result ≡ is_letter parities letter }
 {
     if letter == b'F' {
         return true;
@@ -27,14 +27,14 @@ pub fn is_parity(letter: u8) -> bool
 
 // D or M.
 pub fn is_strategy(letter: u8) -> bool
-    ensures { result ≡ isLetter strategies letter }
+    ensures { result ≡ is_letter strategies letter }
 {
     letter == b'D' || letter == b'M'
 }
 
 // N or Y.
 pub fn is_fold(letter: u8) -> bool
-    ensures { result ≡ isLetter folds letter }
+    ensures { result ≡ is_letter folds letter }
 {
     letter == b'N' || letter == b'Y'
 }

@@ -1,10 +1,10 @@
 // Reading a line.
 ghost use Rattle.std.specs.Prelude.{◌≡◌, ◌≤◌, length, set};
-ghost use Rattle.lines.specs.Limits.{lineLimit};
-ghost use Rattle.lines.specs.Line.{areSettings, areWhole};
-ghost use Rattle.lines.specs.ReadLine.{noLine, ReadLine};
-ghost use Rattle.lines.specs.inside.FieldsFrom.{fieldsFrom};
-ghost use Rattle.lines.specs.inside.Reading.{Taken, Opened, Fillable, Filled, lineBy};
+ghost use Rattle.lines.specs.Limits.{line_limit};
+ghost use Rattle.lines.specs.Line.{are_settings, are_whole};
+ghost use Rattle.lines.specs.ReadLine.{no_line, ReadLine};
+ghost use Rattle.lines.specs.inside.FieldsFrom.{fields_from};
+ghost use Rattle.lines.specs.inside.Reading.{Taken, Opened, Fillable, Filled, line_by};
 
 use crate::field::{field_end, only_byte};
 use crate::letter::{
@@ -45,7 +45,7 @@ pub struct Line {
 
 // The letter of the field at a place.
 fn take_letter(line: &[u8], at: usize) -> Letter
-    requires { length line.now ≤ lineLimit }
+    requires { length line.now ≤ line_limit }
     ensures { Taken line.now at result }
 {
     if line.len() < at {
@@ -60,7 +60,7 @@ fn take_letter(line: &[u8], at: usize) -> Letter
 
 // The letters of the first four fields.
 fn take_opening(line: &[u8]) -> Opening
-    requires { length line.now ≤ lineLimit }
+    requires { length line.now ≤ line_limit }
     ensures { Opened line.now result }
 {
     let basis = take_letter(line, 0);
@@ -78,7 +78,7 @@ fn take_opening(line: &[u8]) -> Opening
 
 // Whether four letters are settings.
 fn are_settings(basis: u8, parity: u8, strategy: u8, fold: u8) -> bool
-    ensures { result ≡ areSettings basis parity strategy fold }
+    ensures { result ≡ are_settings basis parity strategy fold }
 {
     if !is_basis(basis) {
         return false;
@@ -94,8 +94,8 @@ fn are_settings(basis: u8, parity: u8, strategy: u8, fold: u8) -> bool
 
 // Whether every field from a place on is a whole number.
 fn are_whole(line: &[u8], from: usize) -> bool
-    requires { length line.now ≤ lineLimit }
-    ensures { result ≡ areWhole (fieldsFrom from line.now) }
+    requires { length line.now ≤ line_limit }
+    ensures { result ≡ are_whole (fields_from from line.now) }
 {
     let mut at = from;
     while at <= line.len() {
@@ -120,7 +120,7 @@ fn put_value(buffer: &mut [i64], i: usize, value: i64)
 // The values of the fields from a place on, as many as the buffer holds, and how many fields there are.
 fn fill_values(line: &[u8], from: usize, buffer: &mut [i64]) -> usize
     requires { Fillable line.now from }
-    ensures { Filled (fieldsFrom from line.now) buffer.old buffer.new result }
+    ensures { Filled (fields_from from line.now) buffer.old buffer.new result }
 {
     let mut at = from;
     let mut i = 0;
@@ -136,7 +136,7 @@ fn fill_values(line: &[u8], from: usize, buffer: &mut [i64]) -> usize
 
 // The answer to a line that doesn't have the form.
 fn no_line() -> Line
-    ensures { result ≡ noLine 12 }
+    ensures { result ≡ no_line 12 }
 {
     Line {
         refusal: 12,
@@ -150,7 +150,7 @@ fn no_line() -> Line
 
 // The answer to a line with these letters and count coefficients.
 fn line_by(opening: Opening, count: usize) -> Line
-    ensures { result ≡ lineBy opening count }
+    ensures { result ≡ line_by opening count }
 {
     Line {
         refusal: 0,

@@ -1,20 +1,20 @@
 // A field as a whole number.
 ghost use Rattle.std.specs.Prelude.{◌≡◌, true, cond, ◌+◌, ◌-◌, ◌*◌, ◌≤◌, ◌<◌, ◌^◌, length, drop};
 ghost use Rattle.lines.specs.Bytes.{digit0};
-ghost use Rattle.lines.specs.Whole.{isDigit, areDigits, mayHave, is_number, number_of, isMinus, with_sign, is_whole, value_of};
+ghost use Rattle.lines.specs.Whole.{is_digit, are_digits, may_have, is_number, number_of, is_minus, with_sign, is_whole, value_of};
 
 use crate::limits::DIGIT_LIMIT;
 
 // `0` to `9`.
 fn is_digit(b: u8) -> bool
-    ensures { result ≡ isDigit b }
+    ensures { result ≡ is_digit b }
 {
     b'0' <= b && b <= b'9'
 }
 
 // Whether the field has digits alone from a place on.
 fn are_digits(field: &[u8], from: usize) -> bool
-    ensures { result ≡ areDigits (drop from field.now) }
+    ensures { result ≡ are_digits (drop from field.now) }
 {
     let mut i = from;
     while i < field.len() {
@@ -29,7 +29,7 @@ fn are_digits(field: &[u8], from: usize) -> bool
 
 // Whether a number may have n digits.
 fn may_have(n: usize) -> bool
-    ensures { result ≡ mayHave n }
+    ensures { result ≡ may_have n }
 {
     0 < n && n <= DIGIT_LIMIT
 }
@@ -48,7 +48,7 @@ fn is_number(field: &[u8], from: usize) -> bool
 
 // The number with one digit more.
 fn with_digit(number: u64, b: u8) -> u64
-    requires { (number < 10 ^ 17) × (isDigit b ≡ true) }
+    requires { (number < 10 ^ 17) × (is_digit b ≡ true) }
     ensures { result ≡ number * 10 + (b - digit0) }
 {
     number * 10 + (b - b'0') as u64
@@ -71,7 +71,7 @@ fn number_of(field: &[u8], from: usize) -> u64
 
 // Whether the field begins with a minus.
 fn is_minus(field: &[u8]) -> bool
-    ensures { result ≡ isMinus field.now }
+    ensures { result ≡ is_minus field.now }
 {
     if field.len() == 0 {
         return false;

@@ -8,9 +8,9 @@ use Rattle.algebra.specs.Cut.{cut_at}
 use Rattle.algebra.specs.CutKept.{KeepsCuts}
 use Rattle.algebra.specs.Each.{Each}
 use Rattle.algebra.specs.declared.Basis.{Basis}
-use Rattle.algebra.proofs.CutKept.{cut-kept}
-use Rattle.algebra.proofs.Each.{each-any, each_append}
-use Rattle.algebra.proofs.Maps.{map-take, map-drop}
+use Rattle.algebra.proofs.CutKept.{cut_kept}
+use Rattle.algebra.proofs.Each.{each_any, each_append}
+use Rattle.algebra.proofs.Maps.{map_take, map_drop}
 use Rattle.lists.specs.Tree.{Tree, leaf, cut}
 use Rattle.lists.specs.Arrange.{arranged}
 use Rattle.lists.specs.ArrangedKept.{EachMade, ArrangedKept}
@@ -19,33 +19,33 @@ use Rattle.lists.specs.ArrangedKept.{EachMade, ArrangedKept}
 
 module _ {A : Type 0} (P : A → Type 0) (𝓞 : Operations A) (basis : Basis) where
   -- what every number has
-  pub made-any : ((a : A) → P a) → (tree : Tree) (c : List A) → EachMade P 𝓞 basis tree c
-  made-any any leaf c = each-any P any c
-  made-any any (cut p low high) c = record {
-    given = each-any P any c;
-    low = made-any any low (take p (cut_at 𝓞 basis p c));
-    high = made-any any high (drop p (cut_at 𝓞 basis p c));
+  pub made_any : ((a : A) → P a) → (tree : Tree) (c : List A) → EachMade P 𝓞 basis tree c
+  made_any any leaf c = each_any P any c
+  made_any any (cut p low high) c = record {
+    given = each_any P any c;
+    low = made_any any low (take p (cut_at 𝓞 basis p c));
+    high = made_any any high (drop p (cut_at 𝓞 basis p c));
   }
 
   -- those that it is given
-  each-given : (tree : Tree) (c : List A) → EachMade P 𝓞 basis tree c → Each P c
-  each-given leaf c made = made
-  each-given (cut p low high) c made = made.given
+  each_given : (tree : Tree) (c : List A) → EachMade P 𝓞 basis tree c → Each P c
+  each_given leaf c made = made
+  each_given (cut p low high) c made = made.given
 
   -- those that stand after a cut
-  each-cut : (p : ℕ) (low high : Tree) (c : List A) → EachMade P 𝓞 basis (cut p low high) c → Each P (cut_at 𝓞 basis p c)
-  each-cut p low high c made =
+  each_cut : (p : ℕ) (low high : Tree) (c : List A) → EachMade P 𝓞 basis (cut p low high) c → Each P (cut_at 𝓞 basis p c)
+  each_cut p low high c made =
       let c₁ = cut_at 𝓞 basis p c in
-      rw (take-append-drop p c₁) at (each_append P (take p c₁) (drop p c₁) (each-given low (take p c₁) made.low) (each-given high (drop p c₁) made.high))
+      rw (take-append-drop p c₁) at (each_append P (take p c₁) (drop p c₁) (each_given low (take p c₁) made.low) (each_given high (drop p c₁) made.high))
 
   -- those of the lists
-  pub each-arranged : (tree : Tree) (c : List A) → EachMade P 𝓞 basis tree c → Each P (arranged 𝓞 basis tree c)
+  pub each_arranged : (tree : Tree) (c : List A) → EachMade P 𝓞 basis tree c → Each P (arranged 𝓞 basis tree c)
   unfolding arranged
-  each-arranged leaf c made = made
-  each-arranged (cut p low high) c made =
+  each_arranged leaf c made = made
+  each_arranged (cut p low high) c made =
       let c₁ = cut_at 𝓞 basis p c in
-      each_append P (arranged 𝓞 basis low (take p c₁)) (arranged 𝓞 basis high (drop p c₁)) (each-arranged low (take p c₁) made.low)
-      (each-arranged high (drop p c₁) made.high)
+      each_append P (arranged 𝓞 basis low (take p c₁)) (arranged 𝓞 basis high (drop p c₁)) (each_arranged low (take p c₁) made.low)
+      (each_arranged high (drop p c₁) made.high)
 
 -- ---- the map
 
@@ -56,12 +56,12 @@ module _ {A B : Type 0} (P : A → Type 0) (𝓞 : Operations A) (𝓟 : Operati
   kept (cut p low high) c made =
       let c₁ = cut_at 𝓞 basis p c in
       rw (
-        cut-kept A B P 𝓞 𝓟 φ keeps basis p c made.given (each-cut P 𝓞 basis p low high c made),
-        map-take φ p c₁,
-        map-drop φ p c₁,
+        cut_kept A B P 𝓞 𝓟 φ keeps basis p c made.given (each_cut P 𝓞 basis p low high c made),
+        map_take φ p c₁,
+        map_drop φ p c₁,
         map-append,
       )
       (ap₂ ◌++◌ (kept low (take p c₁) made.low) (kept high (drop p c₁) made.high))
 
-pub arranged-kept : (A B : Type 0) → ArrangedKept A B
-arranged-kept A B P 𝓞 𝓟 φ keeps basis tree c made = kept P 𝓞 𝓟 φ keeps basis tree c made
+pub arranged_kept : (A B : Type 0) → ArrangedKept A B
+arranged_kept A B P 𝓞 𝓟 φ keeps basis tree c made = kept P 𝓞 𝓟 φ keeps basis tree c made

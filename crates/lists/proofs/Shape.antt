@@ -5,79 +5,79 @@ use mathlib.Core.List.{List, [], ◌∷◌, ◌++◌}
 use Prim.Native.Nat.{ℕ, zero, suc, ◌-◌, ◌^◌, ◌≤◌, ◌<◌}
 use native.Mathlib.Omega.{arith}
 use borrow.Author.Tests.{lt-ltb, le-ltb, ltb-false, eqb-false, not-false}
-use Rattle.number.specs.Limits.{planLimit}
-use Rattle.number.specs.Refusal.{Test, firstRefusal, unlessRefused, Numbered, NoneHolds}
-use Rattle.number.specs.Tests.{noBoundaries}
+use Rattle.number.specs.Limits.{plan_limit}
+use Rattle.number.specs.Refusal.{Test, first_refusal, unless_refused, Numbered, NoneHolds}
+use Rattle.number.specs.Tests.{no_boundaries}
 use Rattle.number.specs.inside.Between.{Between}
-use Rattle.number.proofs.Refusal.{none-holds, first-kept, first-of-more}
-use Rattle.lists.specs.ListCall.{noLists}
-use Rattle.lists.specs.inside.Shape.{earlyTests, earlyRefusal, refusalBy, shape_of}
+use Rattle.number.proofs.Refusal.{none_holds, first_kept, first_of_more}
+use Rattle.lists.specs.ListCall.{no_lists}
+use Rattle.lists.specs.inside.Shape.{early_tests, early_refusal, refusal_by, shape_of}
 
 -- ---- the tests of the list calls
 
 -- n coefficients that pass every test ahead of the boundaries
 pub record Early (n : ℕ) (small : Bool) (room : ℕ) : Type 0 where
-  pub degree : Between 1 (n - 1) planLimit
-  pub is-small : small ≡ true
+  pub degree : Between 1 (n - 1) plan_limit
+  pub is_small : small ≡ true
   pub holds : n ≤ room
 
 module _ (n : ℕ) (small : Bool) (room : ℕ) where
-  numbered : Numbered (earlyTests n small room)
+  numbered : Numbered (early_tests n small room)
   numbered = (omega arith, (omega arith, (omega arith, (omega arith, tt))))
 
-  facts : (more : List Test) → NoneHolds (earlyTests n small room ++ more) → Early n small room
+  facts : (more : List Test) → NoneHolds (early_tests n small room ++ more) → Early n small room
   facts more tests = record {
-    degree = record { from = let some = eqb-false (n - 1) 0 tests.1.0 in omega arith; to = ltb-false planLimit (n - 1) tests.0 };
-    is-small = not-false small tests.1.1.0;
+    degree = record { from = let some = eqb-false (n - 1) 0 tests.1.0 in omega arith; to = ltb-false plan_limit (n - 1) tests.0 };
+    is_small = not-false small tests.1.1.0;
     holds = ltb-false room n tests.1.1.1.0;
   }
 
-  pub early-passed : earlyRefusal n small room ≡ 0 → Early n small room
-  unfolding earlyRefusal
-  early-passed none = facts [] (none-holds (earlyTests n small room) numbered none)
+  pub early_passed : early_refusal n small room ≡ 0 → Early n small room
+  unfolding early_refusal
+  early_passed none = facts [] (none_holds (early_tests n small room) numbered none)
 
   module _ (boundaries lists : ℕ) where
     -- an early refusal is the call's
-    pub early-refused : 0 < earlyRefusal n small room → refusalBy n small room boundaries lists ≡ earlyRefusal n small room
-    unfolding earlyRefusal refusalBy
-    early-refused some = first-kept (earlyTests n small room) (noBoundaries boundaries lists ∷ []) some
+    pub early_refused : 0 < early_refusal n small room → refusal_by n small room boundaries lists ≡ early_refusal n small room
+    unfolding early_refusal refusal_by
+    early_refused some = first_kept (early_tests n small room) (no_boundaries boundaries lists ∷ []) some
 
-    module _ (none : earlyRefusal n small room ≡ 0) where
-      late : refusalBy n small room boundaries lists ≡ firstRefusal (noBoundaries boundaries lists ∷ [])
-      unfolding earlyRefusal refusalBy
-      late = first-of-more (earlyTests n small room) (noBoundaries boundaries lists ∷ []) numbered none
+    module _ (none : early_refusal n small room ≡ 0) where
+      late : refusal_by n small room boundaries lists ≡ first_refusal (no_boundaries boundaries lists ∷ [])
+      unfolding early_refusal refusal_by
+      late = first_of_more (early_tests n small room) (no_boundaries boundaries lists ∷ []) numbered none
 
       -- too few boundaries
-      pub late-refused : boundaries < lists → refusalBy n small room boundaries lists ≡ 22
-      late-refused short = late ∙ rw (lt-ltb boundaries lists short)
+      pub late_refused : boundaries < lists → refusal_by n small room boundaries lists ≡ 22
+      late_refused short = late ∙ rw (lt-ltb boundaries lists short)
 
-      pub none-refused : lists ≤ boundaries → refusalBy n small room boundaries lists ≡ 0
-      none-refused long = late ∙ rw (le-ltb boundaries lists long)
+      pub none_refused : lists ≤ boundaries → refusal_by n small room boundaries lists ≡ 0
+      none_refused long = late ∙ rw (le-ltb boundaries lists long)
 
     -- no refusal: every test passed
-    pub all-passed : refusalBy n small room boundaries lists ≡ 0 → Early n small room × (lists ≤ boundaries)
-    unfolding refusalBy
-    all-passed none =
-        let tests : List Test = earlyTests n small room ++ (noBoundaries boundaries lists ∷ []) in
+    pub all_passed : refusal_by n small room boundaries lists ≡ 0 → Early n small room × (lists ≤ boundaries)
+    unfolding refusal_by
+    all_passed none =
+        let tests : List Test = early_tests n small room ++ (no_boundaries boundaries lists ∷ []) in
         let all : Numbered tests = (omega arith, (omega arith, (omega arith, (omega arith, (omega arith, tt))))) in
-        let passed = none-holds tests all none in
-        (facts (noBoundaries boundaries lists ∷ []) passed, ltb-false boundaries lists passed.1.1.1.1.0)
+        let passed = none_holds tests all none in
+        (facts (no_boundaries boundaries lists ∷ []) passed, ltb-false boundaries lists passed.1.1.1.1.0)
 
 -- ---- the shape
 
 -- after a refusal the other numbers do not matter
 pub zeros : (refusal n split lists : ℕ) → 0 < refusal → shape_of refusal 0 0 0 ≡ shape_of refusal n split lists
-unfolding shape_of unlessRefused
+unfolding shape_of unless_refused
 zeros zero n split lists some = absurd (omega arith)
 zeros (suc k) n split lists some = refl
 
-pub zero-shape : (refusal : ℕ) → 0 < refusal → record { split = 0; answer = noLists refusal } ≡ shape_of refusal 0 0 0
-unfolding shape_of unlessRefused
-zero-shape zero some = absurd (omega arith)
-zero-shape (suc k) some = refl
+pub zero_shape : (refusal : ℕ) → 0 < refusal → record { split = 0; answer = no_lists refusal } ≡ shape_of refusal 0 0 0
+unfolding shape_of unless_refused
+zero_shape zero some = absurd (omega arith)
+zero_shape (suc k) some = refl
 
 -- without a refusal all of them stand
-pub full-shape : {refusal split lists : ℕ} (n : ℕ) {s l base : ℕ} → refusal ≡ 0 → s ≡ split → l ≡ lists → base ≡ 2 ^ s
+pub full_shape : {refusal split lists : ℕ} (n : ℕ) {s l base : ℕ} → refusal ≡ 0 → s ≡ split → l ≡ lists → base ≡ 2 ^ s
     → record { split = s; answer = record { refusal = 0; degree = n - 1; base = base; coefficients = n; lists = l } } ≡ shape_of refusal n split lists
-unfolding shape_of unlessRefused
-full-shape n none split-is lists-is base-is = rw (none, base-is, split-is, lists-is)
+unfolding shape_of unless_refused
+full_shape n none split_is lists_is base_is = rw (none, base_is, split_is, lists_is)

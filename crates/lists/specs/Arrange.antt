@@ -12,16 +12,16 @@ arranged 𝓞 basis (cut p low high) c =
     arranged 𝓞 basis low (take p (cut_at 𝓞 basis p c)) ++ arranged 𝓞 basis high (drop p (cut_at 𝓞 basis p c))
 
 -- how many lists there are
-unfoldable pub leavesOf : Tree → ℕ
-leavesOf leaf = 1
-leavesOf (cut p low high) = leavesOf low + leavesOf high
+unfoldable pub leaves_of : Tree → ℕ
+leaves_of leaf = 1
+leaves_of (cut p low high) = leaves_of low + leaves_of high
 
 -- the lengths of the lists of n coefficients
-unfoldable pub lengthsOf : Tree → (n : ℕ) → List ℕ
-lengthsOf leaf n = n ∷ []
-lengthsOf (cut p low high) n = lengthsOf low p ++ lengthsOf high (n - p)
+unfoldable pub lengths_of : Tree → (n : ℕ) → List ℕ
+lengths_of leaf n = n ∷ []
+lengths_of (cut p low high) n = lengths_of low p ++ lengths_of high (n - p)
 
 -- boundary i is the place just past list i; the n coefficients stand from place `at` on
-unfoldable pub endsOf : Tree → (at n : ℕ) → List ℕ
-endsOf leaf at n = (at + n) ∷ []
-endsOf (cut p low high) at n = endsOf low at p ++ endsOf high (at + p) (n - p)
+unfoldable pub ends_of : Tree → (at n : ℕ) → List ℕ
+ends_of leaf at n = (at + n) ∷ []
+ends_of (cut p low high) at n = ends_of low at p ++ ends_of high (at + p) (n - p)

@@ -1,6 +1,6 @@
 // The list calls' answer, which numbers alone decide.
 ghost use Rattle.std.specs.Prelude.{◌≡◌, ◌<◌};
-ghost use Rattle.lists.specs.inside.Shape.{earlyRefusal, shape_of, planShape};
+ghost use Rattle.lists.specs.inside.Shape.{early_refusal, shape_of, plan_shape};
 
 use super::count::{count_lists, relists};
 use counts::{SplitStrategy, split_for_strategy};
@@ -25,7 +25,7 @@ pub struct Shape {
 
 // The first test ahead of the boundaries that holds for n coefficients, small enough or not, and `room` places; or 0.
 fn early_refusal(n: usize, small: bool, room: usize) -> u8
-    ensures { result ≡ earlyRefusal n small room }
+    ensures { result ≡ early_refusal n small room }
 {
     let degree = degree_of(n);
     if PLAN_LIMIT < degree {
@@ -67,7 +67,7 @@ pub fn shape_for(
     room: usize,
     boundaries: usize,
 ) -> Shape
-    ensures { result ≡ planShape strategy parity basis n small room boundaries }
+    ensures { result ≡ plan_shape strategy parity basis n small room boundaries }
 {
     let early = early_refusal(n, small, room);
     if 0 < early {

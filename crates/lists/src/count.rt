@@ -1,12 +1,12 @@
 // How many lists a degree gives: the plan tree without any coefficient.
 ghost use Rattle.std.specs.Prelude.{◌≡◌, ◌&&◌, ◌-◌, ◌≤◌, ◌<◌, ◌^◌};
-ghost use Rattle.number.specs.Bits.{bitLen};
-ghost use Rattle.number.specs.Limits.{planLimit};
+ghost use Rattle.number.specs.Bits.{bit_len};
+ghost use Rattle.number.specs.Limits.{plan_limit};
 ghost use Rattle.number.specs.inside.Between.{Between};
-ghost use Rattle.counts.specs.MinDepth.{minDepth};
-ghost use Rattle.lists.specs.Tree.{listedAgain, tree_of};
+ghost use Rattle.counts.specs.MinDepth.{min_depth};
+ghost use Rattle.lists.specs.Tree.{listed_again, tree_of};
 ghost use Rattle.lists.specs.Tree as tree;
-ghost use Rattle.lists.specs.Arrange.{leavesOf};
+ghost use Rattle.lists.specs.Arrange.{leaves_of};
 ghost use Rattle.lists.specs.inside.Listing.{Ranges};
 
 use counts::{SplitStrategy, min_depth_split};
@@ -24,8 +24,8 @@ pub fn relists(strategy: SplitStrategy) -> bool
 
 // The split at which a slice is listed again.
 pub fn smaller_split(degree: usize) -> usize
-    requires { Between 1 degree planLimit }
-    ensures { result ≡ minDepth (bitLen degree) }
+    requires { Between 1 degree plan_limit }
+    ensures { result ≡ min_depth (bit_len degree) }
 {
     let choice = min_depth_split(degree);
     choice.split
@@ -34,7 +34,7 @@ pub fn smaller_split(degree: usize) -> usize
 // Whether a slice is listed again at a smaller split: the leading one, near the end of the whole degree's power of two.
 pub fn listed_again(leading: bool, whole: usize, degree: usize, split: usize) -> bool
     requires { Ranges whole degree split }
-    ensures { result ≡ (leading && listedAgain whole degree split) }
+    ensures { result ≡ (leading && listed_again whole degree split) }
 {
     if !leading || degree < 1 || split < 2 {
         return false;
@@ -47,8 +47,8 @@ pub fn listed_again(leading: bool, whole: usize, degree: usize, split: usize) ->
 
 // The number of lists of the low part of a degree from the base on: each is as long as the base.
 pub fn low_lists(degree: usize, split: usize) -> usize
-    requires { (2 ^ split ≤ degree) × (degree ≤ planLimit) }
-    ensures { result ≡ 2 ^ (bitLen degree - 1 - split) }
+    requires { (2 ^ split ≤ degree) × (degree ≤ plan_limit) }
+    ensures { result ≡ 2 ^ (bit_len degree - 1 - split) }
 {
     power_of_two(bit_len(degree) - 1 - split)
 }
@@ -57,7 +57,7 @@ pub fn low_lists(degree: usize, split: usize) -> usize
 #[cycle(count_lists_count_slice)]
 pub fn count_lists(leading: bool, whole: usize, degree: usize, split: usize) -> usize
     requires { Ranges whole degree split }
-    ensures { result ≡ leavesOf (tree_of leading whole degree split) }
+    ensures { result ≡ leaves_of (tree_of leading whole degree split) }
 {
     let base = power_of_two(split);
     if degree < base {
@@ -73,7 +73,7 @@ pub fn count_lists(leading: bool, whole: usize, degree: usize, split: usize) -> 
 #[cycle(count_lists_count_slice)]
 fn count_slice(leading: bool, whole: usize, degree: usize, split: usize) -> usize
     requires { Ranges whole degree split × (degree < 2 ^ split) }
-    ensures { result ≡ leavesOf (tree_of leading whole degree split) }
+    ensures { result ≡ leaves_of (tree_of leading whole degree split) }
 {
     if listed_again(leading, whole, degree, split) {
         return count_lists(leading, whole, degree, smaller_split(degree));

@@ -2,8 +2,8 @@
 ghost use Rattle.std.specs.Prelude.{◌≡◌, ◌+◌, ◌≤◌, ◌<◌, ◌^◌, length};
 ghost use Rattle.std.proofs.lemmas.List.Edits.{sets};
 ghost use Rattle.algebra.specs.Cut.{cut_at};
-ghost use Rattle.number.specs.Numbers.{floatOps, floatNumbers};
-ghost use Rattle.number.specs.Tests.{degreeOf};
+ghost use Rattle.number.specs.Numbers.{float_ops, float_numbers};
+ghost use Rattle.number.specs.Tests.{degree_of};
 ghost use Rattle.lists.specs.Tree.{tree_of};
 ghost use Rattle.lists.specs.ListCall.{ListCall};
 ghost use Rattle.lists.specs.inside.Listing.{Listable, InPlace};
@@ -16,7 +16,7 @@ use number::{Basis, Parity, factorize_coeffs_chebyshev_f64, power_of_two, top_po
 // The coefficients cut at p.
 fn cut_coeffs_f64(basis: Basis, p: usize, c: &mut [f64])
     requires { (p < length c.old) × (length c.old ≤ p + p) }
-    ensures { c.new ≡ cut_at floatOps basis p c.old }
+    ensures { c.new ≡ cut_at float_ops basis p c.old }
 {
     match basis {
         Basis::Monomial => {}
@@ -38,7 +38,7 @@ fn list_coeffs_f64(
     bounds: &mut [u16],
 ) -> usize
     requires { Listable leading whole split at n c.old bounds.old }
-    ensures { InPlace floatOps basis (tree_of leading whole (degreeOf c.old) split) at n c.old bounds.old
+    ensures { InPlace float_ops basis (tree_of leading whole (degree_of c.old) split) at n c.old bounds.old
         result c.new bounds.new }
 {
     let base = power_of_two(split);
@@ -64,8 +64,8 @@ fn list_slice_f64(
     c: &mut [f64],
     bounds: &mut [u16],
 ) -> usize
-    requires { Listable leading whole split at n c.old bounds.old × (degreeOf c.old < 2 ^ split) }
-    ensures { InPlace floatOps basis (tree_of leading whole (degreeOf c.old) split) at n c.old bounds.old
+    requires { Listable leading whole split at n c.old bounds.old × (degree_of c.old < 2 ^ split) }
+    ensures { InPlace float_ops basis (tree_of leading whole (degree_of c.old) split) at n c.old bounds.old
         result c.new bounds.new }
 {
     let degree = c.len() - 1;
@@ -98,7 +98,7 @@ pub fn decompose_bsgs_f64(
     out: &mut [f64],
     bounds: &mut [u16],
 ) -> Listed
-    ensures { ListCall floatNumbers strategy parity basis c.now out.old bounds.old
+    ensures { ListCall float_numbers strategy parity basis c.now out.old bounds.old
         result out.new bounds.new }
 {
     let n = c.len();

@@ -1,11 +1,11 @@
 // Listing whole coefficients in place.
 ghost use Rattle.std.specs.Prelude.{◌≡◌, ◌+◌, ◌≤◌, ◌<◌, ◌^◌, length};
-ghost use Rattle.algebra.specs.Operations.{wholeOps};
+ghost use Rattle.algebra.specs.Operations.{whole_ops};
 ghost use Rattle.algebra.specs.Cut.{cut_at};
-ghost use Rattle.number.specs.Numbers.{wholeNumbers};
+ghost use Rattle.number.specs.Numbers.{whole_numbers};
 ghost use Rattle.number.specs.Exact.{AllTo52};
 ghost use Rattle.number.specs.inside.Room.{SumByLengthTo53};
-ghost use Rattle.number.specs.Tests.{degreeOf};
+ghost use Rattle.number.specs.Tests.{degree_of};
 ghost use Rattle.lists.specs.Tree.{tree_of};
 ghost use Rattle.lists.specs.ListCall.{ListCall};
 ghost use Rattle.lists.specs.inside.Listing.{Listable, InPlace};
@@ -20,7 +20,7 @@ use number::{
 // The coefficients cut at p.
 fn cut_coeffs(basis: Basis, p: usize, c: &mut [i64])
     requires { (p < length c.old) × ((length c.old ≤ p + p) × AllTo52 c.old) }
-    ensures { c.new ≡ cut_at wholeOps basis p c.old }
+    ensures { c.new ≡ cut_at whole_ops basis p c.old }
 {
     match basis {
         Basis::Monomial => {}
@@ -42,7 +42,7 @@ pub fn list_coeffs(
     bounds: &mut [u16],
 ) -> usize
     requires { Listable leading whole split at n c.old bounds.old × SumByLengthTo53 c.old }
-    ensures { InPlace wholeOps basis (tree_of leading whole (degreeOf c.old) split) at n c.old bounds.old
+    ensures { InPlace whole_ops basis (tree_of leading whole (degree_of c.old) split) at n c.old bounds.old
         result c.new bounds.new }
 {
     let base = power_of_two(split);
@@ -68,8 +68,8 @@ fn list_slice(
     c: &mut [i64],
     bounds: &mut [u16],
 ) -> usize
-    requires { Listable leading whole split at n c.old bounds.old × (SumByLengthTo53 c.old × (degreeOf c.old < 2 ^ split)) }
-    ensures { InPlace wholeOps basis (tree_of leading whole (degreeOf c.old) split) at n c.old bounds.old
+    requires { Listable leading whole split at n c.old bounds.old × (SumByLengthTo53 c.old × (degree_of c.old < 2 ^ split)) }
+    ensures { InPlace whole_ops basis (tree_of leading whole (degree_of c.old) split) at n c.old bounds.old
         result c.new bounds.new }
 {
     let degree = c.len() - 1;
@@ -90,7 +90,7 @@ pub fn decompose_bsgs(
     out: &mut [i64],
     bounds: &mut [u16],
 ) -> Listed
-    ensures { ListCall wholeNumbers strategy parity basis c.now out.old bounds.old
+    ensures { ListCall whole_numbers strategy parity basis c.now out.old bounds.old
         result out.new bounds.new }
 {
     let n = c.len();

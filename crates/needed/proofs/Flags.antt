@@ -6,9 +6,9 @@ use Prim.Native.Nat.{ℕ, ◌≤◌}
 use native.Mathlib.Omega.{arith}
 
 -- by whether a test holds
-pub by-test : (P : Bool → Type 0) (test : Bool) → (test ≡ true → P true) → (test ≡ false → P false) → P test
-by-test P true holds fails = holds refl
-by-test P false holds fails = fails refl
+pub by_test : (P : Bool → Type 0) (test : Bool) → (test ≡ true → P true) → (test ≡ false → P false) → P test
+by_test P true holds fails = holds refl
+by_test P false holds fails = fails refl
 
 -- one or none
 pub at_most_one : (test : Bool) → cond test 1 0 ≤ 1

@@ -14,14 +14,14 @@ use Rattle.algebra.specs.declared.Basis.{Basis}
 use Rattle.algebra.specs.declared.Basis.TheVariants.{Monomial, Chebyshev}
 use Rattle.number.specs.Split.{parts_of}
 use Rattle.needed.specs.Needed.{Part, first, second, apart}
-use Rattle.needed.specs.inside.Marks.{Marked, markAt, markApart, markParts, sweepAt}
+use Rattle.needed.specs.inside.Marks.{Marked, mark_at, mark_apart, mark_parts, sweep_at}
 use Rattle.number.proofs.SplitParts.{parted}
-use Rattle.needed.proofs.Flags.{by-test}
+use Rattle.needed.proofs.Flags.{by_test}
 
-pub marked-below : (marks : List Bool) (n : ℕ) → Marked marks n → n < length marks
-marked-below [] n marked = let clash : ◌≡◌ {A = ℕ} 0 1 = cc in omega arith
-marked-below (x ∷ marks) zero marked = omega arith
-marked-below (x ∷ marks) (suc n) marked = let rest = marked-below marks n marked in omega arith
+pub marked_below : (marks : List Bool) (n : ℕ) → Marked marks n → n < length marks
+marked_below [] n marked = let clash : ◌≡◌ {A = ℕ} 0 1 = cc in omega arith
+marked_below (x ∷ marks) zero marked = omega arith
+marked_below (x ∷ marks) (suc n) marked = let rest = marked_below marks n marked in omega arith
 
 set_keeps : (marks : List Bool) (i m : ℕ) → Marked marks m → Marked (set marks i true) m
 set_keeps [] i m marked = marked
@@ -30,164 +30,164 @@ set_keeps (x ∷ marks) zero (suc m) marked = marked
 set_keeps (x ∷ marks) (suc i) zero marked = marked
 set_keeps (x ∷ marks) (suc i) (suc m) marked = set_keeps marks i m marked
 
-set-only : (marks : List Bool) (i m : ℕ) → Marked (set marks i true) m → (m ≡ i) ⊎ Marked marks m
-set-only [] i m marked = inr marked
-set-only (x ∷ marks) zero zero marked = inl refl
-set-only (x ∷ marks) zero (suc m) marked = inr marked
-set-only (x ∷ marks) (suc i) zero marked = inr marked
-set-only (x ∷ marks) (suc i) (suc m) marked = ⊎_elim (λ same. inl (ap suc same)) (λ old. inr old) (set-only marks i m marked)
+set_only : (marks : List Bool) (i m : ℕ) → Marked (set marks i true) m → (m ≡ i) ⊎ Marked marks m
+set_only [] i m marked = inr marked
+set_only (x ∷ marks) zero zero marked = inl refl
+set_only (x ∷ marks) zero (suc m) marked = inr marked
+set_only (x ∷ marks) (suc i) zero marked = inr marked
+set_only (x ∷ marks) (suc i) (suc m) marked = ⊎_elim (λ same. inl (ap suc same)) (λ old. inr old) (set_only marks i m marked)
 
 -- ---- one mark
 
 module _ (i : ℕ) (marks : List Bool) where
-  pub mark-length : length (markAt i marks) ≡ length marks
-  unfolding markAt
-  mark-length = by-test (λ (b : Bool). length (cond b (set marks i true) marks) ≡ length marks) (ltb 1 i) (λ is. length-set marks i true) (λ is. refl)
+  pub mark_length : length (mark_at i marks) ≡ length marks
+  unfolding mark_at
+  mark_length = by_test (λ (b : Bool). length (cond b (set marks i true) marks) ≡ length marks) (ltb 1 i) (λ is. length-set marks i true) (λ is. refl)
 
-  mark-keeps : (m : ℕ) → Marked marks m → Marked (markAt i marks) m
-  unfolding markAt
-  mark-keeps m marked = by-test (λ (b : Bool). Marked (cond b (set marks i true) marks) m) (ltb 1 i) (λ is. set_keeps marks i m marked) (λ is. marked)
+  mark_keeps : (m : ℕ) → Marked marks m → Marked (mark_at i marks) m
+  unfolding mark_at
+  mark_keeps m marked = by_test (λ (b : Bool). Marked (cond b (set marks i true) marks) m) (ltb 1 i) (λ is. set_keeps marks i m marked) (λ is. marked)
 
-  mark-here : 1 < i → i < length marks → Marked (markAt i marks) i
-  unfolding markAt
-  mark-here above inside = rw (lt-ltb 1 i above) (get_or-set_same marks i true false inside)
+  mark_here : 1 < i → i < length marks → Marked (mark_at i marks) i
+  unfolding mark_at
+  mark_here above inside = rw (lt-ltb 1 i above) (get_or-set_same marks i true false inside)
 
-  mark-other : (m : ℕ) → m ≢ i → get_or (markAt i marks) m false ≡ get_or marks m false
-  unfolding markAt
-  mark-other m other =
-      by-test (λ (b : Bool). get_or (cond b (set marks i true) marks) m false ≡ get_or marks m false) (ltb 1 i)
+  mark_other : (m : ℕ) → m ≢ i → get_or (mark_at i marks) m false ≡ get_or marks m false
+  unfolding mark_at
+  mark_other m other =
+      by_test (λ (b : Bool). get_or (cond b (set marks i true) marks) m false ≡ get_or marks m false) (ltb 1 i)
       (λ is. get_or-set_other marks i m true false other)
       (λ is. refl)
 
-  mark-only : (m : ℕ) → Marked (markAt i marks) m → ((m ≡ i) × (1 < i)) ⊎ Marked marks m
-  unfolding markAt
-  mark-only m marked =
-      by-test (λ (b : Bool). Marked (cond b (set marks i true) marks) m → ((m ≡ i) × (1 < i)) ⊎ Marked marks m) (ltb 1 i)
-      (λ is new. ⊎_elim (λ same. inl (same, ltb-true 1 i is)) (λ old. inr old) (set-only marks i m new))
+  mark_only : (m : ℕ) → Marked (mark_at i marks) m → ((m ≡ i) × (1 < i)) ⊎ Marked marks m
+  unfolding mark_at
+  mark_only m marked =
+      by_test (λ (b : Bool). Marked (cond b (set marks i true) marks) m → ((m ≡ i) × (1 < i)) ⊎ Marked marks m) (ltb 1 i)
+      (λ is new. ⊎_elim (λ same. inl (same, ltb-true 1 i is)) (λ old. inr old) (set_only marks i m new))
       (λ is old. inr old) marked
 
 -- ---- the distance
 
 module _ (n : ℕ) (marks : List Bool) where
-  pub apart-monomial : {basis : Basis} → basis ≡ Monomial → markApart basis n marks ≡ marks
-  unfolding markApart
-  apart-monomial in-monomial = rw in-monomial
+  pub apart_monomial : {basis : Basis} → basis ≡ Monomial → mark_apart basis n marks ≡ marks
+  unfolding mark_apart
+  apart_monomial in_monomial = rw in_monomial
 
-  pub apart-chebyshev : {basis : Basis} → basis ≡ Chebyshev → markApart basis n marks ≡ markAt (parts_of n).distance marks
-  unfolding markApart
-  apart-chebyshev in-chebyshev = rw in-chebyshev
+  pub apart_chebyshev : {basis : Basis} → basis ≡ Chebyshev → mark_apart basis n marks ≡ mark_at (parts_of n).distance marks
+  unfolding mark_apart
+  apart_chebyshev in_chebyshev = rw in_chebyshev
 
-  pub apart-length : (basis : Basis) → length (markApart basis n marks) ≡ length marks
-  unfolding markApart
-  apart-length Monomial = refl
-  apart-length Chebyshev = mark-length (parts_of n).distance marks
+  pub apart_length : (basis : Basis) → length (mark_apart basis n marks) ≡ length marks
+  unfolding mark_apart
+  apart_length Monomial = refl
+  apart_length Chebyshev = mark_length (parts_of n).distance marks
 
-  apart-keeps : (basis : Basis) (m : ℕ) → Marked marks m → Marked (markApart basis n marks) m
-  unfolding markApart
-  apart-keeps Monomial m marked = marked
-  apart-keeps Chebyshev m marked = mark-keeps (parts_of n).distance marks m marked
+  apart_keeps : (basis : Basis) (m : ℕ) → Marked marks m → Marked (mark_apart basis n marks) m
+  unfolding mark_apart
+  apart_keeps Monomial m marked = marked
+  apart_keeps Chebyshev m marked = mark_keeps (parts_of n).distance marks m marked
 
-  apart_other : (basis : Basis) (m : ℕ) → m ≢ (parts_of n).distance → get_or (markApart basis n marks) m false ≡ get_or marks m false
-  unfolding markApart
+  apart_other : (basis : Basis) (m : ℕ) → m ≢ (parts_of n).distance → get_or (mark_apart basis n marks) m false ≡ get_or marks m false
+  unfolding mark_apart
   apart_other Monomial m other = refl
-  apart_other Chebyshev m other = mark-other (parts_of n).distance marks m other
+  apart_other Chebyshev m other = mark_other (parts_of n).distance marks m other
 
-  apart-here : (basis : Basis) (m : ℕ) → basis ≡ Chebyshev → 1 < m → m ≡ (parts_of n).distance → m < length marks
-      → Marked (markApart basis n marks) m
-  unfolding markApart
-  apart-here basis m in-chebyshev above is inside =
-      let here : Marked (markAt m marks) m = mark-here m marks above inside in
-      rw (in-chebyshev, ← is) here
+  apart_here : (basis : Basis) (m : ℕ) → basis ≡ Chebyshev → 1 < m → m ≡ (parts_of n).distance → m < length marks
+      → Marked (mark_apart basis n marks) m
+  unfolding mark_apart
+  apart_here basis m in_chebyshev above is inside =
+      let here : Marked (mark_at m marks) m = mark_here m marks above inside in
+      rw (in_chebyshev, ← is) here
 
-  apart-only : (basis : Basis) (m : ℕ) → Marked (markApart basis n marks) m → Part basis n m ⊎ Marked marks m
-  unfolding markApart
-  apart-only Monomial m marked = inr marked
-  apart-only Chebyshev m marked =
+  apart_only : (basis : Basis) (m : ℕ) → Marked (mark_apart basis n marks) m → Part basis n m ⊎ Marked marks m
+  unfolding mark_apart
+  apart_only Monomial m marked = inr marked
+  apart_only Chebyshev m marked =
       ⊎_elim (λ new. inl (apart refl (rw new.0 new.1) new.0)) (λ old. inr old)
-      (mark-only (parts_of n).distance marks m marked)
+      (mark_only (parts_of n).distance marks m marked)
 
 -- ---- all parts
 
 module _ (basis : Basis) (n : ℕ) (marks : List Bool) where
   -- the marks after the distance, and after the first part
-  abbrev one-made : List Bool
-  one-made = markApart basis n marks
+  abbrev one_made : List Bool
+  one_made = mark_apart basis n marks
 
   abbrev two_made : List Bool
-  two_made = markAt (parts_of n).a one-made
+  two_made = mark_at (parts_of n).a one_made
 
-  parts-keep : (m : ℕ) → Marked marks m → Marked (markParts basis n marks) m
-  unfolding markParts
-  parts-keep m marked = mark-keeps (parts_of n).b two_made m (mark-keeps (parts_of n).a one-made m (apart-keeps n marks basis m marked))
+  parts_keep : (m : ℕ) → Marked marks m → Marked (mark_parts basis n marks) m
+  unfolding mark_parts
+  parts_keep m marked = mark_keeps (parts_of n).b two_made m (mark_keeps (parts_of n).a one_made m (apart_keeps n marks basis m marked))
 
-  parts-length : length (markParts basis n marks) ≡ length marks
-  unfolding markParts
-  parts-length = mark-length (parts_of n).b two_made ∙ mark-length (parts_of n).a one-made ∙ apart-length n marks basis
+  parts_length : length (mark_parts basis n marks) ≡ length marks
+  unfolding mark_parts
+  parts_length = mark_length (parts_of n).b two_made ∙ mark_length (parts_of n).a one_made ∙ apart_length n marks basis
 
-  parts-here : (m : ℕ) → Part basis n m → m < length marks → Marked (markParts basis n marks) m
-  unfolding markParts
-  parts-here m (first above is) inside =
-      let same_length = apart-length n marks basis in
-      let here : Marked (markAt m one-made) m = mark-here m one-made above (omega arith) in
-      mark-keeps (parts_of n).b two_made m (subst (λ (x : ℕ). Marked (markAt x one-made) m) is here)
-  parts-here m (second above is) inside =
-      let same_length = apart-length n marks basis in
-      let same-length' = mark-length (parts_of n).a one-made in
-      let here : Marked (markAt m two_made) m = mark-here m two_made above (omega arith) in
-      subst (λ (x : ℕ). Marked (markAt x two_made) m) is here
-  parts-here m (apart in-chebyshev above is) inside =
-      mark-keeps (parts_of n).b two_made m (mark-keeps (parts_of n).a one-made m (apart-here n marks basis m in-chebyshev above is inside))
+  parts_here : (m : ℕ) → Part basis n m → m < length marks → Marked (mark_parts basis n marks) m
+  unfolding mark_parts
+  parts_here m (first above is) inside =
+      let same_length = apart_length n marks basis in
+      let here : Marked (mark_at m one_made) m = mark_here m one_made above (omega arith) in
+      mark_keeps (parts_of n).b two_made m (subst (λ (x : ℕ). Marked (mark_at x one_made) m) is here)
+  parts_here m (second above is) inside =
+      let same_length = apart_length n marks basis in
+      let same_length' = mark_length (parts_of n).a one_made in
+      let here : Marked (mark_at m two_made) m = mark_here m two_made above (omega arith) in
+      subst (λ (x : ℕ). Marked (mark_at x two_made) m) is here
+  parts_here m (apart in_chebyshev above is) inside =
+      mark_keeps (parts_of n).b two_made m (mark_keeps (parts_of n).a one_made m (apart_here n marks basis m in_chebyshev above is inside))
 
-  parts-only : (m : ℕ) → Marked (markParts basis n marks) m → Part basis n m ⊎ Marked marks m
-  unfolding markParts
-  parts-only m marked =
+  parts_only : (m : ℕ) → Marked (mark_parts basis n marks) m → Part basis n m ⊎ Marked marks m
+  unfolding mark_parts
+  parts_only m marked =
       ⊎_elim (λ new. inl (second (rw new.0 new.1) new.0))
-      (λ old. ⊎_elim (λ new. inl (first (rw new.0 new.1) new.0)) (apart-only n marks basis m) (mark-only (parts_of n).a one-made m old))
-      (mark-only (parts_of n).b two_made m marked)
+      (λ old. ⊎_elim (λ new. inl (first (rw new.0 new.1) new.0)) (apart_only n marks basis m) (mark_only (parts_of n).a one_made m old))
+      (mark_only (parts_of n).b two_made m marked)
 
-  parts-above : (m : ℕ) → 2 ≤ n → n ≤ m → get_or (markParts basis n marks) m false ≡ get_or marks m false
-  unfolding markParts
-  parts-above m from-two above =
-      let two = parted n from-two in
-      mark-other (parts_of n).b two_made m (omega arith) ∙ mark-other (parts_of n).a one-made m (omega arith) ∙ apart_other n marks basis m (omega arith)
+  parts_above : (m : ℕ) → 2 ≤ n → n ≤ m → get_or (mark_parts basis n marks) m false ≡ get_or marks m false
+  unfolding mark_parts
+  parts_above m from_two above =
+      let two = parted n from_two in
+      mark_other (parts_of n).b two_made m (omega arith) ∙ mark_other (parts_of n).a one_made m (omega arith) ∙ apart_other n marks basis m (omega arith)
 
 -- ---- one place of the sweep
 
 module _ (basis : Basis) (n : ℕ) (marks : List Bool) where
-  pub place-length : length (sweepAt basis n marks) ≡ length marks
-  unfolding sweepAt
-  place-length =
-      by-test (λ (b : Bool). length (cond b (markParts basis n marks) marks) ≡ length marks) (get_or marks n false)
-      (λ is. parts-length basis n marks)
+  pub place_length : length (sweep_at basis n marks) ≡ length marks
+  unfolding sweep_at
+  place_length =
+      by_test (λ (b : Bool). length (cond b (mark_parts basis n marks) marks) ≡ length marks) (get_or marks n false)
+      (λ is. parts_length basis n marks)
       (λ is. refl)
 
-  pub place-keeps : (m : ℕ) → Marked marks m → Marked (sweepAt basis n marks) m
-  unfolding sweepAt
-  place-keeps m marked =
-      by-test (λ (b : Bool). Marked (cond b (markParts basis n marks) marks) m) (get_or marks n false) (λ is. parts-keep basis n marks m marked) (λ is. marked)
+  pub place_keeps : (m : ℕ) → Marked marks m → Marked (sweep_at basis n marks) m
+  unfolding sweep_at
+  place_keeps m marked =
+      by_test (λ (b : Bool). Marked (cond b (mark_parts basis n marks) marks) m) (get_or marks n false) (λ is. parts_keep basis n marks m marked) (λ is. marked)
 
-  pub place-above : (m : ℕ) → 2 ≤ n → n ≤ m → get_or (sweepAt basis n marks) m false ≡ get_or marks m false
-  unfolding sweepAt
-  place-above m from-two above =
-      by-test (λ (b : Bool). get_or (cond b (markParts basis n marks) marks) m false ≡ get_or marks m false) (get_or marks n false)
-      (λ is. parts-above basis n marks m from-two above)
+  pub place_above : (m : ℕ) → 2 ≤ n → n ≤ m → get_or (sweep_at basis n marks) m false ≡ get_or marks m false
+  unfolding sweep_at
+  place_above m from_two above =
+      by_test (λ (b : Bool). get_or (cond b (mark_parts basis n marks) marks) m false ≡ get_or marks m false) (get_or marks n false)
+      (λ is. parts_above basis n marks m from_two above)
       (λ is. refl)
 
-  pub place_here : (m : ℕ) → Marked marks n → Part basis n m → m < length marks → Marked (sweepAt basis n marks) m
-  unfolding sweepAt
-  place_here m marked part inside = rw marked (parts-here basis n marks m part inside)
+  pub place_here : (m : ℕ) → Marked marks n → Part basis n m → m < length marks → Marked (sweep_at basis n marks) m
+  unfolding sweep_at
+  place_here m marked part inside = rw marked (parts_here basis n marks m part inside)
 
-  pub place-only : (m : ℕ) → Marked (sweepAt basis n marks) m → (Marked marks n × Part basis n m) ⊎ Marked marks m
-  unfolding sweepAt
-  place-only m marked =
-      by-test (λ (b : Bool). Marked (cond b (markParts basis n marks) marks) m → (Marked marks n × Part basis n m) ⊎ Marked marks m) (get_or marks n false)
-      (λ is new. ⊎_elim (λ part. inl (is, part)) (λ old. inr old) (parts-only basis n marks m new))
+  pub place_only : (m : ℕ) → Marked (sweep_at basis n marks) m → (Marked marks n × Part basis n m) ⊎ Marked marks m
+  unfolding sweep_at
+  place_only m marked =
+      by_test (λ (b : Bool). Marked (cond b (mark_parts basis n marks) marks) m → (Marked marks n × Part basis n m) ⊎ Marked marks m) (get_or marks n false)
+      (λ is new. ⊎_elim (λ part. inl (is, part)) (λ old. inr old) (parts_only basis n marks m new))
       (λ is old. inr old) marked
 
-  pub place-marked : Marked marks n → sweepAt basis n marks ≡ markParts basis n marks
-  unfolding sweepAt
-  place-marked marked = rw marked
+  pub place_marked : Marked marks n → sweep_at basis n marks ≡ mark_parts basis n marks
+  unfolding sweep_at
+  place_marked marked = rw marked
 
-  pub place-unmarked : get_or marks n false ≡ false → sweepAt basis n marks ≡ marks
-  unfolding sweepAt
-  place-unmarked unmarked = rw unmarked
+  pub place_unmarked : get_or marks n false ≡ false → sweep_at basis n marks ≡ marks
+  unfolding sweep_at
+  place_unmarked unmarked = rw unmarked

@@ -5,7 +5,7 @@ use Rattle.algebra.specs.declared.Basis.{Basis}
 use Rattle.algebra.specs.declared.Basis.TheVariants.{Chebyshev}
 use Rattle.algebra.specs.declared.Parity.{Parity}
 use Rattle.number.specs.Split.{parts_of}
-use Rattle.number.specs.Bits.{topPower}
+use Rattle.number.specs.Bits.{top_power}
 
 -- m is one of those parts of the split of n that are above 1, or in Chebyshev their distance if that is at least 2
 pub data Part (basis : Basis) (n m : ℕ) : Type 0 where
@@ -19,13 +19,13 @@ pub data Needed (basis : Basis) (Target : ℕ → Type 0) : ℕ → Type 0 where
   part : {n m : ℕ} → 1 < n → Needed basis Target n → Part basis n m → Needed basis Target m
 
 -- min(base, degree + 1): the powers in slices are below it
-abbrev pub babyLimit : (degree split : ℕ) → ℕ
-babyLimit degree split = min (2 ^ split) (degree + 1)
+abbrev pub baby_limit : (degree split : ℕ) → ℕ
+baby_limit degree split = min (2 ^ split) (degree + 1)
 
 -- what is needed at once: 2^(L−1) if that is at least 2, and the allowed powers from 3 (so `Even` from 4) below min(base, degree + 1)
 pub data Target (parity : Parity) (degree split n : ℕ) : Type 0 where
-  top : 2 ≤ n → n ≡ topPower degree → Target parity degree split n
-  small : 3 ≤ n → n < babyLimit degree split → allows parity n ≡ true → Target parity degree split n
+  top : 2 ≤ n → n ≡ top_power degree → Target parity degree split n
+  small : 3 ≤ n → n < baby_limit degree split → allows parity n ≡ true → Target parity degree split n
 
 -- the powers that a degree needs at a split
 abbrev pub NeededPower : Parity → Basis → (degree split n : ℕ) → Type 0

@@ -4,9 +4,9 @@ use mathlib.Core.List.{List, [], ◌∷◌, Memᴰ}
 use Rattle.algebra.specs.Allowed.{allows}
 use Rattle.algebra.specs.declared.Basis.{Basis}
 use Rattle.algebra.specs.declared.Parity.{Parity}
-use Rattle.number.specs.Bits.{bitLen}
-use Rattle.needed.specs.Needed.{Part, Needed, babyLimit, Target, NeededPower, Least}
-use Rattle.needed.specs.NeededList.{neededList}
+use Rattle.number.specs.Bits.{bit_len}
+use Rattle.needed.specs.Needed.{Part, Needed, baby_limit, Target, NeededPower, Least}
+use Rattle.needed.specs.NeededList.{needed_list}
 
 -- each element is less than the next
 pub data Rising : List ℕ → Type 0 where
@@ -19,17 +19,17 @@ pub record NeededPowers (parity : Parity) (basis : Basis) (degree split : ℕ) :
   -- the needed powers are the least set that holds the targets and is closed under parts, in Chebyshev under their distance too
   pub least : Least basis (Target parity degree split) (NeededPower parity basis degree split)
   -- the list holds each of them, and nothing else; it rises, so it holds each once, and its length is their number
-  pub listed : (n : ℕ) → Memᴰ n (neededList parity basis degree split) ↔ NeededPower parity basis degree split n
-  pub rising : Rising (neededList parity basis degree split)
+  pub listed : (n : ℕ) → Memᴰ n (needed_list parity basis degree split) ↔ NeededPower parity basis degree split n
+  pub rising : Rising (needed_list parity basis degree split)
   -- each is from 2 to the degree, so degree below 2 needs none
-  pub from-two : (n : ℕ) → NeededPower parity basis degree split n → 2 ≤ n
+  pub from_two : (n : ℕ) → NeededPower parity basis degree split n → 2 ≤ n
   pub within : 0 < degree → (n : ℕ) → NeededPower parity basis degree split n → n ≤ degree
-  pub none-below-two : degree < 2 → (n : ℕ) → NeededPower parity basis degree split n → ⊥
+  pub none_below_two : degree < 2 → (n : ℕ) → NeededPower parity basis degree split n → ⊥
   -- a part is smaller than what it is a part of
-  pub parts-smaller : (n m : ℕ) → 2 ≤ n → Part basis n m → m < n
+  pub parts_smaller : (n m : ℕ) → 2 ≤ n → Part basis n m → m < n
   -- the powers of two up to 2^(L−1) are among them, and the allowed powers from 2 in the slices
-  pub two-powers : (k : ℕ) → 0 < k → k < bitLen degree → NeededPower parity basis degree split (2 ^ k)
-  pub allowed : (n : ℕ) → 2 ≤ n → n < babyLimit degree split → allows parity n ≡ true → NeededPower parity basis degree split n
+  pub two_powers_lem : (k : ℕ) → 0 < k → k < bit_len degree → NeededPower parity basis degree split (2 ^ k)
+  pub allowed : (n : ℕ) → 2 ≤ n → n < baby_limit degree split → allows parity n ≡ true → NeededPower parity basis degree split n
 
 -- of a union of targets the needed powers are the union of the sets
 abbrev pub Union : Basis → (ℕ → Type 0) → (ℕ → Type 0) → Type 0

@@ -6,15 +6,15 @@ use native.Mathlib.Omega.{arith}
 use lib.Ieee.{Float}
 use lib.ListN.{take, drop}
 use lib.IntN.{ℤ, nat_abs}
-use Rattle.algebra.specs.Operations.{wholeOps, double}
+use Rattle.algebra.specs.Operations.{whole_ops, double}
 use Rattle.algebra.specs.Cut.{differences, doubled, lowered, cut_at}
 use Rattle.algebra.specs.CutKept.{KeepsCuts}
 use Rattle.algebra.specs.declared.Basis.{Basis}
 use Rattle.algebra.specs.declared.Basis.TheVariants.{Monomial, Chebyshev}
-use Rattle.algebra.proofs.CutKept.{cut-kept}
-use Rattle.algebra.proofs.Each.{each_take, each-drop, each_append, each-reverse}
-use Rattle.algebra.proofs.Magnitudes.{abs-sub, abs-double}
-use Rattle.number.specs.Numbers.{floatOps}
+use Rattle.algebra.proofs.CutKept.{cut_kept}
+use Rattle.algebra.proofs.Each.{each_take, each_drop, each_append, each_reverse}
+use Rattle.algebra.proofs.Magnitudes.{abs_sub, abs_double}
+use Rattle.number.specs.Numbers.{float_ops}
 use Rattle.number.specs.Exact.{num, To53, Within}
 use Rattle.number.specs.CutSame.{CutsSame}
 use Rattle.number.proofs.Exact.{exact}
@@ -26,41 +26,41 @@ module _ (n : ℕ) where
   within_more [] h = tt
   within_more (x ∷ c) h = (omega (arith, h.0), within_more c h.1)
 
-  within-differences : (c d : List ℤ) → Within n c → Within n d → Within (n + n) (differences wholeOps c d)
+  within_differences : (c d : List ℤ) → Within n c → Within n d → Within (n + n) (differences whole_ops c d)
   unfolding differences
-  within-differences [] d g h = tt
-  within-differences (x ∷ c) [] g h = within_more (x ∷ c) g
-  within-differences (x ∷ c) (y ∷ d) g h = (omega (arith, abs-sub x y, g.0, h.0), within-differences c d g.1 h.1)
+  within_differences [] d g h = tt
+  within_differences (x ∷ c) [] g h = within_more (x ∷ c) g
+  within_differences (x ∷ c) (y ∷ d) g h = (omega (arith, abs_sub x y, g.0, h.0), within_differences c d g.1 h.1)
 
-  within-double : (c : List ℤ) → Within n c → Within (n + n) (map (double wholeOps) c)
-  within-double [] h = tt
-  within-double (x ∷ c) h = (omega (arith, abs-double x, h.0), within-double c h.1)
+  within_double : (c : List ℤ) → Within n c → Within (n + n) (map (double whole_ops) c)
+  within_double [] h = tt
+  within_double (x ∷ c) h = (omega (arith, abs_double x, h.0), within_double c h.1)
 
-  within-doubled : (c : List ℤ) → Within n c → Within (n + n) (doubled wholeOps c)
+  within_doubled : (c : List ℤ) → Within n c → Within (n + n) (doubled whole_ops c)
   unfolding doubled
-  within-doubled [] h = tt
-  within-doubled (x ∷ c) h = (omega (arith, h.0), within-double c h.1)
+  within_doubled [] h = tt
+  within_doubled (x ∷ c) h = (omega (arith, h.0), within_double c h.1)
 
-  within-cut : (basis : Basis) (p : ℕ) (c : List ℤ) → Within n c → Within (n + n) (cut_at wholeOps basis p c)
+  within_cut : (basis : Basis) (p : ℕ) (c : List ℤ) → Within n c → Within (n + n) (cut_at whole_ops basis p c)
   unfolding cut_at lowered
-  within-cut Monomial p c h = within_more c h
-  within-cut Chebyshev p c h =
+  within_cut Monomial p c h = within_more c h
+  within_cut Chebyshev p c h =
       let small : ℤ → Type 0 = λ z. nat_abs z ≤ n in
       let twice : ℤ → Type 0 = λ z. nat_abs z ≤ n + n in
       let near = reverse (take p c) in
       let far = drop (suc p) c in
-      each_append twice (lowered wholeOps p c) (doubled wholeOps (drop p c))
-      (each-reverse twice (differences wholeOps near far)
-      (within-differences near far (each-reverse small (take p c) (each_take small p c h)) (each-drop small (suc p) c h)))
-      (within-doubled (drop p c) (each-drop small p c h))
+      each_append twice (lowered whole_ops p c) (doubled whole_ops (drop p c))
+      (each_reverse twice (differences whole_ops near far)
+      (within_differences near far (each_reverse small (take p c) (each_take small p c h)) (each_drop small (suc p) c h)))
+      (within_doubled (drop p c) (each_drop small p c h))
 
 -- ---- equal numbers
 
-pub num-keeps : KeepsCuts To53 wholeOps floatOps num
-num-keeps = record { subtracted = exact.subtracted; doubled = exact.doubled }
+pub num_keeps : KeepsCuts To53 whole_ops float_ops num
+num_keeps = record { subtracted = exact.subtracted; doubled = exact.doubled }
 
-pub cuts-same : CutsSame
-cuts-same basis p c = record {
-  written = cut-kept ℤ Float To53 wholeOps floatOps num num-keeps basis p c;
-  within = within-cut (2 ^ 52) basis p c;
+pub cuts_same : CutsSame
+cuts_same basis p c = record {
+  written = cut_kept ℤ Float To53 whole_ops float_ops num num_keeps basis p c;
+  within = within_cut (2 ^ 52) basis p c;
 }

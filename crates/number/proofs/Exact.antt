@@ -9,9 +9,9 @@ use lib.Dec.{lit≤, lit<, le→leb, lt→ltb}
 use lib.IntN.{ℤ, pos, negsuc, nat_abs, ◌+ℤ◌, ◌*ℤ◌}
 use lib.Ieee.{Float, fin, binary64, add, mul, to_signed, in_float, of_int}
 use lib.Ieee.Back.{positive_back, negative_back}
-use Rattle.number.specs.Numbers.{floatOps}
+use Rattle.number.specs.Numbers.{float_ops}
 use Rattle.number.specs.Exact.{num, To53, ExactTo53}
-use Rattle.number.proofs.WholeFloats.{of-int, value-is, add-int, sub-int, mul-whole, scale-int, neg-int}
+use Rattle.number.proofs.WholeFloats.{of_int_lem, value_is, add_int, sub_int, mul_whole, scale_int, neg_int}
 
 -- a number is read back from its float
 read_back : (z : ℤ) → To53 z → to_signed 63 (num z) ≡ z
@@ -19,48 +19,48 @@ unfolding in_float
 read_back (pos a) h = (positive_back binary64 63 a (le→leb a (2 ^ 53) h) (lt_of_le_of_lt h (lit< tt))).1
 read_back (negsuc a) h = (negative_back binary64 63 a (lt→ltb a (2 ^ 53) h) (le_trans h (lit≤ tt))).1
 
-two_is : floatOps.add floatOps.one floatOps.one ≡ num (pos 2)
+two_is : float_ops.add float_ops.one float_ops.one ≡ num (pos 2)
 unfolding add of_int
 two_is = refl
 
-plus-zero : floatOps.zero ≡ num (pos 0)
+plus_zero : float_ops.zero ≡ num (pos 0)
 unfolding of_int
-plus-zero = refl
+plus_zero = refl
 
-plus_one : floatOps.one ≡ num (pos 1)
+plus_one_lem : float_ops.one ≡ num (pos 1)
 unfolding of_int
-plus_one = refl
+plus_one_lem = refl
 
-product-in-sum : (q c v : ℤ) → To53 q → To53 c → nat_abs v ≤ 2 → To53 (c *ℤ v) → To53 (q +ℤ c *ℤ v)
-    → floatOps.add (num q) (floatOps.mul (num c) (num v)) ≡ num (q +ℤ c *ℤ v)
-product-in-sum q c v hq hc hv hp hr =
-    let v-small : To53 v = le_trans hv (lit≤ tt) in
-    add-int binary64 q (mul binary64 (num c) (num v)) (c *ℤ v) hq
-    (mul-whole binary64 (num c) (num v) c v (of-int binary64 c hc) (of-int binary64 v v-small) hp)
+product_in_sum : (q c v : ℤ) → To53 q → To53 c → nat_abs v ≤ 2 → To53 (c *ℤ v) → To53 (q +ℤ c *ℤ v)
+    → float_ops.add (num q) (float_ops.mul (num c) (num v)) ≡ num (q +ℤ c *ℤ v)
+product_in_sum q c v hq hc hv hp hr =
+    let v_small : To53 v = le_trans hv (lit≤ tt) in
+    add_int binary64 q (mul binary64 (num c) (num v)) (c *ℤ v) hq
+    (mul_whole binary64 (num c) (num v) c v (of_int_lem binary64 c hc) (of_int_lem binary64 v v_small) hp)
 
-minus-zero-back : to_signed 63 (fin true 0 (pos 0)) ≡ pos 0
+minus_zero_back : to_signed 63 (fin true 0 (pos 0)) ≡ pos 0
 unfolding to_signed
-minus-zero-back = refl
+minus_zero_back = refl
 
 -- -0 would read back as 0, whose float is +0
-not-minus-zero : (z : ℤ) → To53 z → num z ≡ fin true 0 (pos 0) → ⊥
-not-minus-zero z h e =
-    let none : z ≡ pos 0 = sym (read_back z h) ∙ ap (to_signed 63) e ∙ minus-zero-back in
-    let both : fin false 0 (pos 0) ≡ fin true 0 (pos 0) = plus-zero ∙ ap num (sym none) ∙ e in
+not_minus_zero : (z : ℤ) → To53 z → num z ≡ fin true 0 (pos 0) → ⊥
+not_minus_zero z h e =
+    let none : z ≡ pos 0 = sym (read_back z h) ∙ ap (to_signed 63) e ∙ minus_zero_back in
+    let both : fin false 0 (pos 0) ≡ fin true 0 (pos 0) = plus_zero ∙ ap num (sym none) ∙ e in
     let differ : ◌≡◌ {A = ℕ} 0 1 = cc in
     omega arith
 
 pub exact : ExactTo53
 exact = record {
-  is_whole = λ z h. value-is (num z) z (of-int binary64 z h);
+  is_whole = λ z h. value_is (num z) z (of_int_lem binary64 z h);
   read_back = read_back;
-  never-minus-zero = not-minus-zero;
-  told-apart = λ a b g h e. sym (read_back a g) ∙ ap (to_signed 63) e ∙ read_back b h;
-  zero_is = plus-zero;
-  one-is = plus_one;
-  doubled = λ a h r. ap (λ (x : Float). mul binary64 x (num a)) two_is ∙ scale-int binary64 1 a (lit≤ tt) h;
-  added = λ a b g h r. add-int binary64 a (num b) b g (of-int binary64 b h);
-  subtracted = λ a b g h r. sub-int binary64 a (num b) b g (of-int binary64 b h);
-  added-product = product-in-sum;
-  opposite = λ a g h. neg-int binary64 a h;
+  never_minus_zero = not_minus_zero;
+  told_apart = λ a b g h e. sym (read_back a g) ∙ ap (to_signed 63) e ∙ read_back b h;
+  zero_is = plus_zero;
+  one_is = plus_one_lem;
+  doubled = λ a h r. ap (λ (x : Float). mul binary64 x (num a)) two_is ∙ scale_int binary64 1 a (lit≤ tt) h;
+  added = λ a b g h r. add_int binary64 a (num b) b g (of_int_lem binary64 b h);
+  subtracted = λ a b g h r. sub_int binary64 a (num b) b g (of_int_lem binary64 b h);
+  added_product = product_in_sum;
+  opposite = λ a g h. neg_int binary64 a h;
 }

@@ -9,78 +9,78 @@ use borrow.Author.Tests.{ltb-false, not-false}
 use lib.Dec.{ltb}
 use lib.ListN.{length, drop}
 use lib.Seq.{sets}
-use Rattle.algebra.specs.Fold.{everySecond, foldedLength, fold}
+use Rattle.algebra.specs.Fold.{every_second, folded_length, fold}
 use Rattle.algebra.specs.declared.Basis.{Basis}
 use Rattle.algebra.specs.declared.Parity.{Parity}
 use Rattle.algebra.specs.declared.Parity.TheVariants.{Even, Odd}
-use Rattle.algebra.proofs.FoldPlaces.{length-everySecond, fold-length}
-use Rattle.number.specs.Limits.{planLimit}
+use Rattle.algebra.proofs.FoldPlaces.{length_every_second, fold_length}
+use Rattle.number.specs.Limits.{plan_limit}
 use Rattle.number.specs.Numbers.{Numbers}
-use Rattle.number.specs.Refusal.{Test, Numbered, unlessRefused}
-use Rattle.number.specs.Parity.{hasParity}
-use Rattle.number.specs.Tests.{tooHigh, isFull, fullParity, tooLow}
-use Rattle.number.specs.FoldCall.{foldRefusal, foldAnswer, foldBuffer, FoldCall}
-use Rattle.number.specs.inside.Folding.{Foldable, refusalBy, answerBy}
+use Rattle.number.specs.Refusal.{Test, Numbered, unless_refused}
+use Rattle.number.specs.Parity.{has_parity}
+use Rattle.number.specs.Tests.{too_high, is_full, full_parity, too_low}
+use Rattle.number.specs.FoldCall.{fold_refusal, fold_answer, fold_buffer, FoldCall}
+use Rattle.number.specs.inside.Folding.{Foldable, refusal_by, answer_by}
 use Rattle.number.specs.declared.fold.Folded.{Folded}
-use Rattle.number.proofs.Refusal.{none-holds}
-use Rattle.number.proofs.EverySecond.{length-odd-places}
+use Rattle.number.proofs.Refusal.{none_holds}
+use Rattle.number.proofs.EverySecond.{length_odd_places}
 
 -- room for the fold is room for the coefficients that are copied
-pub even-room : {A : Type 0} {c out : List A} → Foldable Even c out → length (everySecond c) ≤ length out
-unfolding foldedLength
-even-room {c = c} f = omega (arith, length-everySecond c, f.room)
+pub even_room : {A : Type 0} {c out : List A} → Foldable Even c out → length (every_second c) ≤ length out
+unfolding folded_length
+even_room {c = c} f = omega (arith, length_every_second c, f.room)
 
-pub odd-room : {A : Type 0} {c out : List A} → Foldable Odd c out → length (everySecond (drop 1 c)) ≤ length out
-unfolding foldedLength
-odd-room {c = c} f = omega (arith, length-odd-places c, f.room)
+pub odd_room : {A : Type 0} {c out : List A} → Foldable Odd c out → length (every_second (drop 1 c)) ≤ length out
+unfolding folded_length
+odd_room {c = c} f = omega (arith, length_odd_places c, f.room)
 
 -- ---- a call that every test passes
 
 pub record Accepted (parity : Parity) (small short : Bool) : Type 0 where
-  pub not_full : isFull parity ≡ false
-  pub is-small : small ≡ true
+  pub not_full : is_full parity ≡ false
+  pub is_small : small ≡ true
   pub room : short ≡ false
 
-pub accepted : (parity : Parity) (n : ℕ) (fits small short : Bool) → refusalBy parity n fits small short ≡ 0 → Accepted parity small short
-unfolding refusalBy
+pub accepted : (parity : Parity) (n : ℕ) (fits small short : Bool) → refusal_by parity n fits small short ≡ 0 → Accepted parity small short
+unfolding refusal_by
 accepted parity n fits small short none =
-    let tests : List Test = tooHigh planLimit (n - 1) ∷ fullParity parity ∷ tooLow parity (n - 1) ∷ (not fits, 4) ∷ (not small, 3) ∷ (short, 21) ∷ [] in
+    let tests : List Test = too_high plan_limit (n - 1) ∷ full_parity parity ∷ too_low parity (n - 1) ∷ (not fits, 4) ∷ (not small, 3) ∷ (short, 21) ∷ [] in
     let numbered : Numbered tests = (omega arith, (omega arith, (omega arith, (omega arith, (omega arith, (omega arith, tt)))))) in
-    let passed = none-holds tests numbered none in
-    record { not_full = passed.1.0; is-small = not-false small passed.1.1.1.1.0; room = passed.1.1.1.1.1.0 }
+    let passed = none_holds tests numbered none in
+    record { not_full = passed.1.0; is_small = not-false small passed.1.1.1.1.0; room = passed.1.1.1.1.1.0 }
 
 -- ---- what a call answers and leaves
 
 module _ {A : Type 0} (numbers : Numbers A) (parity : Parity) (basis : Basis) (c out : List A) {count refusal : ℕ} {fits small : Bool}
-    (count-is : count ≡ foldedLength parity (length c)) (fits-is : fits ≡ hasParity numbers parity c) (small_is : small ≡ numbers.small c)
-    (refusal_is : refusal ≡ refusalBy parity (length c) fits small (ltb (length out) count)) where
+    (count_is : count ≡ folded_length parity (length c)) (fits-is : fits ≡ has_parity numbers parity c) (small_is : small ≡ numbers.small c)
+    (refusal_is : refusal ≡ refusal_by parity (length c) fits small (ltb (length out) count)) where
   written : length (fold numbers.ops parity basis c) ≡ count
-  written = fold-length numbers.ops parity basis c ∙ sym count-is
+  written = fold_length numbers.ops parity basis c ∙ sym count_is
 
-  call-refusal : foldRefusal numbers parity basis c out ≡ refusal
-  unfolding foldRefusal refusalBy
-  call-refusal = rw written (sym (refusal_is ∙ rw (fits-is, small_is)))
+  call_refusal : fold_refusal numbers parity basis c out ≡ refusal
+  unfolding fold_refusal refusal_by
+  call_refusal = rw written (sym (refusal_is ∙ rw (fits-is, small_is)))
 
   pub foldable : refusal ≡ 0 → Foldable parity c out
   foldable none =
       let passed = accepted parity (length c) fits small (ltb (length out) count) (sym refusal_is ∙ none) in
       record { not_full = passed.not_full; room = omega (arith, ltb-false (length out) count passed.room) }
 
-  pub small-enough : refusal ≡ 0 → numbers.small c ≡ true
-  small-enough none = sym small_is ∙ (accepted parity (length c) fits small (ltb (length out) count) (sym refusal_is ∙ none)).is-small
+  pub small_enough : refusal ≡ 0 → numbers.small c ≡ true
+  small_enough none = sym small_is ∙ (accepted parity (length c) fits small (ltb (length out) count) (sym refusal_is ∙ none)).is_small
 
-  pub fold-refused : {r : Folded} → 0 < refusal → r ≡ answerBy refusal parity basis count → FoldCall numbers parity basis c out r out
-  unfolding foldAnswer foldBuffer answerBy unlessRefused
-  fold-refused {r} some r-is = by-refusal refusal call-refusal some r-is
+  pub fold_refused : {r : Folded} → 0 < refusal → r ≡ answer_by refusal parity basis count → FoldCall numbers parity basis c out r out
+  unfolding fold_answer fold_buffer answer_by unless_refused
+  fold_refused {r} some r_is = by_refusal refusal call_refusal some r_is
     where
-      by-refusal : (k : ℕ) → foldRefusal numbers parity basis c out ≡ k → 0 < k → r ≡ answerBy k parity basis count
+      by_refusal : (k : ℕ) → fold_refusal numbers parity basis c out ≡ k → 0 < k → r ≡ answer_by k parity basis count
           → FoldCall numbers parity basis c out r out
-      by-refusal zero is some r-is = absurd (omega arith)
-      by-refusal (suc k) is some r-is = record { answer = rw is r-is; transform = rw (is, r-is); buffer = rw is }
+      by_refusal zero is some r_is = absurd (omega arith)
+      by_refusal (suc k) is some r_is = record { answer = rw is r_is; transform = rw (is, r_is); buffer = rw is }
 
-  pub fold_done : {r : Folded} {left : List A} → refusal ≡ 0 → r ≡ answerBy 0 parity basis count
+  pub fold_done : {r : Folded} {left : List A} → refusal ≡ 0 → r ≡ answer_by 0 parity basis count
       → left ≡ sets out 0 (fold numbers.ops parity basis c) → FoldCall numbers parity basis c out r left
-  unfolding foldAnswer foldBuffer answerBy unlessRefused
-  fold_done none r-is left_is =
-      let is = call-refusal ∙ none in
-      record { answer = rw (is, written) r-is; transform = rw (is, r-is); buffer = rw is left_is }
+  unfolding fold_answer fold_buffer answer_by unless_refused
+  fold_done none r_is left_is =
+      let is = call_refusal ∙ none in
+      record { answer = rw (is, written) r_is; transform = rw (is, r_is); buffer = rw is left_is }

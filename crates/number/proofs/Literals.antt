@@ -2,18 +2,18 @@
 use mathlib.Core.Path.{◌≡◌, refl}
 use lib.IntN.{pos}
 use lib.Ieee.{binary64, of_bits, of_int}
-use Rattle.number.specs.Numbers.{floatOps}
+use Rattle.number.specs.Numbers.{float_ops}
 use Rattle.number.specs.Exact.{num}
 
 -- 0.0
-pub zero_is : of_bits binary64 0 ≡ floatOps.zero
+pub zero_is : of_bits binary64 0 ≡ float_ops.zero
 unfolding of_bits
 zero_is = refl
 
 -- 1.0
-pub one-is : of_bits binary64 0x3ff0_0000_0000_0000 ≡ floatOps.one
+pub one_is : of_bits binary64 0x3ff0_0000_0000_0000 ≡ float_ops.one
 unfolding of_bits
-one-is = refl
+one_is = refl
 
 -- 2.0
 pub two_is : of_bits binary64 0x4000_0000_0000_0000 ≡ num (pos 2)

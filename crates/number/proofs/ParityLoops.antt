@@ -11,37 +11,37 @@ use Rattle.algebra.specs.Allowed.{allows}
 use Rattle.algebra.specs.declared.Parity.{Parity}
 use Rattle.algebra.specs.declared.Parity.TheVariants.{Full, Even, Odd}
 use Rattle.number.specs.Numbers.{Numbers}
-use Rattle.number.specs.Parity.{hasParityFrom, hasParity, parityOf}
+use Rattle.number.specs.Parity.{has_parity_from, has_parity, parity_of}
 
 module _ {A : Type 0} (numbers : Numbers A) (parity : Parity) (c : List A) (j : ℕ) where
   -- the test from place j on
-  abbrev pub testFrom : Bool
-  testFrom = hasParityFrom numbers parity j (drop j c)
+  abbrev pub test_from : Bool
+  test_from = has_parity_from numbers parity j (drop j c)
 
   -- past the last coefficient nothing is left to test
-  pub test-end : length c ≤ j → testFrom ≡ true
-  unfolding hasParityFrom
-  test-end past = rw (drop_of_length-le c past)
+  pub test_end : length c ≤ j → test_from ≡ true
+  unfolding has_parity_from
+  test_end past = rw (drop_of_length-le c past)
 
   module _ (d : A) (inside : j < length c) where
-    pub test-fails : (allows parity j || numbers.is_zero (get_or c j d)) ≡ false → testFrom ≡ false
-    unfolding hasParityFrom
-    test-fails wrong = rw (drop-cons c j d inside, wrong)
+    pub test_fails : (allows parity j || numbers.is_zero (get_or c j d)) ≡ false → test_from ≡ false
+    unfolding has_parity_from
+    test_fails wrong = rw (drop-cons c j d inside, wrong)
 
-    pub test-goes-on : (allows parity j || numbers.is_zero (get_or c j d)) ≡ true → testFrom ≡ hasParityFrom numbers parity (j + 1) (drop (j + 1) c)
-    unfolding hasParityFrom
-    test-goes-on fits = rw (add-one, drop-cons c j d inside, fits)
+    pub test_goes_on : (allows parity j || numbers.is_zero (get_or c j d)) ≡ true → test_from ≡ has_parity_from numbers parity (j + 1) (drop (j + 1) c)
+    unfolding has_parity_from
+    test_goes_on fits = rw (add-one, drop-cons c j d inside, fits)
 
 module _ {A : Type 0} (numbers : Numbers A) (c : List A) where
-  pub parity-even : hasParity numbers Even c ≡ true → Even ≡ parityOf numbers c
-  unfolding parityOf
-  parity-even even = rw even
+  pub parity_even : has_parity numbers Even c ≡ true → Even ≡ parity_of numbers c
+  unfolding parity_of
+  parity_even even = rw even
 
-  module _ (not-even : hasParity numbers Even c ≡ false) where
-    pub parity-odd : hasParity numbers Odd c ≡ true → Odd ≡ parityOf numbers c
-    unfolding parityOf
-    parity-odd odd = rw (not-even, odd)
+  module _ (not_even : has_parity numbers Even c ≡ false) where
+    pub parity_odd : has_parity numbers Odd c ≡ true → Odd ≡ parity_of numbers c
+    unfolding parity_of
+    parity_odd odd = rw (not_even, odd)
 
-    pub parity-full : hasParity numbers Odd c ≡ false → Full ≡ parityOf numbers c
-    unfolding parityOf
-    parity-full not-odd = rw (not-even, not-odd)
+    pub parity_full : has_parity numbers Odd c ≡ false → Full ≡ parity_of numbers c
+    unfolding parity_of
+    parity_full not_odd = rw (not_even, not_odd)

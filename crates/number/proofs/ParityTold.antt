@@ -12,8 +12,8 @@ use lib.ListN.{length, get_or, get_or-eq_default}
 use lib.IntN.{ℤ, pos, negsuc}
 use Rattle.algebra.specs.Allowed.{allows}
 use Rattle.algebra.specs.declared.Parity.{Parity}
-use Rattle.number.specs.Numbers.{Numbers, wholeNumbers}
-use Rattle.number.specs.Parity.{hasParityFrom}
+use Rattle.number.specs.Numbers.{Numbers, whole_numbers}
+use Rattle.number.specs.Parity.{has_parity_from}
 use Rattle.number.specs.ParityTold.{TestTold, ParityTold}
 use Rattle.number.proofs.BothHold.{and_left, and_right}
 
@@ -26,23 +26,23 @@ module _ {A : Type 0} (numbers : Numbers A) where
   abbrev Zeros : Parity → ℕ → List A → Type 0
   Zeros parity j c = (i : ℕ) → i < length c → allows parity (j + i) ≡ false → numbers.is_zero (get_or c i numbers.ops.zero) ≡ true
 
-  test-zeros : (parity : Parity) (j : ℕ) (c : List A) → hasParityFrom numbers parity j c ≡ true → Zeros parity j c
-  unfolding hasParityFrom
-  test-zeros parity j [] test i inside not-allowed = absurd (omega arith)
-  test-zeros parity j (x ∷ c) test zero inside not-allowed =
-      let first = and_left (allows parity j || numbers.is_zero x) (hasParityFrom numbers parity (suc j) c) test in
-      either (allows parity j) (numbers.is_zero x) first (ap (allows parity) (sym (add-zero j)) ∙ not-allowed)
-  test-zeros parity j (x ∷ c) test (suc i) inside not-allowed =
-      let rest = and_right (allows parity j || numbers.is_zero x) (hasParityFrom numbers parity (suc j) c) test in
+  test_zeros : (parity : Parity) (j : ℕ) (c : List A) → has_parity_from numbers parity j c ≡ true → Zeros parity j c
+  unfolding has_parity_from
+  test_zeros parity j [] test i inside not_allowed = absurd (omega arith)
+  test_zeros parity j (x ∷ c) test zero inside not_allowed =
+      let first = and_left (allows parity j || numbers.is_zero x) (has_parity_from numbers parity (suc j) c) test in
+      either (allows parity j) (numbers.is_zero x) first (ap (allows parity) (sym (add-zero j)) ∙ not_allowed)
+  test_zeros parity j (x ∷ c) test (suc i) inside not_allowed =
+      let rest = and_right (allows parity j || numbers.is_zero x) (has_parity_from numbers parity (suc j) c) test in
       let place : suc j + i ≡ j + suc i = omega arith in
-      test-zeros parity (suc j) c rest i (omega arith) (ap (allows parity) place ∙ not-allowed)
+      test_zeros parity (suc j) c rest i (omega arith) (ap (allows parity) place ∙ not_allowed)
 
-  zeros-test : (parity : Parity) (j : ℕ) (c : List A) → Zeros parity j c → hasParityFrom numbers parity j c ≡ true
-  unfolding hasParityFrom
-  zeros-test parity j [] zeros = refl
-  zeros-test parity j (x ∷ c) zeros =
-      rw (zeros-test parity (suc j) c (λ i inside not-allowed. zeros (suc i) (further i inside) (ap (allows parity) (place i) ∙ not-allowed)))
-      (by-allowed (allows parity j) refl)
+  zeros_test : (parity : Parity) (j : ℕ) (c : List A) → Zeros parity j c → has_parity_from numbers parity j c ≡ true
+  unfolding has_parity_from
+  zeros_test parity j [] zeros = refl
+  zeros_test parity j (x ∷ c) zeros =
+      rw (zeros_test parity (suc j) c (λ i inside not_allowed. zeros (suc i) (further i inside) (ap (allows parity) (place i) ∙ not_allowed)))
+      (by_allowed (allows parity j) refl)
     where
       place : (i : ℕ) → j + suc i ≡ suc j + i
       place i = omega arith
@@ -50,14 +50,14 @@ module _ {A : Type 0} (numbers : Numbers A) where
       further : (i : ℕ) → i < length c → suc i < suc (length c)
       further i inside = omega arith
 
-      by-allowed : (a : Bool) → allows parity j ≡ a → ((allows parity j || numbers.is_zero x) && true) ≡ true
-      by-allowed true is = rw is
-      by-allowed false is = rw (is, zeros 0 (omega arith) (ap (allows parity) (add-zero j) ∙ is))
+      by_allowed : (a : Bool) → allows parity j ≡ a → ((allows parity j || numbers.is_zero x) && true) ≡ true
+      by_allowed true is = rw is
+      by_allowed false is = rw (is, zeros 0 (omega arith) (ap (allows parity) (add-zero j) ∙ is))
 
-pub test-told : {A : Type 0} → TestTold A
-test-told numbers parity c = (
-  λ test j inside not-allowed. test-zeros numbers parity 0 c test j inside (ap (allows parity) (from_zero j) ∙ not-allowed),
-  λ zeros. zeros-test numbers parity 0 c (λ i inside not-allowed. zeros i inside (ap (allows parity) (sym (from_zero i)) ∙ not-allowed)),
+pub test_told : {A : Type 0} → TestTold A
+test_told numbers parity c = (
+  λ test j inside not_allowed. test_zeros numbers parity 0 c test j inside (ap (allows parity) (from_zero j) ∙ not_allowed),
+  λ zeros. zeros_test numbers parity 0 c (λ i inside not_allowed. zeros i inside (ap (allows parity) (sym (from_zero i)) ∙ not_allowed)),
 )
   where
     from_zero : (j : ℕ) → 0 + j ≡ j
@@ -66,17 +66,17 @@ test-told numbers parity c = (
 -- ---- whole coefficients
 
 -- a whole number counts as zero exactly if it is zero
-zero_is : (z : ℤ) → wholeNumbers.is_zero z ≡ true → z ≡ pos 0
+zero_is : (z : ℤ) → whole_numbers.is_zero z ≡ true → z ≡ pos 0
 zero_is (pos zero) test = refl
 zero_is (pos (suc n)) test = absurd (let e = eqb-true (suc n) 0 test in omega arith)
 zero_is (negsuc n) test = absurd (let e = eqb-true (suc n) 0 test in omega arith)
 
-pub parity-told : ParityTold
-parity-told parity c = (
-  λ test j not-allowed. by_place test j not-allowed (dec_lt j (length c)),
-  λ zeros. (test-told wholeNumbers parity c).1 (λ j inside not-allowed. ap wholeNumbers.is_zero (zeros j not-allowed)),
+pub parity_told : ParityTold
+parity_told parity c = (
+  λ test j not_allowed. by_place test j not_allowed (dec_lt j (length c)),
+  λ zeros. (test_told whole_numbers parity c).1 (λ j inside not_allowed. ap whole_numbers.is_zero (zeros j not_allowed)),
 )
   where
-    by_place : hasParityFrom wholeNumbers parity 0 c ≡ true → (j : ℕ) → allows parity j ≡ false → Dec (j < length c) → get_or c j (pos 0) ≡ pos 0
-    by_place test j not-allowed (yes inside) = zero_is (get_or c j (pos 0)) ((test-told wholeNumbers parity c).0 test j inside not-allowed)
-    by_place test j not-allowed (no beyond) = get_or-eq_default c (pos 0) (omega arith)
+    by_place : has_parity_from whole_numbers parity 0 c ≡ true → (j : ℕ) → allows parity j ≡ false → Dec (j < length c) → get_or c j (pos 0) ≡ pos 0
+    by_place test j not_allowed (yes inside) = zero_is (get_or c j (pos 0)) ((test_told whole_numbers parity c).0 test j inside not_allowed)
+    by_place test j not_allowed (no beyond) = get_or-eq_default c (pos 0) (omega arith)

@@ -10,7 +10,7 @@ use lib.Signed.{mag, lt_z, non_neg}
 use mir.Syntax.{w64}
 use mir.Val.{SFits, to_z, of_z}
 use mir.Facts.{to_z-of_z}
-use Rattle.number.specs.Numbers.{wholeNumbers}
+use Rattle.number.specs.Numbers.{whole_numbers}
 
 -- a number that fits, read out of its bits
 pub back : {z x : ℤ} → mag z < 2 ^ 63 → z ≡ x → to_z w64 (of_z w64 z) ≡ x
@@ -25,7 +25,7 @@ nonnegative {x = x} e g = by_sign x (rw e at g)
     by_sign (negsuc a) h = absurd (true≢false h)
 
 -- a whole number is zero exactly if its bits are
-pub zero_bits : (z : ℤ) → SFits w64 z → eqb (of_z w64 z) 0 ≡ wholeNumbers.is_zero z
+pub zero_bits : (z : ℤ) → SFits w64 z → eqb (of_z w64 z) 0 ≡ whole_numbers.is_zero z
 zero_bits (pos n) h = refl
 zero_bits (negsuc n) h =
     ne_eqb (of_z w64 (negsuc n)) 0 (λ (e : of_z w64 (negsuc n) ≡ 0). differ (sym (to_z-of_z h) ∙ ap (to_z w64) e))

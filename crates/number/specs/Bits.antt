@@ -8,27 +8,27 @@ digits (suc halvings) zero = 0
 digits (suc halvings) (suc n) = suc (digits halvings (suc n / 2))
 
 -- `bit_len(n)`: the number of binary digits of n, 0 for 0
-unfoldable pub bitLen : (n : ℕ) → ℕ
-bitLen n = digits n n
+unfoldable pub bit_len : (n : ℕ) → ℕ
+bit_len n = digits n n
 
 -- the greatest power of two at most n, for n from 1 up
-unfoldable pub topPower : (n : ℕ) → ℕ
-topPower n = 2 ^ (bitLen n - 1)
+unfoldable pub top_power : (n : ℕ) → ℕ
+top_power n = 2 ^ (bit_len n - 1)
 
 -- the greatest power of two below n, for n from 2 up
-unfoldable pub powerBelow : (n : ℕ) → ℕ
-powerBelow n = topPower (n - 1)
+unfoldable pub power_below : (n : ℕ) → ℕ
+power_below n = top_power (n - 1)
 
 -- whether n is a power of two
-unfoldable pub isPowerOfTwo : (n : ℕ) → Bool
-isPowerOfTwo n = eqb n (topPower n)
+unfoldable pub is_power_of_two : (n : ℕ) → Bool
+is_power_of_two n = eqb n (top_power n)
 
 -- ---- what the words say
 
 -- the digits, without a bound on the halvings
 pub record DigitsByHalving : Type 0 where
-  pub none : bitLen 0 ≡ 0
-  pub more : (n : ℕ) → 0 < n → bitLen n ≡ suc (bitLen (n / 2))
+  pub none : bit_len 0 ≡ 0
+  pub more : (n : ℕ) → 0 < n → bit_len n ≡ suc (bit_len (n / 2))
 
 -- p is the greatest power of two of which something holds
 pub record GreatestPower (Holds : ℕ → Type 0) (p : ℕ) : Type 0 where
@@ -39,6 +39,6 @@ pub record GreatestPower (Holds : ℕ → Type 0) (p : ℕ) : Type 0 where
 
 -- the greatest powers of two at most n and below n, and the test for a power of two
 pub record PowersOfTwo : Type 0 where
-  pub top : (n : ℕ) → 0 < n → GreatestPower (λ (p : ℕ). p ≤ n) (topPower n)
-  pub below : (n : ℕ) → 2 ≤ n → GreatestPower (λ (p : ℕ). p < n) (powerBelow n)
-  pub told : (n : ℕ) → (isPowerOfTwo n ≡ true) ↔ ((k : ℕ) × (n ≡ 2 ^ k))
+  pub top : (n : ℕ) → 0 < n → GreatestPower (λ (p : ℕ). p ≤ n) (top_power n)
+  pub below : (n : ℕ) → 2 ≤ n → GreatestPower (λ (p : ℕ). p < n) (power_below n)
+  pub told : (n : ℕ) → (is_power_of_two n ≡ true) ↔ ((k : ℕ) × (n ≡ 2 ^ k))

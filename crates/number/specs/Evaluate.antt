@@ -16,23 +16,23 @@ module _ {A : Type 0} (𝓞 : Operations A) where
   horner x (c ∷ cs) = 𝓞.add (𝓞.mul (horner x cs) x) c
 
   -- b_i = 2x·b_(i+1) - b_(i+2) + c_i
-  abbrev pub nextClenshawPair : A → A → Pair A → Pair A
-  nextClenshawPair x c p = record { b1 = 𝓞.add (𝓞.sub (𝓞.mul (double 𝓞 x) p.b1) p.b2) c; b2 = p.b1 }
+  abbrev pub next_clenshaw_pair : A → A → Pair A → Pair A
+  next_clenshaw_pair x c p = record { b1 = 𝓞.add (𝓞.sub (𝓞.mul (double 𝓞 x) p.b1) p.b2) c; b2 = p.b1 }
 
   -- the pair at the first of these coefficients, past the last of which both numbers are zero
-  unfoldable pub clenshawPair : A → List A → Pair A
-  clenshawPair x [] = record { b1 = 𝓞.zero; b2 = 𝓞.zero }
-  clenshawPair x (c ∷ cs) = nextClenshawPair x c (clenshawPair x cs)
+  unfoldable pub clenshaw_pair : A → List A → Pair A
+  clenshaw_pair x [] = record { b1 = 𝓞.zero; b2 = 𝓞.zero }
+  clenshaw_pair x (c ∷ cs) = next_clenshaw_pair x c (clenshaw_pair x cs)
 
   -- c_0 + x·b_1 - b_2
-  abbrev pub lastTerm : A → A → Pair A → A
-  lastTerm x c p = 𝓞.sub (𝓞.add c (𝓞.mul x p.b1)) p.b2
+  abbrev pub last_term : A → A → Pair A → A
+  last_term x c p = 𝓞.sub (𝓞.add c (𝓞.mul x p.b1)) p.b2
 
   -- Clenshaw: no coefficient gives zero, and one is returned as it is
   unfoldable pub clenshaw : A → List A → A
   clenshaw x [] = 𝓞.zero
   clenshaw x (c ∷ []) = c
-  clenshaw x (c ∷ d ∷ cs) = lastTerm x c (clenshawPair x (d ∷ cs))
+  clenshaw x (c ∷ d ∷ cs) = last_term x c (clenshaw_pair x (d ∷ cs))
 
   -- Horner's rule for x^j, Clenshaw's for T_j
   abbrev pub evaluate : Basis → List A → A → A

@@ -4,7 +4,7 @@ use Rattle.std.specs.Float.{nan, inf, fin, binary64}
 use Rattle.std.specs.Float.Ieee.{up, down, of_int, to_signed}
 use Rattle.algebra.specs.Each.{Each}
 use Rattle.algebra.specs.Operations.{double}
-use Rattle.number.specs.Numbers.{floatOps}
+use Rattle.number.specs.Numbers.{float_ops}
 
 -- the f64 of a whole number, rounded once
 abbrev pub num : ℤ → Float
@@ -43,15 +43,15 @@ pub record ExactTo53 : Type 0 where
   -- the f64 of a number is that number, and as an i64 it is read back; it is never -0, and two numbers have two f64
   pub is_whole : (z : ℤ) → To53 z → IsWhole (num z) z
   pub read_back : (z : ℤ) → To53 z → to_signed 63 (num z) ≡ z
-  pub never-minus-zero : (z : ℤ) → To53 z → num z ≡ fin true 0 (pos 0) → ⊥
-  pub told-apart : (a b : ℤ) → To53 a → To53 b → num a ≡ num b → a ≡ b
+  pub never_minus_zero : (z : ℤ) → To53 z → num z ≡ fin true 0 (pos 0) → ⊥
+  pub told_apart : (a b : ℤ) → To53 a → To53 b → num a ≡ num b → a ≡ b
   -- the constants
-  pub zero_is : floatOps.zero ≡ num (pos 0)
-  pub one-is : floatOps.one ≡ num (pos 1)
+  pub zero_is : float_ops.zero ≡ num (pos 0)
+  pub one_is : float_ops.one ≡ num (pos 1)
   -- the operations; an opposite has the magnitude of its operand
-  pub doubled : (a : ℤ) → To53 a → To53 (pos 2 *ℤ a) → double floatOps (num a) ≡ num (pos 2 *ℤ a)
-  pub added : (a b : ℤ) → To53 a → To53 b → To53 (a +ℤ b) → floatOps.add (num a) (num b) ≡ num (a +ℤ b)
-  pub subtracted : (a b : ℤ) → To53 a → To53 b → To53 (a -ℤ b) → floatOps.sub (num a) (num b) ≡ num (a -ℤ b)
-  pub added-product : (q c v : ℤ) → To53 q → To53 c → nat_abs v ≤ 2 → To53 (c *ℤ v) → To53 (q +ℤ c *ℤ v)
-      → floatOps.add (num q) (floatOps.mul (num c) (num v)) ≡ num (q +ℤ c *ℤ v)
-  pub opposite : (a : ℤ) → To53 a → 0 < nat_abs a → floatOps.neg (num a) ≡ num (neg_ℤ a)
+  pub doubled : (a : ℤ) → To53 a → To53 (pos 2 *ℤ a) → double float_ops (num a) ≡ num (pos 2 *ℤ a)
+  pub added : (a b : ℤ) → To53 a → To53 b → To53 (a +ℤ b) → float_ops.add (num a) (num b) ≡ num (a +ℤ b)
+  pub subtracted : (a b : ℤ) → To53 a → To53 b → To53 (a -ℤ b) → float_ops.sub (num a) (num b) ≡ num (a -ℤ b)
+  pub added_product : (q c v : ℤ) → To53 q → To53 c → nat_abs v ≤ 2 → To53 (c *ℤ v) → To53 (q +ℤ c *ℤ v)
+      → float_ops.add (num q) (float_ops.mul (num c) (num v)) ≡ num (q +ℤ c *ℤ v)
+  pub opposite : (a : ℤ) → To53 a → 0 < nat_abs a → float_ops.neg (num a) ≡ num (neg_ℤ a)

@@ -1,22 +1,22 @@
 -- The fold calls (docs/RULES.md, "Folding" and "Refusals"): their tests in order, their answer, and what they leave in the buffer.
 use Rattle.std.specs.Prelude.{◌≡◌, List, [], ◌∷◌, ◌++◌, ℕ, length}
 use Rattle.std.proofs.lemmas.List.Edits.{sets}
-use Rattle.algebra.specs.EnumNumbers.{transformNumber}
+use Rattle.algebra.specs.EnumNumbers.{transform_number}
 use Rattle.algebra.specs.Fold.{fold}
-use Rattle.algebra.specs.Transform.{transformOf}
+use Rattle.algebra.specs.Transform.{transform_of}
 use Rattle.algebra.specs.declared.Basis.{Basis}
 use Rattle.algebra.specs.declared.Parity.{Parity}
 use Rattle.algebra.specs.declared.Parity.TheVariants.{Full}
 use Rattle.algebra.specs.declared.PolynomialInputTransform.TheVariants.{Identity}
-use Rattle.number.specs.Limits.{planLimit}
+use Rattle.number.specs.Limits.{plan_limit}
 use Rattle.number.specs.Numbers.{Numbers}
-use Rattle.number.specs.Refusal.{Test, firstRefusal, unlessRefused}
-use Rattle.number.specs.Tests.{degreeOf, tooHigh, foldingTests, tooLarge, noRoom}
+use Rattle.number.specs.Refusal.{Test, first_refusal, unless_refused}
+use Rattle.number.specs.Tests.{degree_of, too_high, folding_tests, too_large, no_room}
 use Rattle.number.specs.declared.fold.Folded.{Folded}
 
 -- after a refusal zero in every other field, and the first transform and parity
-abbrev pub noFold : (refusal : ℕ) → Folded
-noFold refusal = record { refusal = refusal; transform = Identity; parity = Full; count = 0 }
+abbrev pub no_fold : (refusal : ℕ) → Folded
+no_fold refusal = record { refusal = refusal; transform = Identity; parity = Full; count = 0 }
 
 module _ {A : Type 0} (numbers : Numbers A) (parity : Parity) (basis : Basis) (c out : List A) where
   -- the folded coefficients
@@ -24,23 +24,23 @@ module _ {A : Type 0} (numbers : Numbers A) (parity : Parity) (basis : Basis) (c
   folded = fold numbers.ops parity basis c
 
   -- 2, 5, 6, 4, 3, and 21 for a buffer without a place for each coefficient of the fold
-  abbrev pub foldTests : List Test
-  foldTests = tooHigh planLimit (degreeOf c) ∷ (foldingTests numbers parity c ++ (tooLarge numbers c ∷ noRoom (length out) (length folded) ∷ []))
+  abbrev pub fold_tests : List Test
+  fold_tests = too_high plan_limit (degree_of c) ∷ (folding_tests numbers parity c ++ (too_large numbers c ∷ no_room (length out) (length folded) ∷ []))
 
-  unfoldable pub foldRefusal : ℕ
-  foldRefusal = firstRefusal foldTests
+  unfoldable pub fold_refusal : ℕ
+  fold_refusal = first_refusal fold_tests
 
   -- the answer: the result has parity Full
-  unfoldable pub foldAnswer : Folded
-  foldAnswer =
-      unlessRefused foldRefusal (record { refusal = 0; transform = transformOf parity basis; parity = Full; count = length folded }) (noFold foldRefusal)
+  unfoldable pub fold_answer : Folded
+  fold_answer =
+      unless_refused fold_refusal (record { refusal = 0; transform = transform_of parity basis; parity = Full; count = length folded }) (no_fold fold_refusal)
 
   -- the buffer: the fold in its first places, and the places beyond unchanged; after a refusal all of it unchanged
-  unfoldable pub foldBuffer : List A
-  foldBuffer = unlessRefused foldRefusal (sets out 0 folded) out
+  unfoldable pub fold_buffer : List A
+  fold_buffer = unless_refused fold_refusal (sets out 0 folded) out
 
   -- what a call says, and what it leaves in the buffer
   pub record FoldCall (r : Folded) (left : List A) : Type 0 where
-    pub answer : r ≡ foldAnswer
-    pub transform : transformNumber r.transform ≡ unlessRefused foldRefusal (transformNumber (transformOf parity basis)) 0
-    pub buffer : left ≡ foldBuffer
+    pub answer : r ≡ fold_answer
+    pub transform : transform_number r.transform ≡ unless_refused fold_refusal (transform_number (transform_of parity basis)) 0
+    pub buffer : left ≡ fold_buffer

@@ -3,9 +3,9 @@
 use Rattle.std.specs.Prelude.{Bool, true, false, List, eqb, leb, ℤ, pos, nat_abs, Float}
 use Rattle.std.specs.Float.{fin, binary64}
 use Rattle.std.specs.Float.Ieee as ieee
-use Rattle.algebra.specs.Operations.{Operations, wholeOps}
-use Rattle.algebra.specs.Magnitude.{sumAbs}
-use Rattle.number.specs.Limits.{sumLimit}
+use Rattle.algebra.specs.Operations.{Operations, whole_ops}
+use Rattle.algebra.specs.Magnitude.{sum_abs}
+use Rattle.number.specs.Limits.{sum_limit}
 
 pub record Numbers (A : Type 0) : Type 0 where
   pub ops : Operations A
@@ -13,12 +13,12 @@ pub record Numbers (A : Type 0) : Type 0 where
   pub small : List A → Bool
 
 -- whole coefficients: small are those with magnitudes summing to at most 2^30
-abbrev pub wholeNumbers : Numbers ℤ
-wholeNumbers = record { ops = wholeOps; is_zero = λ z. eqb (nat_abs z) 0; small = λ c. leb (sumAbs c) sumLimit }
+abbrev pub whole_numbers : Numbers ℤ
+whole_numbers = record { ops = whole_ops; is_zero = λ z. eqb (nat_abs z) 0; small = λ c. leb (sum_abs c) sum_limit }
 
 -- binary64 as Rust has it: each operation rounds once, and all NaNs are one
-abbrev pub floatOps : Operations Float
-floatOps = record {
+abbrev pub float_ops : Operations Float
+float_ops = record {
   zero = fin false 0 (pos 0);
   one = fin false 1 (pos 0);
   add = ieee.add binary64;
@@ -28,5 +28,5 @@ floatOps = record {
 }
 
 -- f64 coefficients: -0 counts as zero, a NaN does not; all are small enough
-abbrev pub floatNumbers : Numbers Float
-floatNumbers = record { ops = floatOps; is_zero = λ x. ieee.eq x (fin false 0 (pos 0)); small = λ c. true }
+abbrev pub float_numbers : Numbers Float
+float_numbers = record { ops = float_ops; is_zero = λ x. ieee.eq x (fin false 0 (pos 0)); small = λ c. true }

@@ -7,14 +7,14 @@ use Rattle.number.specs.Numbers.{Numbers}
 
 module _ {A : Type 0} (numbers : Numbers A) where
   -- from place j on, every coefficient at a place that the parity doesn't allow counts as zero
-  unfoldable pub hasParityFrom : Parity → (j : ℕ) → List A → Bool
-  hasParityFrom parity j [] = true
-  hasParityFrom parity j (c ∷ cs) = (allows parity j || numbers.is_zero c) && hasParityFrom parity (suc j) cs
+  unfoldable pub has_parity_from : Parity → (j : ℕ) → List A → Bool
+  has_parity_from parity j [] = true
+  has_parity_from parity j (c ∷ cs) = (allows parity j || numbers.is_zero c) && has_parity_from parity (suc j) cs
 
   -- the coefficients have the parity
-  abbrev pub hasParity : Parity → List A → Bool
-  hasParity parity c = hasParityFrom parity 0 c
+  abbrev pub has_parity : Parity → List A → Bool
+  has_parity parity c = has_parity_from parity 0 c
 
   -- Even if they have that parity; else Odd if they have that; else Full
-  unfoldable pub parityOf : List A → Parity
-  parityOf c = cond (hasParity Even c) Even (cond (hasParity Odd c) Odd Full)
+  unfoldable pub parity_of : List A → Parity
+  parity_of c = cond (has_parity Even c) Even (cond (has_parity Odd c) Odd Full)

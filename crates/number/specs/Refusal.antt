@@ -6,14 +6,14 @@ abbrev pub Test : Type 0
 Test = Bool × ℕ
 
 -- the number of the first test that holds, or 0
-abbrev pub firstRefusal : List Test → ℕ
-firstRefusal [] = 0
-firstRefusal (test ∷ tests) = cond test.0 test.1 (firstRefusal tests)
+abbrev pub first_refusal : List Test → ℕ
+first_refusal [] = 0
+first_refusal (test ∷ tests) = cond test.0 test.1 (first_refusal tests)
 
 -- what a call answers, or leaves in a buffer: `accepted`, or, after a refusal, `refused`
-unfoldable pub unlessRefused : {X : Type 0} → (refusal : ℕ) → (accepted refused : X) → X
-unlessRefused zero accepted refused = accepted
-unlessRefused (suc k) accepted refused = refused
+unfoldable pub unless_refused : {X : Type 0} → (refusal : ℕ) → (accepted refused : X) → X
+unless_refused zero accepted refused = accepted
+unless_refused (suc k) accepted refused = refused
 
 -- ---- what a refusal says
 
@@ -34,8 +34,8 @@ pub data FirstHolds (k : ℕ) : List Test → Type 0 where
 
 -- 0 says that no test holds, and any other number that it is the first test's that does
 pub record RefusalSays (tests : List Test) : Type 0 where
-  pub accepted : firstRefusal tests ≡ 0 → NoneHolds tests
-  pub refused : 0 < firstRefusal tests → FirstHolds (firstRefusal tests) tests
+  pub accepted : first_refusal tests ≡ 0 → NoneHolds tests
+  pub refused : 0 < first_refusal tests → FirstHolds (first_refusal tests) tests
 
 -- so it is for every call
 abbrev pub RefusalsSay : Type 0

@@ -1,13 +1,13 @@
 // The value of a polynomial with f64 coefficients: Horner's rule for the monomial basis, Clenshaw's for the Chebyshev one.
 ghost use Rattle.std.specs.Prelude.{◌≡◌};
-ghost use Rattle.number.specs.Numbers.{floatOps};
+ghost use Rattle.number.specs.Numbers.{float_ops};
 ghost use Rattle.number.specs.Evaluate.{horner, clenshaw, evaluate};
 
 use algebra::Basis;
 
 // y·x + c from the last coefficient to the first.
 fn horner(coeffs: &[f64], x: f64) -> f64
-    ensures { result ≡ horner floatOps x coeffs.now }
+    ensures { result ≡ horner float_ops x coeffs.now }
 {
     let mut y = 0.0f64;
     let mut i = coeffs.len();
@@ -20,7 +20,7 @@ fn horner(coeffs: &[f64], x: f64) -> f64
 
 // 2x·b1 - b2 + c from the last coefficient to the second, then the first.
 fn clenshaw(coeffs: &[f64], x: f64) -> f64
-    ensures { result ≡ clenshaw floatOps x coeffs.now }
+    ensures { result ≡ clenshaw float_ops x coeffs.now }
 {
     let n = coeffs.len();
     if n == 0 {
@@ -44,7 +44,7 @@ fn clenshaw(coeffs: &[f64], x: f64) -> f64
 
 // The value at x of the polynomial with these coefficients.
 pub fn evaluate_coeffs(basis: Basis, coeffs: &[f64], x: f64) -> f64
-    ensures { result ≡ evaluate floatOps basis coeffs.now x }
+    ensures { result ≡ evaluate float_ops basis coeffs.now x }
 {
     match basis {
         Basis::Monomial => horner(coeffs, x),

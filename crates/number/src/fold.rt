@@ -1,16 +1,16 @@
 // Folding of whole polynomials of one parity, and what the fold calls on whole and f64 coefficients share.
 ghost use Rattle.std.specs.Prelude.{◌≡◌, ◌≤◌, length, drop, nat_abs, ◌*ℤ◌};
 ghost use Rattle.std.proofs.lemmas.List.Edits.{sets};
-ghost use Rattle.algebra.specs.Operations.{wholeOps};
-ghost use Rattle.algebra.specs.Magnitude.{sumAbs};
-ghost use Rattle.algebra.specs.Fold.{everySecond, foldedLength, coeffR, fold};
+ghost use Rattle.algebra.specs.Operations.{whole_ops};
+ghost use Rattle.algebra.specs.Magnitude.{sum_abs};
+ghost use Rattle.algebra.specs.Fold.{every_second, folded_length, coeff_r, fold};
 ghost use Rattle.algebra.specs.declared.Basis.TheVariants.{Chebyshev};
 ghost use Rattle.algebra.specs.declared.Parity.TheVariants.{Odd};
-ghost use Rattle.number.specs.Limits.{sumLimit};
-ghost use Rattle.number.specs.Numbers.{wholeNumbers};
-ghost use Rattle.number.specs.Tests.{isFull, leastFolded};
+ghost use Rattle.number.specs.Limits.{sum_limit};
+ghost use Rattle.number.specs.Numbers.{whole_numbers};
+ghost use Rattle.number.specs.Tests.{is_full, least_folded};
 ghost use Rattle.number.specs.FoldCall.{FoldCall};
-ghost use Rattle.number.specs.inside.Folding.{Foldable, refusalBy, answerBy};
+ghost use Rattle.number.specs.inside.Folding.{Foldable, refusal_by, answer_by};
 
 use crate::arithmetic::{minus, twice};
 use crate::degree::degree_of;
@@ -31,7 +31,7 @@ pub struct Folded {
 
 // Whether the parity is Full.
 pub fn is_full(parity: Parity) -> bool
-    ensures { result ≡ isFull parity }
+    ensures { result ≡ is_full parity }
 {
     match parity {
         Parity::Full => true,
@@ -42,7 +42,7 @@ pub fn is_full(parity: Parity) -> bool
 
 // The least degree that folds.
 pub fn least_folded(parity: Parity) -> usize
-    ensures { result ≡ leastFolded parity }
+    ensures { result ≡ least_folded parity }
 {
     match parity {
         Parity::Full => 0,
@@ -53,7 +53,7 @@ pub fn least_folded(parity: Parity) -> usize
 
 // How many coefficients n fold to.
 pub fn fold_count(parity: Parity, n: usize) -> usize
-    ensures { result ≡ foldedLength parity n }
+    ensures { result ≡ folded_length parity n }
 {
     match parity {
         Parity::Full => n,
@@ -64,7 +64,7 @@ pub fn fold_count(parity: Parity, n: usize) -> usize
 
 // The first test that holds for n coefficients, or 0: by whether they have the parity, are small enough and find no room.
 pub fn fold_refusal(parity: Parity, n: usize, fits: bool, small: bool, short: bool) -> u8
-    ensures { result ≡ refusalBy parity n fits small short }
+    ensures { result ≡ refusal_by parity n fits small short }
 {
     let degree = degree_of(n);
     if PLAN_LIMIT < degree {
@@ -89,7 +89,7 @@ pub fn fold_refusal(parity: Parity, n: usize, fits: bool, small: bool, short: bo
 
 // The answer of a fold call: count coefficients, or a refusal.
 pub fn fold_answer(refusal: u8, parity: Parity, basis: Basis, count: usize) -> Folded
-    ensures { result ≡ answerBy refusal parity basis count }
+    ensures { result ≡ answer_by refusal parity basis count }
 {
     if refusal == 0 {
         let transform = transform_of(parity, basis);
@@ -111,16 +111,16 @@ pub fn fold_answer(refusal: u8, parity: Parity, basis: Basis, count: usize) -> F
 
 // s times coefficient i of R_i: once at place 0, twice elsewhere.
 fn times_lead(i: usize, s: i64) -> i64
-    requires { nat_abs s ≤ sumLimit }
-    ensures { result ≡ s *ℤ coeffR wholeOps i i }
+    requires { nat_abs s ≤ sum_limit }
+    ensures { result ≡ s *ℤ coeff_r whole_ops i i }
 {
     if i == 0 { s } else { twice(s) }
 }
 
 // Writes every second coefficient from place `from` on.
 fn copy_second(c: &[i64], from: usize, out: &mut [i64])
-    requires { length (everySecond (drop from c.now)) ≤ length out.old }
-    ensures { out.new ≡ sets out.old 0 (everySecond (drop from c.now)) }
+    requires { length (every_second (drop from c.now)) ≤ length out.old }
+    ensures { out.new ≡ sets out.old 0 (every_second (drop from c.now)) }
 {
     let mut i = 0;
     let mut j = from;
@@ -133,8 +133,8 @@ fn copy_second(c: &[i64], from: usize, out: &mut [i64])
 
 // Writes the fold of an odd Chebyshev polynomial, from the end: s is c[2i+1] - c[2i+3] + c[2i+5] - ..
 fn fold_odd(c: &[i64], out: &mut [i64])
-    requires { Foldable Odd c.now out.old × (sumAbs c.now ≤ sumLimit) }
-    ensures { out.new ≡ sets out.old 0 (fold wholeOps Odd Chebyshev c.now) }
+    requires { Foldable Odd c.now out.old × (sum_abs c.now ≤ sum_limit) }
+    ensures { out.new ≡ sets out.old 0 (fold whole_ops Odd Chebyshev c.now) }
 {
     let mut s: i64 = 0;
     let mut left = c.len() / 2;
@@ -149,8 +149,8 @@ fn fold_odd(c: &[i64], out: &mut [i64])
 
 // Writes the fold, of whole coefficients with magnitudes summing to at most the limit.
 pub fn fold_into(parity: Parity, basis: Basis, c: &[i64], out: &mut [i64])
-    requires { Foldable parity c.now out.old × (sumAbs c.now ≤ sumLimit) }
-    ensures { out.new ≡ sets out.old 0 (fold wholeOps parity basis c.now) }
+    requires { Foldable parity c.now out.old × (sum_abs c.now ≤ sum_limit) }
+    ensures { out.new ≡ sets out.old 0 (fold whole_ops parity basis c.now) }
 {
     match parity {
         Parity::Full => {}
@@ -164,7 +164,7 @@ pub fn fold_into(parity: Parity, basis: Basis, c: &[i64], out: &mut [i64])
 
 // Folds a whole polynomial of parity Even or Odd into one of half the degree.
 pub fn fold_parity(parity: Parity, basis: Basis, c: &[i64], out: &mut [i64]) -> Folded
-    ensures { FoldCall wholeNumbers parity basis c.now out.old result out.new }
+    ensures { FoldCall whole_numbers parity basis c.now out.old result out.new }
 {
     let n = c.len();
     let count = fold_count(parity, n);

@@ -1,12 +1,12 @@
 // Folding of f64 polynomials of one parity, in the source's order of operations.
 ghost use Rattle.std.specs.Prelude.{◌≡◌, ◌+◌, ◌*◌, ◌≤◌, ◌<◌, length, drop};
 ghost use Rattle.std.proofs.lemmas.List.Edits.{sets};
-ghost use Rattle.algebra.specs.Fold.{everySecond, coeffR, fold};
+ghost use Rattle.algebra.specs.Fold.{every_second, coeff_r, fold};
 ghost use Rattle.algebra.specs.declared.Basis.TheVariants.{Chebyshev};
 ghost use Rattle.algebra.specs.declared.Parity.TheVariants.{Odd};
-ghost use Rattle.number.specs.Numbers.{floatOps, floatNumbers};
+ghost use Rattle.number.specs.Numbers.{float_ops, float_numbers};
 ghost use Rattle.number.specs.FoldCall.{FoldCall};
-ghost use Rattle.number.specs.inside.Folding.{Foldable, oddPlace};
+ghost use Rattle.number.specs.inside.Folding.{Foldable, odd_place};
 
 use crate::fold::{Folded, fold_answer, fold_count, fold_refusal};
 use crate::parity::has_parity_f64;
@@ -14,7 +14,7 @@ use algebra::{Basis, Parity};
 
 // Coefficient i of R_i.
 fn lead_f64(i: usize) -> f64
-    ensures { result ≡ coeffR floatOps i i }
+    ensures { result ≡ coeff_r float_ops i i }
 {
     if i == 0 { 1.0 } else { 2.0 }
 }
@@ -22,7 +22,7 @@ fn lead_f64(i: usize) -> f64
 // Place i of the fold of an odd Chebyshev polynomial: the sum from +0 of c[2k+1] times coefficient i of R_k, k rising from i.
 fn odd_place_f64(c: &[f64], i: usize) -> f64
     requires { 2 * i + 1 < length c.now }
-    ensures { result ≡ oddPlace floatOps c.now i }
+    ensures { result ≡ odd_place float_ops c.now i }
 {
     let mut sum = 0.0f64;
     let mut w = lead_f64(i);
@@ -45,7 +45,7 @@ struct TwoPlaces {
 // Places i and i + 1, each summed as `odd_place_f64` does, in one loop: neither sum waits for the other, so the loop takes the time of one.
 fn odd_places_f64(c: &[f64], i: usize) -> TwoPlaces
     requires { 2 * i + 3 < length c.now }
-    ensures { (result.first ≡ oddPlace floatOps c.now i) × (result.second ≡ oddPlace floatOps c.now (i + 1)) }
+    ensures { (result.first ≡ odd_place float_ops c.now i) × (result.second ≡ odd_place float_ops c.now (i + 1)) }
 {
     let from = 2 * i + 1;
     let lead = lead_f64(i);
@@ -67,8 +67,8 @@ fn odd_places_f64(c: &[f64], i: usize) -> TwoPlaces
 
 // Writes every second coefficient from place `from` on.
 fn copy_second_f64(c: &[f64], from: usize, out: &mut [f64])
-    requires { length (everySecond (drop from c.now)) ≤ length out.old }
-    ensures { out.new ≡ sets out.old 0 (everySecond (drop from c.now)) }
+    requires { length (every_second (drop from c.now)) ≤ length out.old }
+    ensures { out.new ≡ sets out.old 0 (every_second (drop from c.now)) }
 {
     let mut i = 0;
     let mut j = from;
@@ -82,7 +82,7 @@ fn copy_second_f64(c: &[f64], from: usize, out: &mut [f64])
 // Writes the fold of an odd Chebyshev polynomial.
 fn fold_odd_f64(c: &[f64], out: &mut [f64])
     requires { Foldable Odd c.now out.old }
-    ensures { out.new ≡ sets out.old 0 (fold floatOps Odd Chebyshev c.now) }
+    ensures { out.new ≡ sets out.old 0 (fold float_ops Odd Chebyshev c.now) }
 {
     let n = c.len() / 2;
     let mut i = 0;
@@ -100,7 +100,7 @@ fn fold_odd_f64(c: &[f64], out: &mut [f64])
 // Writes the fold.
 fn fold_into_f64(parity: Parity, basis: Basis, c: &[f64], out: &mut [f64])
     requires { Foldable parity c.now out.old }
-    ensures { out.new ≡ sets out.old 0 (fold floatOps parity basis c.now) }
+    ensures { out.new ≡ sets out.old 0 (fold float_ops parity basis c.now) }
 {
     match parity {
         Parity::Full => {}
@@ -114,7 +114,7 @@ fn fold_into_f64(parity: Parity, basis: Basis, c: &[f64], out: &mut [f64])
 
 // Folds an f64 polynomial of parity Even or Odd into one of half the degree.
 pub fn fold_parity_f64(parity: Parity, basis: Basis, c: &[f64], out: &mut [f64]) -> Folded
-    ensures { FoldCall floatNumbers parity basis c.now out.old result out.new }
+    ensures { FoldCall float_numbers parity basis c.now out.old result out.new }
 {
     let n = c.len();
     let count = fold_count(parity, n);

@@ -1,6 +1,6 @@
 // The interval of a polynomial, with the pair that takes it to the variable of the coefficients.
 ghost use Rattle.std.specs.Prelude.{◌≡◌};
-ghost use Rattle.number.specs.Interval.{changeOfBasis, noInterval};
+ghost use Rattle.number.specs.Interval.{change_of_basis, no_interval};
 
 use algebra::Basis;
 
@@ -15,7 +15,7 @@ pub struct Interval {
 
 // The interval from a to b with its change pair.
 pub fn change_of_basis(basis: Basis, a: f64, b: f64) -> Interval
-    ensures { result ≡ changeOfBasis basis a b }
+    ensures { result ≡ change_of_basis basis a b }
 {
     match basis {
         Basis::Monomial => Interval {
@@ -39,7 +39,7 @@ pub fn change_of_basis(basis: Basis, a: f64, b: f64) -> Interval
 
 // The interval of a refusal: +0 in every field.
 pub fn no_interval() -> Interval
-    ensures { result ≡ noInterval }
+    ensures { result ≡ no_interval }
 {
     Interval {
         a: 0.0,

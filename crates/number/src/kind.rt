@@ -1,11 +1,11 @@
 // The number of each basis, parity and transform, by which answers show them.
 ghost use Rattle.std.specs.Prelude.{◌≡◌};
-ghost use Rattle.algebra.specs.EnumNumbers.{basisNumber, parityNumber, transformNumber};
+ghost use Rattle.algebra.specs.EnumNumbers.{basis_number, parity_number, transform_number};
 
 use algebra::{Basis, Parity, PolynomialInputTransform};
 
 pub fn basis_number(basis: Basis) -> u8
-    ensures { result ≡ basisNumber basis }
+    ensures { result ≡ basis_number basis }
 {
     match basis {
         Basis::Monomial => 0,
@@ -14,7 +14,7 @@ pub fn basis_number(basis: Basis) -> u8
 }
 
 pub fn parity_number(parity: Parity) -> u8
-    ensures { result ≡ parityNumber parity }
+    ensures { result ≡ parity_number parity }
 {
     match parity {
         Parity::Full => 0,
@@ -24,7 +24,7 @@ pub fn parity_number(parity: Parity) -> u8
 }
 
 pub fn transform_number(transform: PolynomialInputTransform) -> u8
-    ensures { result ≡ transformNumber transform }
+    ensures { result ≡ transform_number transform }
 {
     match transform {
         PolynomialInputTransform::Identity => 0,

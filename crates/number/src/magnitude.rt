@@ -1,6 +1,6 @@
 // Magnitudes of whole coefficients.
 ghost use Rattle.std.specs.Prelude.{◌≡◌, ◌-◌, nat_abs};
-ghost use Rattle.number.specs.Numbers.{wholeNumbers};
+ghost use Rattle.number.specs.Numbers.{whole_numbers};
 
 use crate::limits::SUM_LIMIT;
 
@@ -24,7 +24,7 @@ fn less(left: usize, m: usize) -> usize
 
 // Whether the magnitudes sum to at most the limit. No early return: a loop with one exit is faster.
 pub fn sum_fits(c: &[i64]) -> bool
-    ensures { result ≡ wholeNumbers.small c.now }
+    ensures { result ≡ whole_numbers.small c.now }
 {
     let mut left: usize = SUM_LIMIT + 1;
     let mut i: usize = 0;

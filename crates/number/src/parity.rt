@@ -1,8 +1,8 @@
 // Whether coefficients have a parity, and the parity that they have, for whole and f64 coefficients.
 ghost use Rattle.std.specs.Prelude.{◌≡◌, ◌||◌};
 ghost use Rattle.algebra.specs.Allowed.{allows};
-ghost use Rattle.number.specs.Numbers.{wholeNumbers, floatNumbers};
-ghost use Rattle.number.specs.Parity.{hasParity, parityOf};
+ghost use Rattle.number.specs.Numbers.{whole_numbers, float_numbers};
+ghost use Rattle.number.specs.Parity.{has_parity, parity_of};
 
 use algebra::Parity;
 
@@ -19,7 +19,7 @@ pub fn is_allowed(parity: Parity, j: usize) -> bool
 
 // Whether x may stand at place j.
 fn fits_at(parity: Parity, j: usize, x: i64) -> bool
-    ensures { result ≡ (allows parity j || wholeNumbers.is_zero x) }
+    ensures { result ≡ (allows parity j || whole_numbers.is_zero x) }
 {
     if is_allowed(parity, j) {
         return true;
@@ -29,7 +29,7 @@ fn fits_at(parity: Parity, j: usize, x: i64) -> bool
 
 // The same of an f64: -0 counts as zero, a NaN does not.
 fn fits_at_f64(parity: Parity, j: usize, x: f64) -> bool
-    ensures { result ≡ (allows parity j || floatNumbers.is_zero x) }
+    ensures { result ≡ (allows parity j || float_numbers.is_zero x) }
 {
     if is_allowed(parity, j) {
         return true;
@@ -39,7 +39,7 @@ fn fits_at_f64(parity: Parity, j: usize, x: f64) -> bool
 
 // Whether every coefficient at a place that the parity doesn't allow is zero.
 pub fn has_parity(parity: Parity, c: &[i64]) -> bool
-    ensures { result ≡ hasParity wholeNumbers parity c.now }
+    ensures { result ≡ has_parity whole_numbers parity c.now }
 {
     let mut j = 0;
     while j < c.len() {
@@ -54,7 +54,7 @@ pub fn has_parity(parity: Parity, c: &[i64]) -> bool
 
 // The same of f64 coefficients.
 pub fn has_parity_f64(parity: Parity, c: &[f64]) -> bool
-    ensures { result ≡ hasParity floatNumbers parity c.now }
+    ensures { result ≡ has_parity float_numbers parity c.now }
 {
     let mut j = 0;
     while j < c.len() {
@@ -69,7 +69,7 @@ pub fn has_parity_f64(parity: Parity, c: &[f64]) -> bool
 
 // Even if the coefficients have that parity, else Odd if they have that, else Full.
 pub fn detect_parity(c: &[i64]) -> Parity
-    ensures { result ≡ parityOf wholeNumbers c.now }
+    ensures { result ≡ parity_of whole_numbers c.now }
 {
     if has_parity(Parity::Even, c) {
         return Parity::Even;
@@ -82,7 +82,7 @@ pub fn detect_parity(c: &[i64]) -> Parity
 
 // The same of f64 coefficients.
 pub fn detect_parity_f64(c: &[f64]) -> Parity
-    ensures { result ≡ parityOf floatNumbers c.now }
+    ensures { result ≡ parity_of float_numbers c.now }
 {
     if has_parity_f64(Parity::Even, c) {
         return Parity::Even;

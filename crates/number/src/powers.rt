@@ -1,10 +1,10 @@
 // Binary digits, and powers of two by a shift.
 ghost use Rattle.std.specs.Prelude.{◌≡◌, ◌^◌, ◌≤◌, ◌<◌};
-ghost use Rattle.number.specs.Bits.{bitLen, topPower, powerBelow};
+ghost use Rattle.number.specs.Bits.{bit_len, top_power, power_below};
 
 // The number of binary digits of n.
 pub fn bit_len(n: usize) -> usize
-    ensures { result ≡ bitLen n }
+    ensures { result ≡ bit_len n }
 {
     (64 - usize::leading_zeros(n)) as usize
 }
@@ -20,7 +20,7 @@ pub fn power_of_two(k: usize) -> usize
 // The greatest power of two at most n.
 pub fn top_power(n: usize) -> usize
     requires { 0 < n }
-    ensures { result ≡ topPower n }
+    ensures { result ≡ top_power n }
 {
     power_of_two(bit_len(n) - 1)
 }
@@ -28,7 +28,7 @@ pub fn top_power(n: usize) -> usize
 // The greatest power of two below n.
 pub fn power_below(n: usize) -> usize
     requires { 2 ≤ n }
-    ensures { result ≡ powerBelow n }
+    ensures { result ≡ power_below n }
 {
     top_power(n - 1)
 }

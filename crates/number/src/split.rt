@@ -1,7 +1,7 @@
 // Splitting an index into the two powers that make it.
 ghost use Rattle.std.specs.Prelude.{◌≡◌};
 ghost use Rattle.algebra.specs.Distance.{distance_of};
-ghost use Rattle.number.specs.Split.{noParts, splitOf};
+ghost use Rattle.number.specs.Split.{no_parts, split_of};
 
 use crate::limits::DEGREE_LIMIT;
 use crate::powers::power_below;
@@ -24,7 +24,7 @@ fn distance(a: usize, b: usize) -> usize
 
 // A refusal, with zeros.
 fn no_parts(refusal: u8) -> Parts
-    ensures { result ≡ noParts refusal }
+    ensures { result ≡ no_parts refusal }
 {
     Parts {
         refusal: refusal,
@@ -36,7 +36,7 @@ fn no_parts(refusal: u8) -> Parts
 
 // The two parts of n and their distance: refusal 9 below 2 and above 4,294,967,295.
 pub fn split_degree(n: usize) -> Parts
-    ensures { result ≡ splitOf n }
+    ensures { result ≡ split_of n }
 {
     if n < 2 || DEGREE_LIMIT < n {
         return no_parts(9);

@@ -1,12 +1,12 @@
 // The transform of a folded polynomial.
 ghost use Rattle.std.specs.Prelude.{◌≡◌};
-ghost use Rattle.algebra.specs.Transform.{transformOf};
+ghost use Rattle.algebra.specs.Transform.{transform_of};
 
 use algebra::{Basis, Parity, PolynomialInputTransform};
 
 // The transform that goes with a fold.
 pub fn transform_of(parity: Parity, basis: Basis) -> PolynomialInputTransform
-    ensures { result ≡ transformOf parity basis }
+    ensures { result ≡ transform_of parity basis }
 {
     match parity {
         Parity::Full => PolynomialInputTransform::Identity,

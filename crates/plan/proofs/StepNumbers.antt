@@ -6,54 +6,54 @@ use Prim.Native.Nat.{ℕ, suc, ◌+◌, ◌*◌}
 use native.Mathlib.Omega.{arith}
 use lib.ListN.{set}
 use lib.Seq.{sets}
-use Rattle.number.specs.Split.{splitOf}
+use Rattle.number.specs.Split.{split_of}
 use Rattle.number.specs.declared.split.Parts.{Parts}
-use Rattle.number.proofs.SplitParts.{parted, split-accepted}
+use Rattle.number.proofs.SplitParts.{parted, split_accepted}
 use Rattle.walk.specs.WalksHeld.{flat}
 use Rattle.plan.specs.inside.Writing.{StepFits, PowerFits, PowerPut}
 
 -- four stores
 pub put_four : (b : List ℕ) (at : ℕ) {k x y z : ℕ} (k' x' y' z' : ℕ) → k ≡ k' → x ≡ x' → y ≡ y' → z ≡ z'
     → set (set (set (set b at k) (at + 1) x) (at + 2) y) (at + 3) z ≡ sets b at (k' ∷ x' ∷ y' ∷ z' ∷ [])
-put_four b at k' x' y' z' k-is x-is y-is z-is =
+put_four b at k' x' y' z' k_is x-is y_is z_is =
     let one : at + 1 ≡ suc at = omega arith in
     let two : at + 2 ≡ suc (suc at) = omega arith in
     let three : at + 3 ≡ suc (suc (suc at)) = omega arith in
-    rw (k-is, x-is, y-is, z-is, one, two, three)
+    rw (k_is, x-is, y_is, z_is, one, two, three)
 
 -- ---- the step of a power
 
-pub power-unmarked : (marked : Bool) (n step : ℕ) (b : List ℕ) → not marked ≡ true → PowerPut marked n step b step b
-power-unmarked true n step b none = absurd (true≢false (sym none))
-power-unmarked false n step b none = record { numbers = refl; next = omega arith }
+pub power_unmarked : (marked : Bool) (n step : ℕ) (b : List ℕ) → not marked ≡ true → PowerPut marked n step b step b
+power_unmarked true n step b none = absurd (true≢false (sym none))
+power_unmarked false n step b none = record { numbers = refl; next = omega arith }
 
-module _ (marked : Bool) {n step : ℕ} {b : List ℕ} {parts : Parts} (fits : PowerFits marked n step b) (is-marked : not marked ≡ false)
-    (parts_are : parts ≡ splitOf n) where
-  pub power-fits : StepFits step 1 n parts.a parts.b b
-  power-fits = by-mark marked fits is-marked
+module _ (marked : Bool) {n step : ℕ} {b : List ℕ} {parts : Parts} (fits : PowerFits marked n step b) (is_marked : not marked ≡ false)
+    (parts_are : parts ≡ split_of n) where
+  pub power_fits : StepFits step 1 n parts.a parts.b b
+  power_fits = by_mark marked fits is_marked
     where
-      by-mark : (t : Bool) → PowerFits t n step b → not t ≡ false → StepFits step 1 n parts.a parts.b b
-      by-mark true known is =
-          let from = known.from-two refl in
+      by_mark : (t : Bool) → PowerFits t n step b → not t ≡ false → StepFits step 1 n parts.a parts.b b
+      by_mark true known is =
+          let from = known.from_two refl in
           let within = known.limit in
-          let accepted = parts_are ∙ split-accepted n from (omega arith) in
+          let accepted = parts_are ∙ split_accepted n from (omega arith) in
           let two = parted n from in
           rw accepted (record {
             places = omega (arith, known.places);
-            kind-limit = omega arith;
-            x-limit = omega arith;
-            y-limit = omega arith;
-            z-limit = omega arith;
+            kind_limit = omega arith;
+            x_limit = omega arith;
+            y_limit = omega arith;
+            z_limit = omega arith;
           })
-      by-mark false known is = absurd (true≢false is)
+      by_mark false known is = absurd (true≢false is)
 
-  pub power-marked : {b' : List ℕ} → b' ≡ sets b (4 * step) (1 ∷ n ∷ parts.a ∷ parts.b ∷ []) → PowerPut marked n step b (step + 1) b'
+  pub power_marked : {b' : List ℕ} → b' ≡ sets b (4 * step) (1 ∷ n ∷ parts.a ∷ parts.b ∷ []) → PowerPut marked n step b (step + 1) b'
   unfolding flat
-  power-marked {b'} put = by-mark marked fits is-marked
+  power_marked {b'} put = by_mark marked fits is_marked
     where
-      by-mark : (t : Bool) → PowerFits t n step b → not t ≡ false → PowerPut t n step b (step + 1) b'
-      by-mark true known is =
+      by_mark : (t : Bool) → PowerFits t n step b → not t ≡ false → PowerPut t n step b (step + 1) b'
+      by_mark true known is =
           let within = known.limit in
-          let accepted = parts_are ∙ split-accepted n (known.from-two refl) (omega arith) in
+          let accepted = parts_are ∙ split_accepted n (known.from_two refl) (omega arith) in
           record { numbers = put ∙ ap (λ (p : Parts). sets b (4 * step) (1 ∷ n ∷ p.a ∷ p.b ∷ [])) accepted; next = refl }
-      by-mark false known is = absurd (true≢false is)
+      by_mark false known is = absurd (true≢false is)

@@ -8,154 +8,154 @@ use lib.Dec.{eqb}
 use lib.ListN.{length, length-append}
 use lib.Pow.{pow_pos}
 use lib.Seq.{sets}
-use Rattle.number.specs.Bits.{bitLen, topPower}
-use Rattle.number.proofs.Bits.{Top, top-power}
-use Rattle.counts.specs.MinDepth.{minDepth}
-use Rattle.lists.specs.Tree.{Tree, leaf, cut, listedAgain, tree_of}
-use Rattle.lists.specs.Arrange.{leavesOf}
-use Rattle.lists.proofs.TreeRule.{leading-again, tree-leaf, tree_again, tree-cut}
-use Rattle.lists.proofs.Arranging.{some-leaves, sets-append}
+use Rattle.number.specs.Bits.{bit_len, top_power}
+use Rattle.number.proofs.Bits.{Top, top_power_lem}
+use Rattle.counts.specs.MinDepth.{min_depth}
+use Rattle.lists.specs.Tree.{Tree, leaf, cut, listed_again, tree_of}
+use Rattle.lists.specs.Arrange.{leaves_of}
+use Rattle.lists.proofs.TreeRule.{leading_again, tree_leaf, tree_again, tree_cut}
+use Rattle.lists.proofs.Arranging.{some_leaves, sets_append}
 use Rattle.walk.specs.WalksHeld.{flat}
-use Rattle.walk.proofs.FlatSteps.{flat_append, flat-length}
-use Rattle.plan.specs.PlanSteps.{combineStep, combineKind, treeSteps}
+use Rattle.walk.proofs.FlatSteps.{flat_append, flat_length}
+use Rattle.plan.specs.PlanSteps.{combine_step, combine_kind, tree_steps}
 use Rattle.plan.specs.inside.Writing.{StepFits, TreeFits, TreePut}
 use Rattle.plan.specs.declared.tree.Place.{Place}
-use Rattle.plan.proofs.StepCounts.{steps-length}
+use Rattle.plan.proofs.StepCounts.{steps_length}
 
-put-leaf : {plain : Bool} {list step : ℕ} {b b' : List ℕ} → b' ≡ sets b (4 * step) (2 ∷ list ∷ 0 ∷ 0 ∷ [])
+put_leaf : {plain : Bool} {list step : ℕ} {b b' : List ℕ} → b' ≡ sets b (4 * step) (2 ∷ list ∷ 0 ∷ 0 ∷ [])
     → TreePut plain leaf list step b (record { list = list + 1; step = step + 1 }) b'
-unfolding treeSteps leavesOf flat
-put-leaf put = record { numbers = put; next-list = refl; next-step = omega arith }
+unfolding tree_steps leaves_of flat
+put_leaf put = record { numbers = put; next_list = refl; next_step = omega arith }
 
 -- where the steps of a tree end
-ends_at : (plain : Bool) (tree : Tree) (list step next : ℕ) → next + 1 ≡ step + (leavesOf tree + leavesOf tree)
-    → 4 * next ≡ 4 * step + length (flat (treeSteps plain tree list))
+ends_at : (plain : Bool) (tree : Tree) (list step next : ℕ) → next + 1 ≡ step + (leaves_of tree + leaves_of tree)
+    → 4 * next ≡ 4 * step + length (flat (tree_steps plain tree list))
 ends_at plain tree list step next is =
-    let size = flat-length (treeSteps plain tree list) in
-    let count = steps-length plain tree list in
+    let size = flat_length (tree_steps plain tree list) in
+    let count = steps_length plain tree list in
     omega arith
 
-put-cut : {plain : Bool} {low high : Tree} {list step : ℕ} {b b₁ b₂ b₃ : List ℕ} {l h : Place} {kind : ℕ} (p : ℕ)
+put_cut : {plain : Bool} {low high : Tree} {list step : ℕ} {b b₁ b₂ b₃ : List ℕ} {l h : Place} {kind : ℕ} (p : ℕ)
     → TreePut false low list step b l b₁ → TreePut plain high l.list l.step b₁ h b₂
     → kind ≡ cond (plain && eqb (h.list - l.list) 1) 4 3 → b₃ ≡ sets b₂ (4 * h.step) (kind ∷ p ∷ 0 ∷ 0 ∷ [])
     → TreePut plain (cut p low high) list step b (record { list = h.list; step = h.step + 1 }) b₃
-unfolding treeSteps leavesOf flat combineKind
-put-cut {plain} {low} {high} {list} {step} {b} {b₁} {b₂} {b₃} {l} {h} {kind} p first then kind-is put = record {
+unfolding tree_steps leaves_of flat combine_kind
+put_cut {plain} {low} {high} {list} {step} {b} {b₁} {b₂} {b₃} {l} {h} {kind} p first then kind_is put = record {
   numbers =
       put
       ∙ ap₂ (λ (x : List ℕ) (k : ℕ). sets x (4 * h.step) (k ∷ p ∷ 0 ∷ 0 ∷ []))
-      (then.numbers ∙ ap₂ (λ (x : List ℕ) (i : ℕ). sets x (4 * l.step) (flat (treeSteps plain high i))) first.numbers first.next-list)
-      kind-same
+      (then.numbers ∙ ap₂ (λ (x : List ℕ) (i : ℕ). sets x (4 * l.step) (flat (tree_steps plain high i))) first.numbers first.next_list)
+      kind_same
       ∙ ap (λ (x : List ℕ). sets x (4 * h.step) last)
-      (sets-append b lows highs (4 * step) (4 * l.step) (ends_at false low list step l.step first.next-step))
-      ∙ sets-append b (lows ++ highs) last (4 * step) (4 * h.step) high_end
+      (sets_append b lows highs (4 * step) (4 * l.step) (ends_at false low list step l.step first.next_step))
+      ∙ sets_append b (lows ++ highs) last (4 * step) (4 * h.step) high_end
       ∙ ap (sets b (4 * step)) (sym all);
-  next-list = omega (arith, first.next-list, then.next-list);
-  next-step = omega (arith, first.next-step, then.next-step);
+  next_list = omega (arith, first.next_list, then.next_list);
+  next_step = omega (arith, first.next_step, then.next_step);
 }
   where
     lows : List ℕ
-    lows = flat (treeSteps false low list)
+    lows = flat (tree_steps false low list)
 
     highs : List ℕ
-    highs = flat (treeSteps plain high (list + leavesOf low))
+    highs = flat (tree_steps plain high (list + leaves_of low))
 
     last : List ℕ
-    last = flat (combineStep (combineKind plain high) p ∷ [])
+    last = flat (combine_step (combine_kind plain high) p ∷ [])
 
-    kind-same : kind ≡ combineKind plain high
-    kind-same =
-        let count : h.list - l.list ≡ leavesOf high = omega (arith, then.next-list) in
-        kind-is ∙ ap (λ (n : ℕ). cond (plain && eqb n 1) 4 3) count
+    kind_same : kind ≡ combine_kind plain high
+    kind_same =
+        let count : h.list - l.list ≡ leaves_of high = omega (arith, then.next_list) in
+        kind_is ∙ ap (λ (n : ℕ). cond (plain && eqb n 1) 4 3) count
 
     high_end : 4 * h.step ≡ 4 * step + length (lows ++ highs)
     high_end =
-        let first-end = ends_at false low list step l.step first.next-step in
-        let then-end = ends_at plain high (list + leavesOf low) l.step h.step then.next-step in
+        let first_end = ends_at false low list step l.step first.next_step in
+        let then_end = ends_at plain high (list + leaves_of low) l.step h.step then.next_step in
         let both = length-append lows highs in
         omega arith
 
-    all : flat (treeSteps false low list ++ (treeSteps plain high (list + leavesOf low) ++ (combineStep (combineKind plain high) p ∷ [])))
+    all : flat (tree_steps false low list ++ (tree_steps plain high (list + leaves_of low) ++ (combine_step (combine_kind plain high) p ∷ [])))
         ≡ (lows ++ highs) ++ last
     all =
-        flat_append (treeSteps false low list) (treeSteps plain high (list + leavesOf low) ++ (combineStep (combineKind plain high) p ∷ []))
-        ∙ ap (lows ++◌) (flat_append (treeSteps plain high (list + leavesOf low)) (combineStep (combineKind plain high) p ∷ []))
+        flat_append (tree_steps false low list) (tree_steps plain high (list + leaves_of low) ++ (combine_step (combine_kind plain high) p ∷ []))
+        ∙ ap (lows ++◌) (flat_append (tree_steps plain high (list + leaves_of low)) (combine_step (combine_kind plain high) p ∷ []))
         ∙ sym (append_assoc lows highs last)
 
 -- ---- a slice
 
 module _ {leading : Bool} {whole degree split list step : ℕ} {b : List ℕ} (fits : TreeFits leading whole degree split list step b)
     (below : degree < 2 ^ split) where
-  module _ (again : (leading && listedAgain whole degree split) ≡ true) where
-    pub smaller : minDepth (bitLen degree) < split
-    smaller = (leading-again leading whole degree split again).smaller
+  module _ (again : (leading && listed_again whole degree split) ≡ true) where
+    pub smaller : min_depth (bit_len degree) < split
+    smaller = (leading_again leading whole degree split again).smaller
 
     pub positive : 0 < degree
-    positive = (leading-again leading whole degree split again).positive
+    positive = (leading_again leading whole degree split again).positive
 
-    pub fits-again : TreeFits leading whole degree (minDepth (bitLen degree)) list step b
-    fits-again = record {
+    pub fits_again : TreeFits leading whole degree (min_depth (bit_len degree)) list step b
+    fits_again = record {
       ranges = record {
         positive = fits.ranges.positive;
-        whole-limit = fits.ranges.whole-limit;
+        whole_limit = fits.ranges.whole_limit;
         part_limit = fits.ranges.part_limit;
-        split-limit = omega (arith, smaller, fits.ranges.split-limit);
+        split_limit = omega (arith, smaller, fits.ranges.split_limit);
       };
-      list-limit = rw (← tree_again leading whole degree split below again) fits.list-limit;
+      list_limit = rw (← tree_again leading whole degree split below again) fits.list_limit;
       places = rw (← tree_again leading whole degree split below again) fits.places;
     }
 
-    pub put-again : {plain : Bool} {b' : List ℕ} {r : Place} → TreePut plain (tree_of leading whole degree (minDepth (bitLen degree))) list step b r b'
+    pub put_again : {plain : Bool} {b' : List ℕ} {r : Place} → TreePut plain (tree_of leading whole degree (min_depth (bit_len degree))) list step b r b'
         → TreePut plain (tree_of leading whole degree split) list step b r b'
-    put-again put = rw (tree_again leading whole degree split below again) put
+    put_again put = rw (tree_again leading whole degree split below again) put
 
   pub load_fits : StepFits step 2 list 0 0 b
   load_fits =
-      let one = some-leaves (tree_of leading whole degree split) in
+      let one = some_leaves (tree_of leading whole degree split) in
       record {
         places = omega (arith, fits.places);
-        kind-limit = omega arith;
-        x-limit = omega (arith, fits.list-limit);
-        y-limit = omega arith;
-        z-limit = omega arith;
+        kind_limit = omega arith;
+        x_limit = omega (arith, fits.list_limit);
+        y_limit = omega arith;
+        z_limit = omega arith;
       }
 
-  pub put-load : {plain : Bool} {b' : List ℕ} → (leading && listedAgain whole degree split) ≡ false
+  pub put_load : {plain : Bool} {b' : List ℕ} → (leading && listed_again whole degree split) ≡ false
       → b' ≡ sets b (4 * step) (2 ∷ list ∷ 0 ∷ 0 ∷ [])
       → TreePut plain (tree_of leading whole degree split) list step b (record { list = list + 1; step = step + 1 }) b'
-  put-load once put = rw (tree-leaf leading whole degree split below once) (put-leaf put)
+  put_load once put = rw (tree_leaf leading whole degree split below once) (put_leaf put)
 
 -- ---- a cut
 
-at-most-four : (test : Bool) → cond test 4 3 ≤ 4
-at-most-four true = omega arith
-at-most-four false = omega arith
+at_most_four : (test : Bool) → cond test 4 3 ≤ 4
+at_most_four true = omega arith
+at_most_four false = omega arith
 
 module _ {leading : Bool} {whole degree split list step : ℕ} {b : List ℕ} (fits : TreeFits leading whole degree split list step b)
-    (from : 2 ^ split ≤ degree) {p : ℕ} (power : p ≡ topPower degree) where
+    (from : 2 ^ split ≤ degree) {p : ℕ} (power : p ≡ top_power degree) where
   pub top : Top degree p
-  top = rw power (top-power degree (omega (arith, from, pow_pos split)))
+  top = rw power (top_power_lem degree (omega (arith, from, pow_pos split)))
 
   tree : tree_of leading whole degree split ≡ cut p (tree_of false whole (p - 1) split) (tree_of leading whole (degree - p) split)
-  tree = tree-cut leading whole degree split from ∙ rw (← power)
+  tree = tree_cut leading whole degree split from ∙ rw (← power)
 
-  leaves : leavesOf (tree_of leading whole degree split)
-      ≡ leavesOf (tree_of false whole (p - 1) split) + leavesOf (tree_of leading whole (degree - p) split)
-  unfolding leavesOf
-  leaves = ap leavesOf tree
+  leaves : leaves_of (tree_of leading whole degree split)
+      ≡ leaves_of (tree_of false whole (p - 1) split) + leaves_of (tree_of leading whole (degree - p) split)
+  unfolding leaves_of
+  leaves = ap leaves_of tree
 
   pub low_fits : TreeFits false whole (p - 1) split list step b
   low_fits =
       let bounds = top in
-      let high-leaves = some-leaves (tree_of leading whole (degree - p) split) in
+      let high_leaves = some_leaves (tree_of leading whole (degree - p) split) in
       record {
         ranges = record {
           positive = fits.ranges.positive;
-          whole-limit = fits.ranges.whole-limit;
+          whole_limit = fits.ranges.whole_limit;
           part_limit = omega (arith, fits.ranges.part_limit);
-          split-limit = fits.ranges.split-limit;
+          split_limit = fits.ranges.split_limit;
         };
-        list-limit = omega (arith, leaves, fits.list-limit);
+        list_limit = omega (arith, leaves, fits.list_limit);
         places = omega (arith, leaves, fits.places);
       }
 
@@ -166,32 +166,32 @@ module _ {leading : Bool} {whole degree split list step : ℕ} {b : List ℕ} (f
         record {
           ranges = record {
             positive = fits.ranges.positive;
-            whole-limit = fits.ranges.whole-limit;
+            whole_limit = fits.ranges.whole_limit;
             part_limit = omega (arith, fits.ranges.part_limit);
-            split-limit = fits.ranges.split-limit;
+            split_limit = fits.ranges.split_limit;
           };
-          list-limit = omega (arith, leaves, fits.list-limit, low.next-list);
-          places = omega (arith, leaves, fits.places, low.next-step);
+          list_limit = omega (arith, leaves, fits.list_limit, low.next_list);
+          places = omega (arith, leaves, fits.places, low.next_step);
         }
 
     module _ {plain : Bool} {b₂ : List ℕ} {h : Place} (high : TreePut plain (tree_of leading whole (degree - p) split) l.list l.step b₁ h b₂)
         (kept₂ : length b₂ ≡ length b₁) where
-      pub lists-rise : l.list ≤ h.list
-      lists-rise = omega (arith, high.next-list)
+      pub lists_rise : l.list ≤ h.list
+      lists_rise = omega (arith, high.next_list)
 
-      pub combine-fits : {kind : ℕ} → kind ≡ cond (plain && eqb (h.list - l.list) 1) 4 3 → StepFits h.step kind p 0 0 b₂
-      combine-fits kind-is =
+      pub combine_fits : {kind : ℕ} → kind ≡ cond (plain && eqb (h.list - l.list) 1) 4 3 → StepFits h.step kind p 0 0 b₂
+      combine_fits kind_is =
           let bounds = top in
-          let most = at-most-four (plain && eqb (h.list - l.list) 1) in
+          let most = at_most_four (plain && eqb (h.list - l.list) 1) in
           record {
-            places = omega (arith, leaves, fits.places, low.next-step, high.next-step);
-            kind-limit = omega (arith, kind-is);
-            x-limit = omega (arith, fits.ranges.part_limit);
-            y-limit = omega arith;
-            z-limit = omega arith;
+            places = omega (arith, leaves, fits.places, low.next_step, high.next_step);
+            kind_limit = omega (arith, kind_is);
+            x_limit = omega (arith, fits.ranges.part_limit);
+            y_limit = omega arith;
+            z_limit = omega arith;
           }
 
       pub put_both : {kind : ℕ} {b₃ : List ℕ} → kind ≡ cond (plain && eqb (h.list - l.list) 1) 4 3
           → b₃ ≡ sets b₂ (4 * h.step) (kind ∷ p ∷ 0 ∷ 0 ∷ [])
           → TreePut plain (tree_of leading whole degree split) list step b (record { list = h.list; step = h.step + 1 }) b₃
-      put_both kind-is put = rw tree (put-cut p low high kind-is put)
+      put_both kind_is put = rw tree (put_cut p low high kind_is put)

@@ -6,23 +6,23 @@ use Rattle.algebra.specs.declared.Parity.{Parity}
 use Rattle.algebra.specs.declared.Parity.TheVariants.{Full}
 use Rattle.algebra.specs.declared.PolynomialInputTransform.{PolynomialInputTransform}
 use Rattle.algebra.specs.declared.PolynomialInputTransform.TheVariants.{Identity}
-use Rattle.number.specs.Interval.{noInterval}
+use Rattle.number.specs.Interval.{no_interval}
 use Rattle.number.specs.declared.interval.Interval.{Interval}
-use Rattle.counts.specs.Choice.{splitFor}
+use Rattle.counts.specs.Choice.{split_for}
 use Rattle.counts.specs.Depth.{depth_of}
 use Rattle.counts.specs.declared.pair.Pair.{Pair}
 use Rattle.counts.specs.declared.choice.SplitStrategy.{SplitStrategy}
 use Rattle.counts.specs.declared.choice.SplitStrategy.TheVariants.{MinDepth}
-use Rattle.lists.specs.Tree.{planTree}
-use Rattle.lists.specs.Arrange.{leavesOf, lengthsOf}
+use Rattle.lists.specs.Tree.{plan_tree}
+use Rattle.lists.specs.Arrange.{leaves_of, lengths_of}
 use Rattle.walk.specs.declared.plan.Head.{Head}
-use Rattle.plan.specs.PlanSteps.{planSteps}
-use Rattle.plan.specs.Reported.{transformCost, reported}
+use Rattle.plan.specs.PlanSteps.{plan_steps}
+use Rattle.plan.specs.Reported.{transform_cost, reported}
 
 -- the counts of a degree's lists and steps
-abbrev pub planCounts : SplitStrategy → Parity → Basis → PolynomialInputTransform → (degree : ℕ) → Pair
-planCounts strategy parity basis transform degree =
-    reported parity transform (lengthsOf (planTree strategy parity basis degree) (suc degree)) (planSteps strategy parity basis degree)
+abbrev pub plan_counts : SplitStrategy → Parity → Basis → PolynomialInputTransform → (degree : ℕ) → Pair
+plan_counts strategy parity basis transform degree =
+    reported parity transform (lengths_of (plan_tree strategy parity basis degree) (suc degree)) (plan_steps strategy parity basis degree)
 
 -- the head of a degree, behind a transform, on an interval
 unfoldable pub head_of : SplitStrategy → Parity → Basis → PolynomialInputTransform → Interval → (degree : ℕ) → Head
@@ -32,19 +32,19 @@ head_of strategy parity basis transform interval degree = record {
   strategy = strategy;
   transform = transform;
   degree = degree;
-  base = 2 ^ splitFor strategy parity basis degree;
-  ct = (planCounts strategy parity basis transform degree).ct;
-  pt = (planCounts strategy parity basis transform degree).pt;
-  depth = depth_of strategy degree + transformCost transform;
+  base = 2 ^ split_for strategy parity basis degree;
+  ct = (plan_counts strategy parity basis transform degree).ct;
+  pt = (plan_counts strategy parity basis transform degree).pt;
+  depth = depth_of strategy degree + transform_cost transform;
   coefficients = suc degree;
-  lists = leavesOf (planTree strategy parity basis degree);
-  steps = length (planSteps strategy parity basis degree);
+  lists = leaves_of (plan_tree strategy parity basis degree);
+  steps = length (plan_steps strategy parity basis degree);
   interval = interval;
 }
 
 -- after a refusal everything is zero, and an enum has its first value
-abbrev pub noHead : Head
-noHead = record {
+abbrev pub no_head : Head
+no_head = record {
   basis = Monomial;
   parity = Full;
   strategy = MinDepth;
@@ -57,5 +57,5 @@ noHead = record {
   coefficients = 0;
   lists = 0;
   steps = 0;
-  interval = noInterval;
+  interval = no_interval;
 }

@@ -1,8 +1,8 @@
 // The plan call.
 ghost use Rattle.std.specs.Prelude.{◌≡◌};
-ghost use Rattle.plan.specs.PlanHead.{noHead};
+ghost use Rattle.plan.specs.PlanHead.{no_head};
 ghost use Rattle.plan.specs.PlanCall.{PlanCall};
-ghost use Rattle.plan.specs.inside.Filling.{bufferRefusal};
+ghost use Rattle.plan.specs.inside.Filling.{buffer_refusal};
 
 use super::head::{head_of, no_head};
 use super::input::input_refusal;
@@ -29,7 +29,7 @@ pub fn buffer_refusal(
     boundaries: usize,
     numbers: usize,
 ) -> u8
-    ensures { result ≡ bufferRefusal coefficients lists steps room boundaries numbers }
+    ensures { result ≡ buffer_refusal coefficients lists steps room boundaries numbers }
 {
     if room < coefficients {
         return 21;
@@ -42,7 +42,7 @@ pub fn buffer_refusal(
 
 // A refusal.
 fn refused(refusal: u8) -> Planned
-    ensures { result ≡ record { refusal = refusal; head = noHead } }
+    ensures { result ≡ record { refusal = refusal; head = no_head } }
 {
     let head = no_head();
     Planned { refusal, head }

@@ -1,11 +1,11 @@
 // The head of a plan.
 ghost use Rattle.std.specs.Prelude.{◌≡◌, cond, ◌&&◌, leb};
-ghost use Rattle.number.specs.Limits.{planLimit};
+ghost use Rattle.number.specs.Limits.{plan_limit};
 ghost use Rattle.number.specs.inside.Between.{Between};
-ghost use Rattle.plan.specs.Reported.{transformCost};
-ghost use Rattle.plan.specs.PlanHead.{head_of, noHead};
-ghost use Rattle.plan.specs.PlanCall.{plannedParity, plannedTransform};
-ghost use Rattle.plan.specs.inside.Outlines.{outlineFor};
+ghost use Rattle.plan.specs.Reported.{transform_cost};
+ghost use Rattle.plan.specs.PlanHead.{head_of, no_head};
+ghost use Rattle.plan.specs.PlanCall.{planned_parity, planned_transform};
+ghost use Rattle.plan.specs.inside.Outlines.{outline_for};
 
 use super::input::{planned_parity, planned_transform};
 use super::outline::Outline;
@@ -25,7 +25,7 @@ pub fn plain_steps(plain: bool, lists: usize) -> usize
 
 // The multiplications of a transform, by which it makes the depth greater too.
 fn cost_of(transform: PolynomialInputTransform) -> usize
-    ensures { result ≡ transformCost transform }
+    ensures { result ≡ transform_cost transform }
 {
     match transform {
         PolynomialInputTransform::Identity => 0,
@@ -46,8 +46,8 @@ pub fn head_of(
     degree: usize,
     outline: Outline,
 ) -> Head
-    requires { Between 1 degree planLimit × (outline ≡ outlineFor strategy (plannedParity fold parity) basis degree) }
-    ensures { result ≡ head_of strategy (plannedParity fold parity) basis (plannedTransform fold parity basis) interval degree }
+    requires { Between 1 degree plan_limit × (outline ≡ outline_for strategy (planned_parity fold parity) basis degree) }
+    ensures { result ≡ head_of strategy (planned_parity fold parity) basis (planned_transform fold parity basis) interval degree }
 {
     let planned = planned_parity(fold, parity);
     let transform = planned_transform(fold, parity, basis);
@@ -75,7 +75,7 @@ pub fn head_of(
 
 // The head after a refusal: zeros, and the first value of each enum.
 pub fn no_head() -> Head
-    ensures { result ≡ noHead }
+    ensures { result ≡ no_head }
 {
     let interval = no_interval();
     Head {

@@ -1,13 +1,13 @@
 // A plan as far as degree and settings decide: its split, and how many powers, coefficients, lists and steps it has.
 ghost use Rattle.std.specs.Prelude.{◌≡◌, suc, ◌≤◌, ◌<◌, ◌^◌, eqb};
-ghost use Rattle.number.specs.Limits.{planLimit, countLimit};
-ghost use Rattle.number.specs.Refusal.{firstRefusal};
+ghost use Rattle.number.specs.Limits.{plan_limit, count_limit};
+ghost use Rattle.number.specs.Refusal.{first_refusal};
 ghost use Rattle.number.specs.inside.Between.{Between};
 ghost use Rattle.lists.specs.Tree.{tree_of};
 ghost use Rattle.lists.specs.inside.Listing.{Ranges};
-ghost use Rattle.plan.specs.PlanCall.{plannedParity, settingsTests};
-ghost use Rattle.plan.specs.PlanSizes.{degreeToPlan, stepCount};
-ghost use Rattle.plan.specs.inside.Outlines.{totalsOf, lowTotals, outlineFor};
+ghost use Rattle.plan.specs.PlanCall.{planned_parity, settings_tests};
+ghost use Rattle.plan.specs.PlanSizes.{degree_to_plan, step_count};
+ghost use Rattle.plan.specs.inside.Outlines.{totals_of, low_totals, outline_for};
 
 use super::input::{planned_count, planned_parity};
 use counts::{SplitStrategy, allowed_to, split_for_strategy};
@@ -37,8 +37,8 @@ pub struct Outline {
 
 // The totals of the low part of a degree from the base on.
 fn total_low(parity: Parity, degree: usize, split: usize) -> Totals
-    requires { (2 ^ split ≤ degree) × (degree ≤ planLimit) }
-    ensures { result ≡ lowTotals parity degree split }
+    requires { (2 ^ split ≤ degree) × (degree ≤ plan_limit) }
+    ensures { result ≡ low_totals parity degree split }
 {
     let base = power_of_two(split);
     let lists = low_lists(degree, split);
@@ -60,7 +60,7 @@ pub fn total_lists(
     split: usize,
 ) -> Totals
     requires { Ranges whole degree split }
-    ensures { result ≡ totalsOf parity (tree_of leading whole degree split) (suc degree) }
+    ensures { result ≡ totals_of parity (tree_of leading whole degree split) (suc degree) }
 {
     let base = power_of_two(split);
     if degree < base {
@@ -80,7 +80,7 @@ pub fn total_lists(
 #[cycle(total_lists_total_slice)]
 fn total_slice(leading: bool, parity: Parity, whole: usize, degree: usize, split: usize) -> Totals
     requires { Ranges whole degree split × (degree < 2 ^ split) }
-    ensures { result ≡ totalsOf parity (tree_of leading whole degree split) (suc degree) }
+    ensures { result ≡ totals_of parity (tree_of leading whole degree split) (suc degree) }
 {
     if listed_again(leading, whole, degree, split) {
         return total_lists(leading, parity, whole, degree, smaller_split(degree));
@@ -102,8 +102,8 @@ pub fn last_plain(last: usize) -> bool
 
 // How many steps: one for each power, one for each list, and a combine for each list but the first.
 fn count_steps(powers: usize, lists: usize) -> usize
-    requires { (powers ≤ countLimit) × Between 1 lists countLimit }
-    ensures { result ≡ stepCount powers lists }
+    requires { (powers ≤ count_limit) × Between 1 lists count_limit }
+    ensures { result ≡ step_count powers lists }
 {
     let combines = lists - 1;
     powers + lists + combines
@@ -111,8 +111,8 @@ fn count_steps(powers: usize, lists: usize) -> usize
 
 // The outline of a degree.
 pub fn outline_of(strategy: SplitStrategy, parity: Parity, basis: Basis, degree: usize) -> Outline
-    requires { Between 1 degree planLimit }
-    ensures { result ≡ outlineFor strategy parity basis degree }
+    requires { Between 1 degree plan_limit }
+    ensures { result ≡ outline_for strategy parity basis degree }
 {
     let split = split_for_strategy(strategy, parity, basis, degree);
     let totals = total_lists(relists(strategy), parity, degree, degree, split);
@@ -138,8 +138,8 @@ pub fn planned_outline(
     fold: bool,
     degree: usize,
 ) -> Outline
-    requires { firstRefusal (settingsTests fold parity degree) ≡ 0 }
-    ensures { result ≡ outlineFor strategy (plannedParity fold parity) basis (degreeToPlan fold parity degree) }
+    requires { first_refusal (settings_tests fold parity degree) ≡ 0 }
+    ensures { result ≡ outline_for strategy (planned_parity fold parity) basis (degree_to_plan fold parity degree) }
 {
     let planned = planned_parity(fold, parity);
     let count = planned_count(fold, parity, degree + 1);

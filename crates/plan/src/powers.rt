@@ -1,6 +1,6 @@
 // The power steps: one for each needed power, rising.
 ghost use Rattle.std.specs.Prelude.{◌*◌, ◌≤◌, length};
-ghost use Rattle.needed.specs.NeededList.{neededCount};
+ghost use Rattle.needed.specs.NeededList.{needed_count};
 ghost use Rattle.needed.specs.inside.Planned.{Planned};
 ghost use Rattle.plan.specs.inside.Writing.{PowerFits, PowerPut, PowersPut, TwoPowersFit, TwoPowersPut};
 
@@ -29,7 +29,7 @@ fn write_marked(
     split: usize,
     steps: &mut [u16],
 ) -> usize
-    requires { Planned degree split × (4 * neededCount parity basis degree split ≤ length steps.old) }
+    requires { Planned degree split × (4 * needed_count parity basis degree split ≤ length steps.old) }
     ensures { PowersPut parity basis degree split steps.old result steps.new }
 {
     let marks = needed_marks(parity, basis, degree, split);
@@ -65,7 +65,7 @@ pub fn write_powers(
     split: usize,
     steps: &mut [u16],
 ) -> usize
-    requires { Planned degree split × (4 * neededCount parity basis degree split ≤ length steps.old) }
+    requires { Planned degree split × (4 * needed_count parity basis degree split ≤ length steps.old) }
     ensures { PowersPut parity basis degree split steps.old result steps.new }
 {
     let base = power_of_two(split);

@@ -1,6 +1,6 @@
 // The sizes of a plan before its curve is there.
 ghost use Rattle.std.specs.Prelude.{◌≡◌};
-ghost use Rattle.plan.specs.PlanSizes.{noSizes, sizesCall};
+ghost use Rattle.plan.specs.PlanSizes.{no_sizes, sizes_call};
 
 use super::input::settings_refusal;
 use super::outline::planned_outline;
@@ -18,7 +18,7 @@ pub struct PlanSizes {
 
 // A refusal.
 pub fn no_sizes(refusal: u8) -> PlanSizes
-    ensures { result ≡ noSizes refusal }
+    ensures { result ≡ no_sizes refusal }
 {
     PlanSizes {
         refusal,
@@ -36,7 +36,7 @@ pub fn plan_sizes(
     fold: bool,
     degree: usize,
 ) -> PlanSizes
-    ensures { result ≡ sizesCall strategy parity basis fold degree }
+    ensures { result ≡ sizes_call strategy parity basis fold degree }
 {
     let wrong = settings_refusal(fold, parity, degree);
     if 0 < wrong {

@@ -1,12 +1,12 @@
 // A step as it is written: four numbers.
 ghost use Rattle.std.specs.Prelude.{◌≡◌, [], ◌∷◌, ◌*◌, ◌≤◌};
 ghost use Rattle.std.proofs.lemmas.List.Edits.{sets};
-ghost use Rattle.number.specs.Limits.{countLimit};
+ghost use Rattle.number.specs.Limits.{count_limit};
 ghost use Rattle.plan.specs.inside.Writing.{StepFits};
 
 // A number of a step.
 fn narrow(n: usize) -> u16
-    requires { n ≤ countLimit }
+    requires { n ≤ count_limit }
     ensures { result ≡ n }
 {
     n as u16

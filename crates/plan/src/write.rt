@@ -2,8 +2,8 @@
 ghost use Rattle.std.specs.Prelude.{◌≡◌};
 ghost use Rattle.std.proofs.lemmas.List.Edits.{sets};
 ghost use Rattle.walk.specs.WalksHeld.{flat};
-ghost use Rattle.plan.specs.PlanSteps.{stepsAt};
-ghost use Rattle.plan.specs.PlanCall.{plannedCoefficients};
+ghost use Rattle.plan.specs.PlanSteps.{steps_at};
+ghost use Rattle.plan.specs.PlanCall.{planned_coefficients};
 ghost use Rattle.plan.specs.inside.Writing.{StepsFit};
 ghost use Rattle.plan.specs.inside.Filling.{CoefficientsFit, ListsFit, ListsPut, PlanFits, PlanPut};
 
@@ -18,7 +18,7 @@ use number::{Basis, Parity, copy_coeffs, fold_into};
 // The planned coefficients, at the front of a buffer.
 fn place_coeffs(fold: bool, parity: Parity, basis: Basis, c: &[i64], out: &mut [i64])
     requires { CoefficientsFit fold parity c.now out.old }
-    ensures { out.new ≡ sets out.old 0 (plannedCoefficients fold parity basis c.now) }
+    ensures { out.new ≡ sets out.old 0 (planned_coefficients fold parity basis c.now) }
 {
     if fold {
         fold_into(parity, basis, c, out);
@@ -69,7 +69,7 @@ fn write_steps(
     steps: &mut [u16],
 )
     requires { StepsFit leading outline.plain parity basis degree outline.split steps.old }
-    ensures { steps.new ≡ sets steps.old 0 (flat (stepsAt leading parity basis degree outline.split)) }
+    ensures { steps.new ≡ sets steps.old 0 (flat (steps_at leading parity basis degree outline.split)) }
 {
     let split = outline.split;
     let step = write_powers(parity, basis, degree, split, steps);

@@ -2,7 +2,7 @@
 ghost use Rattle.std.specs.Prelude.{◌≤◌, length, take};
 ghost use Rattle.texts.specs.Put.{Put};
 ghost use Rattle.answers.specs.TakeTurn.{TurnRoom};
-ghost use Rattle.planlines.specs.LastText.{lastText};
+ghost use Rattle.planlines.specs.LastText.{last_text};
 ghost use Rattle.planlines.specs.AnswerInput.{AnswerInput};
 
 use crate::block::answer_block;
@@ -72,7 +72,7 @@ fn put_last(
     out: &mut [u8],
 ) -> usize
     requires { TurnRoom line.now held coefficients.old planned.old bounds.old steps.old out.old }
-    ensures { Put out.old 0 (lastText last (take held line.now)) out.new result }
+    ensures { Put out.old 0 (last_text last (take held line.now)) out.new result }
 {
     let BlockRead::Ended = last else {
         return 0;

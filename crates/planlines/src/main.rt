@@ -4,7 +4,7 @@ mod input;
 mod stream;
 
 ghost use Rattle.std.specs.Prelude.{◌≡◌, length};
-ghost use Rattle.answers.specs.Limits.{textRoom};
+ghost use Rattle.answers.specs.Limits.{text_room};
 
 use answers::{COEFFICIENT_ROOM, LINE_ROOM, LIST_ROOM, STEP_ROOM, TEXT_ROOM};
 use input::answer_input;
@@ -12,7 +12,7 @@ use stream::write_text;
 
 // A buffer for text. The contract keeps its length alone, so that no proof looks at a million zeros.
 fn text_buffer() -> [u8; TEXT_ROOM]
-    ensures { textRoom ≡ length result }
+    ensures { text_room ≡ length result }
 {
     [0; TEXT_ROOM]
 }

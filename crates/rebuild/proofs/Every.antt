@@ -10,11 +10,11 @@ use lib.IntN.{ℤ, pos}
 use lib.ListN.{length, get_or, take, drop, take-append-drop}
 use lib.Seq.{take-suc}
 use lib.Signed.{mag}
-use Rattle.algebra.specs.Magnitude.{sumAbs}
+use Rattle.algebra.specs.Magnitude.{sum_abs}
 use Rattle.number.proofs.BothHold.{and_left, and_right}
-use Rattle.rebuild.specs.Undo.{half, fitsI64, every, halved}
-use Rattle.rebuild.proofs.Halves.{small-fits}
-use Rattle.rebuild.proofs.Machine.{half-mag}
+use Rattle.rebuild.specs.Undo.{half, fits_i64, every, halved}
+use Rattle.rebuild.proofs.Halves.{small_fits}
+use Rattle.rebuild.proofs.Machine.{half_mag}
 
 -- two tests together
 pub and_both : {a b : Bool} → a ≡ true → b ≡ true → (a && b) ≡ true
@@ -32,18 +32,18 @@ module _ (test : ℤ → Bool) where
   unfolding every
   every_one x = and-true (test x)
 
-  every-cons : (x : ℤ) (xs : List ℤ) → every test (x ∷ xs) ≡ (test x && every test xs)
+  every_cons : (x : ℤ) (xs : List ℤ) → every test (x ∷ xs) ≡ (test x && every test xs)
   unfolding every
-  every-cons x xs = refl
+  every_cons x xs = refl
 
-  pub every-reverse : (xs : List ℤ) → every test (reverse xs) ≡ every test xs
-  every-reverse [] = refl
-  every-reverse (x ∷ xs) =
+  pub every_reverse : (xs : List ℤ) → every test (reverse xs) ≡ every test xs
+  every_reverse [] = refl
+  every_reverse (x ∷ xs) =
       rw reverse-cons
       (every_append (reverse xs) (x ∷ [])
-      ∙ ap₂ ◌&&◌ (every-reverse xs) (every_one x)
+      ∙ ap₂ ◌&&◌ (every_reverse xs) (every_one x)
       ∙ and_comm (every test xs) (test x)
-      ∙ sym (every-cons x xs))
+      ∙ sym (every_cons x xs))
 
   parted : (p : ℕ) (xs : List ℤ) → every test xs ≡ true → (every test (take p xs) && every test (drop p xs)) ≡ true
   parted p xs all = sym (every_append (take p xs) (drop p xs)) ∙ ap (every test) (take-append-drop p xs) ∙ all
@@ -54,42 +54,42 @@ module _ (test : ℤ → Bool) where
   pub every_drop : (p : ℕ) (xs : List ℤ) → every test xs ≡ true → every test (drop p xs) ≡ true
   every_drop p xs all = and_right (every test (take p xs)) (every test (drop p xs)) (parted p xs all)
 
-  pub every-both : (xs ys : List ℤ) → every test xs ≡ true → every test ys ≡ true → every test (xs ++ ys) ≡ true
-  every-both xs ys s t = every_append xs ys ∙ and_both s t
+  pub every_both : (xs ys : List ℤ) → every test xs ≡ true → every test ys ≡ true → every test (xs ++ ys) ≡ true
+  every_both xs ys s t = every_append xs ys ∙ and_both s t
 
-pub every-none : (test : ℤ → Bool) → every test [] ≡ true
+pub every_none : (test : ℤ → Bool) → every test [] ≡ true
 unfolding every
-every-none test = refl
+every_none test = refl
 
 -- ---- what an i64 holds
 
 -- the first i numbers and the next
-pub every-next : (xs : List ℤ) (i : ℕ) → i < length xs → every fitsI64 (take i xs) ≡ true → mag (get_or xs i (pos 0)) < 2 ^ 63
-    → every fitsI64 (take (i + 1) xs) ≡ true
-every-next xs i inside first small =
-    let one : every fitsI64 (get_or xs i (pos 0) ∷ []) ≡ true = every_one fitsI64 (get_or xs i (pos 0)) ∙ lt-ltb (mag (get_or xs i (pos 0))) (2 ^ 63) small in
-    ap (λ (k : ℕ). every fitsI64 (take k xs)) (add-one i)
-    ∙ ap (every fitsI64) (take-suc xs i (pos 0) inside)
-    ∙ every-both fitsI64 (take i xs) (get_or xs i (pos 0) ∷ []) first one
+pub every_next : (xs : List ℤ) (i : ℕ) → i < length xs → every fits_i64 (take i xs) ≡ true → mag (get_or xs i (pos 0)) < 2 ^ 63
+    → every fits_i64 (take (i + 1) xs) ≡ true
+every_next xs i inside first small =
+    let one : every fits_i64 (get_or xs i (pos 0) ∷ []) ≡ true = every_one fits_i64 (get_or xs i (pos 0)) ∙ lt-ltb (mag (get_or xs i (pos 0))) (2 ^ 63) small in
+    ap (λ (k : ℕ). every fits_i64 (take k xs)) (add-one i)
+    ∙ ap (every fits_i64) (take-suc xs i (pos 0) inside)
+    ∙ every_both fits_i64 (take i xs) (get_or xs i (pos 0) ∷ []) first one
 
 -- numbers whose magnitudes sum below 2^63
-pub every-small : (c : List ℤ) → sumAbs c < 2 ^ 63 → every fitsI64 c ≡ true
-unfolding every sumAbs
-every-small [] small = refl
-every-small (x ∷ c) small = and_both (small-fits x (omega arith)) (every-small c (omega arith))
+pub every_small : (c : List ℤ) → sum_abs c < 2 ^ 63 → every fits_i64 c ≡ true
+unfolding every sum_abs
+every_small [] small = refl
+every_small (x ∷ c) small = and_both (small_fits x (omega arith)) (every_small c (omega arith))
 
 -- halves
-half-fits-too : (x : ℤ) → fitsI64 x ≡ true → fitsI64 (half x) ≡ true
-half-fits-too x fits = let small = ltb-true (mag x) (2 ^ 63) fits in lt-ltb (mag (half x)) (2 ^ 63) (omega (arith, half-mag x))
+half_fits_too : (x : ℤ) → fits_i64 x ≡ true → fits_i64 (half x) ≡ true
+half_fits_too x fits = let small = ltb-true (mag x) (2 ^ 63) fits in lt-ltb (mag (half x)) (2 ^ 63) (omega (arith, half_mag x))
 
-halves-fit : (xs : List ℤ) → every fitsI64 xs ≡ true → every fitsI64 (map half xs) ≡ true
+halves_fit : (xs : List ℤ) → every fits_i64 xs ≡ true → every fits_i64 (map half xs) ≡ true
 unfolding every
-halves-fit [] fits = refl
-halves-fit (x ∷ xs) fits =
-    and_both (half-fits-too x (and_left (fitsI64 x) (every fitsI64 xs) fits)) (halves-fit xs (and_right (fitsI64 x) (every fitsI64 xs) fits))
+halves_fit [] fits = refl
+halves_fit (x ∷ xs) fits =
+    and_both (half_fits_too x (and_left (fits_i64 x) (every fits_i64 xs) fits)) (halves_fit xs (and_right (fits_i64 x) (every fits_i64 xs) fits))
 
-pub halved-fits : (xs : List ℤ) → every fitsI64 xs ≡ true → every fitsI64 (halved xs) ≡ true
+pub halved_fits : (xs : List ℤ) → every fits_i64 xs ≡ true → every fits_i64 (halved xs) ≡ true
 unfolding every halved
-halved-fits [] fits = refl
-halved-fits (x ∷ xs) fits =
-    and_both (and_left (fitsI64 x) (every fitsI64 xs) fits) (halves-fit xs (and_right (fitsI64 x) (every fitsI64 xs) fits))
+halved_fits [] fits = refl
+halved_fits (x ∷ xs) fits =
+    and_both (and_left (fits_i64 x) (every fits_i64 xs) fits) (halves_fit xs (and_right (fits_i64 x) (every fits_i64 xs) fits))

@@ -11,56 +11,56 @@ use lib.IntN.{ℤ, pos}
 use lib.ListN.{length, get_or, take, drop}
 use Rattle.algebra.specs.declared.Basis.{Basis}
 use Rattle.algebra.specs.declared.Parity.{Parity}
-use Rattle.number.specs.Limits.{planLimit}
+use Rattle.number.specs.Limits.{plan_limit}
 use Rattle.number.specs.Options.{◌then◌, when, missing}
-use Rattle.number.specs.Refusal.{firstRefusal}
-use Rattle.number.proofs.Options.{missing-none}
+use Rattle.number.specs.Refusal.{first_refusal}
+use Rattle.number.proofs.Options.{missing_none}
 use Rattle.counts.specs.declared.choice.SplitStrategy.{SplitStrategy}
-use Rattle.lists.specs.Tree.{Tree, leaf, cut, planTree}
-use Rattle.rebuild.specs.Undo.{isEven, fitsI64, every, doubledIn, beforeCut, canUndo, undone}
+use Rattle.lists.specs.Tree.{Tree, leaf, cut, plan_tree}
+use Rattle.rebuild.specs.Undo.{is_even, fits_i64, every, doubled_in, before_cut, can_undo, undone}
 use Rattle.rebuild.specs.Rebuild.{rebuilt}
-use Rattle.rebuild.specs.RebuildCall.{matchesSettings, coefficientsFrom, rebuildRefusal, RebuildCall}
-use Rattle.rebuild.specs.StopsAt.{Fails, StopsAt, odd, beyond, in-first, in-second, Stopped, StoppedRefused}
+use Rattle.rebuild.specs.RebuildCall.{matches_settings, coefficients_from, rebuild_refusal, RebuildCall}
+use Rattle.rebuild.specs.StopsAt.{Fails, StopsAt, odd, beyond, in_first, in_second, Stopped, StoppedRefused}
 use Rattle.rebuild.specs.declared.call.Rebuilt.{Rebuilt}
-use Rattle.rebuild.proofs.RebuildTests.{answer-refusal}
+use Rattle.rebuild.proofs.RebuildTests.{answer_refusal_lem}
 
 -- ---- a test of every number
 
 module _ (test : ℤ → Bool) where
   -- one that doesn't hold of all fails at some place
-  fails-cons : (x : ℤ) (xs : List ℤ) (t : Bool) → test x ≡ t → (t && every test xs) ≡ false → (every test xs ≡ false → Fails test xs)
+  fails_cons : (x : ℤ) (xs : List ℤ) (t : Bool) → test x ≡ t → (t && every test xs) ≡ false → (every test xs ≡ false → Fails test xs)
       → Fails test (x ∷ xs)
-  fails-cons x xs true is rest later =
+  fails_cons x xs true is rest later =
       let found = later rest in
       record { place = suc found.place; inside = omega (arith, found.inside); fails = found.fails }
-  fails-cons x xs false is rest later = record { place = 0; inside = omega arith; fails = is }
+  fails_cons x xs false is rest later = record { place = 0; inside = omega arith; fails = is }
 
-  fails-at : (xs : List ℤ) → every test xs ≡ false → Fails test xs
+  fails_at_lem : (xs : List ℤ) → every test xs ≡ false → Fails test xs
   unfolding every
-  fails-at [] none_is = absurd (true≢false none_is)
-  fails-at (x ∷ xs) none_is = fails-cons x xs (test x) refl none_is (fails-at xs)
+  fails_at_lem [] none_is = absurd (true≢false none_is)
+  fails_at_lem (x ∷ xs) none_is = fails_cons x xs (test x) refl none_is (fails_at_lem xs)
 
   -- and the other way
-  at-fails : (xs : List ℤ) (i : ℕ) → i < length xs → test (get_or xs i (pos 0)) ≡ false → every test xs ≡ false
+  at_fails : (xs : List ℤ) (i : ℕ) → i < length xs → test (get_or xs i (pos 0)) ≡ false → every test xs ≡ false
   unfolding every
-  at-fails [] i inside fails = absurd (omega arith)
-  at-fails (x ∷ xs) zero inside fails = rw fails
-  at-fails (x ∷ xs) (suc i) inside fails = rw (at-fails xs i (omega arith) fails) (and-false (test x))
+  at_fails [] i inside fails = absurd (omega arith)
+  at_fails (x ∷ xs) zero inside fails = rw fails
+  at_fails (x ∷ xs) (suc i) inside fails = rw (at_fails xs i (omega arith) fails) (and-false (test x))
 
 -- ---- the tree
 
 -- one cut whose parts are rebuilt
-stops-here : (basis : Basis) (p : ℕ) (first second : Tree) (lists low high : List ℤ) → rebuilt basis first (take p lists) ≡ some low
+stops_here : (basis : Basis) (p : ℕ) (first second : Tree) (lists low high : List ℤ) → rebuilt basis first (take p lists) ≡ some low
     → rebuilt basis second (drop p lists) ≡ some high → undone basis low high ≡ none → StopsAt basis (cut p first second) lists
-unfolding undone canUndo
-stops-here basis p first second lists low high low-is high_is =
-    by_tests (every isEven (doubledIn basis high)) (every fitsI64 (beforeCut basis low high)) refl refl
+unfolding undone can_undo
+stops_here basis p first second lists low high low_is high_is =
+    by_tests (every is_even (doubled_in basis high)) (every fits_i64 (before_cut basis low high)) refl refl
   where
-    by_tests : (a b : Bool) → every isEven (doubledIn basis high) ≡ a → every fitsI64 (beforeCut basis low high) ≡ b
-        → when (a && b) (some (beforeCut basis low high)) ≡ none → StopsAt basis (cut p first second) lists
-    by_tests true true even held is = absurd (none-ne-some (beforeCut basis low high) (sym is))
-    by_tests true false even held is = beyond low-is high_is (fails-at fitsI64 (beforeCut basis low high) held)
-    by_tests false b even held is = odd low-is high_is (fails-at isEven (doubledIn basis high) even)
+    by_tests : (a b : Bool) → every is_even (doubled_in basis high) ≡ a → every fits_i64 (before_cut basis low high) ≡ b
+        → when (a && b) (some (before_cut basis low high)) ≡ none → StopsAt basis (cut p first second) lists
+    by_tests true true even held is = absurd (none-ne-some (before_cut basis low high) (sym is))
+    by_tests true false even held is = beyond low_is high_is (fails_at_lem fits_i64 (before_cut basis low high) held)
+    by_tests false b even held is = odd low_is high_is (fails_at_lem is_even (doubled_in basis high) even)
 
 stops : (basis : Basis) (tree : Tree) (lists : List ℤ) → rebuilt basis tree lists ≡ none → StopsAt basis tree lists
 unfolding rebuilt
@@ -71,78 +71,78 @@ stops basis (cut p first second) lists is =
     Stops : Tree → List ℤ → Type 0
     Stops tree l = rebuilt basis tree l ≡ none → StopsAt basis tree l
 
-    by-second : (low : List ℤ) (o : Option (List ℤ)) → rebuilt basis first (take p lists) ≡ some low → rebuilt basis second (drop p lists) ≡ o
+    by_second : (low : List ℤ) (o : Option (List ℤ)) → rebuilt basis first (take p lists) ≡ some low → rebuilt basis second (drop p lists) ≡ o
         → (o then λ high. undone basis low high) ≡ none → Stops second (drop p lists) → StopsAt basis (cut p first second) lists
-    by-second low (some high) low-is high_is is inner = stops-here basis p first second lists low high low-is high_is is
-    by-second low none low-is high_is is inner = in-second (inner high_is)
+    by_second low (some high) low_is high_is is inner = stops_here basis p first second lists low high low_is high_is is
+    by_second low none low_is high_is is inner = in_second (inner high_is)
 
     by_first : (o : Option (List ℤ)) → rebuilt basis first (take p lists) ≡ o
         → (o then λ low. rebuilt basis second (drop p lists) then λ high. undone basis low high) ≡ none → Stops first (take p lists)
         → Stops second (drop p lists) → StopsAt basis (cut p first second) lists
-    by_first (some low) low-is is outer inner = by-second low (rebuilt basis second (drop p lists)) low-is refl is inner
-    by_first none low-is is outer inner = in-first (outer low-is)
+    by_first (some low) low_is is outer inner = by_second low (rebuilt basis second (drop p lists)) low_is refl is inner
+    by_first none low_is is outer inner = in_first (outer low_is)
 
-then-none : {X Y : Type 0} (o : Option X) (f : X → Option Y) → ((v : X) → f v ≡ none) → (o then f) ≡ none
-then-none (some v) f none_is = none_is v
-then-none none f none_is = refl
+then_none : {X Y : Type 0} (o : Option X) (f : X → Option Y) → ((v : X) → f v ≡ none) → (o then f) ≡ none
+then_none (some v) f none_is = none_is v
+then_none none f none_is = refl
 
 stopped : (basis : Basis) (tree : Tree) (lists : List ℤ) → StopsAt basis tree lists → rebuilt basis tree lists ≡ none
-unfolding rebuilt undone canUndo
-stopped basis (cut p first second) lists (odd {low = low} {high = high} low-is high_is fails) =
-    rw (low-is, high_is, at-fails isEven (doubledIn basis high) fails.place fails.inside fails.fails)
-stopped basis (cut p first second) lists (beyond {low = low} {high = high} low-is high_is fails) =
+unfolding rebuilt undone can_undo
+stopped basis (cut p first second) lists (odd {low = low} {high = high} low_is high_is fails) =
+    rw (low_is, high_is, at_fails is_even (doubled_in basis high) fails.place fails.inside fails.fails)
+stopped basis (cut p first second) lists (beyond {low = low} {high = high} low_is high_is fails) =
     rw (
-      low-is,
+      low_is,
       high_is,
-      at-fails fitsI64 (beforeCut basis low high) fails.place fails.inside fails.fails,
-      and-false (every isEven (doubledIn basis high)),
+      at_fails fits_i64 (before_cut basis low high) fails.place fails.inside fails.fails,
+      and-false (every is_even (doubled_in basis high)),
     )
-stopped basis (cut p first second) lists (in-first stop) = rw (stopped basis first (take p lists) stop)
-stopped basis (cut p first second) lists (in-second stop) =
-    then-none (rebuilt basis first (take p lists)) _ (λ low. rw (stopped basis second (drop p lists) stop))
+stopped basis (cut p first second) lists (in_first stop) = rw (stopped basis first (take p lists) stop)
+stopped basis (cut p first second) lists (in_second stop) =
+    then_none (rebuilt basis first (take p lists)) _ (λ low. rw (stopped basis second (drop p lists) stop))
 
 -- ---- the call
 
 -- 34 is the number of the fourth of five tests
-only-fourth : (a b c d e : Bool) → firstRefusal ((a, 2) ∷ (b, 1) ∷ (c, 33) ∷ (d, 34) ∷ (e, 21) ∷ []) ≡ 34
+only_fourth : (a b c d e : Bool) → first_refusal ((a, 2) ∷ (b, 1) ∷ (c, 33) ∷ (d, 34) ∷ (e, 21) ∷ []) ≡ 34
     → (a ≡ false) × ((b ≡ false) × ((c ≡ false) × (d ≡ true)))
-only-fourth true b c d e is = absurd (omega arith)
-only-fourth false true c d e is = absurd (omega arith)
-only-fourth false false true d e is = absurd (omega arith)
-only-fourth false false false true e is = (refl, (refl, (refl, refl)))
-only-fourth false false false false true is = absurd (omega arith)
-only-fourth false false false false false is = absurd (omega arith)
+only_fourth true b c d e is = absurd (omega arith)
+only_fourth false true c d e is = absurd (omega arith)
+only_fourth false false true d e is = absurd (omega arith)
+only_fourth false false false true e is = (refl, (refl, (refl, refl)))
+only_fourth false false false false true is = absurd (omega arith)
+only_fourth false false false false false is = absurd (omega arith)
 
 module _ (strategy : SplitStrategy) (parity : Parity) (basis : Basis) (degree base : ℕ) (lists : List ℤ) (bounds : List ℕ) (out : List ℤ) where
-  refused-stops : rebuildRefusal strategy parity basis degree base lists bounds out ≡ 34 → Stopped strategy parity basis degree base lists bounds
-  unfolding rebuildRefusal coefficientsFrom
-  refused-stops is =
-      let cannot = missing (rebuilt basis (planTree strategy parity basis degree) (take (suc degree) lists)) in
-      let tests = only-fourth (ltb planLimit degree) (eqb degree 0) (not (matchesSettings strategy parity basis degree base lists bounds)) cannot
+  refused_stops : rebuild_refusal strategy parity basis degree base lists bounds out ≡ 34 → Stopped strategy parity basis degree base lists bounds
+  unfolding rebuild_refusal coefficients_from
+  refused_stops is =
+      let cannot = missing (rebuilt basis (plan_tree strategy parity basis degree) (take (suc degree) lists)) in
+      let tests = only_fourth (ltb plan_limit degree) (eqb degree 0) (not (matches_settings strategy parity basis degree base lists bounds)) cannot
       (ltb (length out) (suc degree)) is in
       let several = eqb-false degree 0 tests.1.0 in
       record {
         from_one = omega arith;
-        to-limit = ltb-false planLimit degree tests.0;
-        settings = not-false (matchesSettings strategy parity basis degree base lists bounds) tests.1.1.0;
-        stops = stops basis (planTree strategy parity basis degree) (take (suc degree) lists) (missing-none _ tests.1.1.1);
+        to_limit = ltb-false plan_limit degree tests.0;
+        settings = not-false (matches_settings strategy parity basis degree base lists bounds) tests.1.1.0;
+        stops = stops basis (plan_tree strategy parity basis degree) (take (suc degree) lists) (missing_none _ tests.1.1.1);
       }
 
-  stops-refused : Stopped strategy parity basis degree base lists bounds → rebuildRefusal strategy parity basis degree base lists bounds out ≡ 34
-  unfolding rebuildRefusal coefficientsFrom
-  stops-refused facts =
+  stops_refused : Stopped strategy parity basis degree base lists bounds → rebuild_refusal strategy parity basis degree base lists bounds out ≡ 34
+  unfolding rebuild_refusal coefficients_from
+  stops_refused facts =
       let several = facts.from_one in
       rw (
-        le-ltb planLimit degree facts.to-limit,
+        le-ltb plan_limit degree facts.to_limit,
         ne_eqb degree 0 (λ (is : degree ≡ 0). omega arith),
         facts.settings,
-        stopped basis (planTree strategy parity basis degree) (take (suc degree) lists) facts.stops,
+        stopped basis (plan_tree strategy parity basis degree) (take (suc degree) lists) facts.stops,
       )
 
-pub stopped-refused : StoppedRefused
-stopped-refused strategy parity basis degree base lists bounds out r out' call =
-    let refusal_is : r.refusal ≡ rebuildRefusal strategy parity basis degree base lists bounds out =
-    ap (λ (x : Rebuilt). x.refusal) call.answer ∙ answer-refusal strategy parity basis degree base lists bounds out in (
-      (λ is. refused-stops strategy parity basis degree base lists bounds out (sym refusal_is ∙ is)),
-      (λ facts. refusal_is ∙ stops-refused strategy parity basis degree base lists bounds out facts),
+pub stopped_refused : StoppedRefused
+stopped_refused strategy parity basis degree base lists bounds out r out' call =
+    let refusal_is : r.refusal ≡ rebuild_refusal strategy parity basis degree base lists bounds out =
+    ap (λ (x : Rebuilt). x.refusal) call.answer ∙ answer_refusal_lem strategy parity basis degree base lists bounds out in (
+      (λ is. refused_stops strategy parity basis degree base lists bounds out (sym refusal_is ∙ is)),
+      (λ facts. refusal_is ∙ stops_refused strategy parity basis degree base lists bounds out facts),
     )

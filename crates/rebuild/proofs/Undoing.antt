@@ -13,77 +13,77 @@ use Rattle.algebra.specs.Operations.{Operations}
 use Rattle.algebra.specs.Cut.{differences, doubled, lowered, cut_at}
 use Rattle.algebra.specs.declared.Basis.TheVariants.{Chebyshev}
 use Rattle.number.proofs.BothHold.{and_right}
-use Rattle.number.proofs.Cutting.{cut_to, low_value, high_value, pair-low, pair-high, turn-stored}
+use Rattle.number.proofs.Cutting.{cut_to, low_value, high_value, pair_low, pair_high, turn_stored}
 use Rattle.number.specs.Options.{when}
-use Rattle.rebuild.specs.Undo.{half, isEven, fitsI64, every, sums, halved, raised, beforeCut, canUndo, undone}
-use Rattle.rebuild.proofs.Every.{every_append, every-reverse, every_take, every_drop, halved-fits}
+use Rattle.rebuild.specs.Undo.{half, is_even, fits_i64, every, sums, halved, raised, before_cut, can_undo, undone}
+use Rattle.rebuild.proofs.Every.{every_append, every_reverse, every_take, every_drop, halved_fits}
 use Rattle.rebuild.proofs.UndoLaws.{behind}
 
 -- the operations of an undoing
 abbrev pub undoing : Operations ℤ
 undoing = record { zero = pos 0; one = pos 1; add = ◌+ℤ◌; sub = λ x q. x +ℤ half q; mul = λ x q. half q; neg = neg_ℤ }
 
-sums-halves : (xs qs : List ℤ) → sums xs (map half qs) ≡ differences undoing xs qs
+sums_halves : (xs qs : List ℤ) → sums xs (map half qs) ≡ differences undoing xs qs
 unfolding sums differences
-sums-halves [] qs = refl
-sums-halves (x ∷ xs) [] = refl
-sums-halves (x ∷ xs) (q ∷ qs) = ap ((x +ℤ half q) ∷◌) (sums-halves xs qs)
+sums_halves [] qs = refl
+sums_halves (x ∷ xs) [] = refl
+sums_halves (x ∷ xs) (q ∷ qs) = ap ((x +ℤ half q) ∷◌) (sums_halves xs qs)
 
 halved_is : (xs : List ℤ) → halved xs ≡ doubled undoing xs
 unfolding halved doubled
 halved_is [] = refl
 halved_is (x ∷ xs) = refl
 
-tail-halved : (xs : List ℤ) → drop 1 (halved xs) ≡ map half (drop 1 xs)
+tail_halved : (xs : List ℤ) → drop 1 (halved xs) ≡ map half (drop 1 xs)
 unfolding halved
-tail-halved [] = refl
-tail-halved (x ∷ xs) = refl
+tail_halved [] = refl
+tail_halved (x ∷ xs) = refl
 
 -- what the loop's turns leave is what was cut
-before-is : (p : ℕ) (c : List ℤ) → beforeCut Chebyshev (take p c) (drop p c) ≡ cut_at undoing Chebyshev p c
-unfolding beforeCut raised cut_at lowered
-before-is p c =
+before_is : (p : ℕ) (c : List ℤ) → before_cut Chebyshev (take p c) (drop p c) ≡ cut_at undoing Chebyshev p c
+unfolding before_cut raised cut_at lowered
+before_is p c =
     ap₂ (λ (xs ys : List ℤ). reverse xs ++ ys)
-    (ap (sums (reverse (take p c))) (tail-halved (drop p c) ∙ ap (map half) (behind p c)) ∙ sums-halves (reverse (take p c)) (drop (suc p) c))
+    (ap (sums (reverse (take p c))) (tail_halved (drop p c) ∙ ap (map half) (behind p c)) ∙ sums_halves (reverse (take p c)) (drop (suc p) c))
     (halved_is (drop p c))
 
 -- ---- the tests that the loop makes: each doubled coefficient q is even, and an i64 holds the number at its place with half of it
 
 unfoldable pub passes : List ℤ → List ℤ → Bool
 passes [] [] = true
-passes [] (q ∷ qs) = isEven q && passes [] qs
+passes [] (q ∷ qs) = is_even q && passes [] qs
 passes (x ∷ xs) [] = true
-passes (x ∷ xs) (q ∷ qs) = isEven q && (fitsI64 (x +ℤ half q) && passes xs qs)
+passes (x ∷ xs) (q ∷ qs) = is_even q && (fits_i64 (x +ℤ half q) && passes xs qs)
 
 -- in another order
-and-turn : (a b c d : Bool) → (a && (b && (c && d))) ≡ ((a && c) && (b && d))
-and-turn true true c d = refl
-and-turn true false true d = refl
-and-turn true false false d = refl
-and-turn false b c d = refl
+and_turn : (a b c d : Bool) → (a && (b && (c && d))) ≡ ((a && c) && (b && d))
+and_turn true true c d = refl
+and_turn true false true d = refl
+and_turn true false false d = refl
+and_turn false b c d = refl
 
-passes-all : (xs qs : List ℤ) → every fitsI64 xs ≡ true → passes xs qs ≡ (every isEven qs && every fitsI64 (sums xs (map half qs)))
+passes_all : (xs qs : List ℤ) → every fits_i64 xs ≡ true → passes xs qs ≡ (every is_even qs && every fits_i64 (sums xs (map half qs)))
 unfolding passes every sums
-passes-all [] [] fits = refl
-passes-all [] (q ∷ qs) fits = ap (isEven q &&◌) (passes-all [] qs fits) ∙ sym (and_assoc (isEven q) (every isEven qs) true)
-passes-all (x ∷ xs) [] fits = sym fits
-passes-all (x ∷ xs) (q ∷ qs) fits =
-    ap (λ (b : Bool). isEven q && (fitsI64 (x +ℤ half q) && b)) (passes-all xs qs (and_right (fitsI64 x) (every fitsI64 xs) fits))
-    ∙ and-turn (isEven q) (fitsI64 (x +ℤ half q)) (every isEven qs) (every fitsI64 (sums xs (map half qs)))
+passes_all [] [] fits = refl
+passes_all [] (q ∷ qs) fits = ap (is_even q &&◌) (passes_all [] qs fits) ∙ sym (and_assoc (is_even q) (every is_even qs) true)
+passes_all (x ∷ xs) [] fits = sym fits
+passes_all (x ∷ xs) (q ∷ qs) fits =
+    ap (λ (b : Bool). is_even q && (fits_i64 (x +ℤ half q) && b)) (passes_all xs qs (and_right (fits_i64 x) (every fits_i64 xs) fits))
+    ∙ and_turn (is_even q) (fits_i64 (x +ℤ half q)) (every is_even qs) (every fits_i64 (sums xs (map half qs)))
 
 -- of numbers that fit they say whether the cut can be undone: halves fit, and what gains nothing is as it came
-can-is : (low high : List ℤ) → every fitsI64 low ≡ true → every fitsI64 high ≡ true
-    → canUndo Chebyshev low high ≡ passes (reverse low) (drop 1 high)
-unfolding canUndo beforeCut raised
-can-is low high s t =
+can_is : (low high : List ℤ) → every fits_i64 low ≡ true → every fits_i64 high ≡ true
+    → can_undo Chebyshev low high ≡ passes (reverse low) (drop 1 high)
+unfolding can_undo before_cut raised
+can_is low high s t =
     let top = halved high in
     let gained = sums (reverse low) (drop 1 top) in
-    sym (passes-all (reverse low) (drop 1 high) (every-reverse fitsI64 low ∙ s)
-    ∙ ap (λ (l : List ℤ). every isEven (drop 1 high) && every fitsI64 (sums (reverse low) l)) (sym (tail-halved high))
-    ∙ ap (every isEven (drop 1 high) &&◌)
-    (sym (and-true (every fitsI64 gained))
-    ∙ ap₂ ◌&&◌ (sym (every-reverse fitsI64 gained)) (sym (halved-fits high t))
-    ∙ sym (every_append fitsI64 (reverse gained) top)))
+    sym (passes_all (reverse low) (drop 1 high) (every_reverse fits_i64 low ∙ s)
+    ∙ ap (λ (l : List ℤ). every is_even (drop 1 high) && every fits_i64 (sums (reverse low) l)) (sym (tail_halved high))
+    ∙ ap (every is_even (drop 1 high) &&◌)
+    (sym (and-true (every fits_i64 gained))
+    ∙ ap₂ ◌&&◌ (sym (every_reverse fits_i64 gained)) (sym (halved_fits high t))
+    ∙ sym (every_append fits_i64 (reverse gained) top)))
 
 -- ---- the tests that are left after m turns
 
@@ -91,30 +91,30 @@ module _ (p : ℕ) (c : List ℤ) where
   unfoldable pub rest : ℕ → Bool
   rest m = passes (drop m (reverse (take p c))) (drop m (drop (suc p) c))
 
-  pub rest_all : every fitsI64 c ≡ true → canUndo Chebyshev (take p c) (drop p c) ≡ rest 0
+  pub rest_all : every fits_i64 c ≡ true → can_undo Chebyshev (take p c) (drop p c) ≡ rest 0
   unfolding rest
   rest_all fits =
-      can-is (take p c) (drop p c) (every_take fitsI64 p c fits) (every_drop fitsI64 p c fits) ∙ ap (passes (reverse (take p c))) (behind p c)
+      can_is (take p c) (drop p c) (every_take fits_i64 p c fits) (every_drop fits_i64 p c fits) ∙ ap (passes (reverse (take p c))) (behind p c)
 
   none_left : (xs : List ℤ) → passes xs [] ≡ true
   unfolding passes
   none_left [] = refl
   none_left (x ∷ xs) = refl
 
-  rest-none : (m : ℕ) → length c ≤ suc (p + m) → rest m ≡ true
+  rest_none : (m : ℕ) → length c ≤ suc (p + m) → rest m ≡ true
   unfolding rest
-  rest-none m all =
+  rest_none m all =
       let ended : length (drop (suc p) c) ≤ m = omega (arith, length-drop (suc p) c) in
       rw (drop_of_length-le (drop (suc p) c) ended) (none_left (drop m (reverse (take p c))))
 
-  passes-cons : (x q : ℤ) (xs qs : List ℤ) → passes (x ∷ xs) (q ∷ qs) ≡ (isEven q && (fitsI64 (x +ℤ half q) && passes xs qs))
+  passes_cons : (x q : ℤ) (xs qs : List ℤ) → passes (x ∷ xs) (q ∷ qs) ≡ (is_even q && (fits_i64 (x +ℤ half q) && passes xs qs))
   unfolding passes
-  passes-cons x q xs qs = refl
+  passes_cons x q xs qs = refl
 
-  rest-step : (m k i : ℕ) → k + suc m ≡ p → i ≡ suc (p + m) → i < length c
-      → rest m ≡ (isEven (get_or c i (pos 0)) && (fitsI64 (get_or c k (pos 0) +ℤ half (get_or c i (pos 0))) && rest (suc m)))
+  rest_step : (m k i : ℕ) → k + suc m ≡ p → i ≡ suc (p + m) → i < length c
+      → rest m ≡ (is_even (get_or c i (pos 0)) && (fits_i64 (get_or c k (pos 0) +ℤ half (get_or c i (pos 0))) && rest (suc m)))
   unfolding rest
-  rest-step m k i low high within =
+  rest_step m k i low high within =
       let near : m < length (reverse (take p c)) = omega (arith, length-reverse (take p c), length-take-le p c (omega arith)) in
       let far : m < length (drop (suc p) c) = omega (arith, length-drop (suc p) c) in
       rw (
@@ -123,7 +123,7 @@ module _ (p : ℕ) (c : List ℤ) where
         low_value undoing p c (pos 0) (omega arith) m k i low high within,
         high_value undoing p c (pos 0) (omega arith) m k i low high within,
       )
-      (passes-cons (get_or c k (pos 0)) (get_or c i (pos 0)) _ _)
+      (passes_cons (get_or c k (pos 0)) (get_or c i (pos 0)) _ _)
 
 -- ---- the loop at its turn j, where the turns below j left c of c₀
 
@@ -131,44 +131,44 @@ module _ (p j : ℕ) (c₀ c : List ℤ) (inside : p < length c₀) (within : le
     (before : c ≡ cut_to undoing p c₀ (pos 0) (j - 1)) (test : j < length c₀ - p) where
   -- the pair of the turn is still as it came
   pub turn_low : get_or c (p - j) (pos 0) ≡ get_or c₀ (p - j) (pos 0)
-  turn_low = pair-low undoing (pos 0) p j c₀ c inside within started before j (p - j) (omega arith) test (omega arith)
+  turn_low = pair_low undoing (pos 0) p j c₀ c inside within started before j (p - j) (omega arith) test (omega arith)
 
-  pub turn-high : get_or c (p + j) (pos 0) ≡ get_or c₀ (p + j) (pos 0)
-  turn-high = pair-high undoing (pos 0) p j c₀ c inside within started before j (p + j) (omega arith) test refl
+  pub turn_high : get_or c (p + j) (pos 0) ≡ get_or c₀ (p + j) (pos 0)
+  turn_high = pair_high undoing (pos 0) p j c₀ c inside within started before j (p + j) (omega arith) test refl
 
   -- and what the turn writes is one turn more
-  pub turn-written : (y x : ℤ) → y ≡ get_or c₀ (p - j) (pos 0) +ℤ half (get_or c₀ (p + j) (pos 0)) → x ≡ half (get_or c₀ (p + j) (pos 0))
+  pub turn_written : (y x : ℤ) → y ≡ get_or c₀ (p - j) (pos 0) +ℤ half (get_or c₀ (p + j) (pos 0)) → x ≡ half (get_or c₀ (p + j) (pos 0))
       → set (set c (p - j) y) (p + j) x ≡ cut_to undoing p c₀ (pos 0) (j + 1 - 1)
-  turn-written y x low high =
+  turn_written y x low high =
       let next : j ≡ j + 1 - 1 = omega arith in
-      turn-stored undoing (pos 0) p j c₀ c inside within started before test
-      (low ∙ ap₂ (λ (r q : ℤ). r +ℤ half q) (sym turn_low) (sym turn-high)) (high ∙ ap half (sym turn-high))
+      turn_stored undoing (pos 0) p j c₀ c inside within started before test
+      (low ∙ ap₂ (λ (r q : ℤ). r +ℤ half q) (sym turn_low) (sym turn_high)) (high ∙ ap half (sym turn_high))
       ∙ ap (cut_to undoing p c₀ (pos 0)) next
 
 -- ---- the ways out of the loop
 
 module _ (p j : ℕ) (c₀ : List ℤ) (inside : p < length c₀) (within : length c₀ ≤ p + p) (started : 0 < j)
-    (passed : canUndo Chebyshev (take p c₀) (drop p c₀) ≡ rest p c₀ (j - 1)) where
+    (passed : can_undo Chebyshev (take p c₀) (drop p c₀) ≡ rest p c₀ (j - 1)) where
   pub way_end : length c₀ - p ≤ j → {c : List ℤ} → c ≡ cut_at undoing Chebyshev p c₀
       → undone Chebyshev (take p c₀) (drop p c₀) ≡ when true (some c)
   unfolding undone
-  way_end all c-is = rw (passed, rest-none p c₀ (j - 1) (omega arith), before-is p c₀, c-is)
+  way_end all c_is = rw (passed, rest_none p c₀ (j - 1) (omega arith), before_is p c₀, c_is)
 
   module _ (test : j < length c₀ - p) where
     step : rest p c₀ (j - 1)
-        ≡ (isEven (get_or c₀ (p + j) (pos 0)) && (fitsI64 (get_or c₀ (p - j) (pos 0) +ℤ half (get_or c₀ (p + j) (pos 0))) && rest p c₀ (suc (j - 1))))
-    step = rest-step p c₀ (j - 1) (p - j) (p + j) (omega arith) (omega arith) (omega arith)
+        ≡ (is_even (get_or c₀ (p + j) (pos 0)) && (fits_i64 (get_or c₀ (p - j) (pos 0) +ℤ half (get_or c₀ (p + j) (pos 0))) && rest p c₀ (suc (j - 1))))
+    step = rest_step p c₀ (j - 1) (p - j) (p + j) (omega arith) (omega arith) (omega arith)
 
-    pub way-odd : (c : List ℤ) → isEven (get_or c₀ (p + j) (pos 0)) ≡ false → undone Chebyshev (take p c₀) (drop p c₀) ≡ when false (some c)
+    pub way_odd : (c : List ℤ) → is_even (get_or c₀ (p + j) (pos 0)) ≡ false → undone Chebyshev (take p c₀) (drop p c₀) ≡ when false (some c)
     unfolding undone
-    way-odd c odd = rw (passed, step, odd)
+    way_odd c odd = rw (passed, step, odd)
 
-    module _ (even : isEven (get_or c₀ (p + j) (pos 0)) ≡ true) where
-      pub way-beyond : (c : List ℤ) → fitsI64 (get_or c₀ (p - j) (pos 0) +ℤ half (get_or c₀ (p + j) (pos 0))) ≡ false
+    module _ (even : is_even (get_or c₀ (p + j) (pos 0)) ≡ true) where
+      pub way_beyond : (c : List ℤ) → fits_i64 (get_or c₀ (p - j) (pos 0) +ℤ half (get_or c₀ (p + j) (pos 0))) ≡ false
           → undone Chebyshev (take p c₀) (drop p c₀) ≡ when false (some c)
       unfolding undone
-      way-beyond c beyond = rw (passed, step, even, beyond)
+      way_beyond c beyond = rw (passed, step, even, beyond)
 
-      pub way_on : fitsI64 (get_or c₀ (p - j) (pos 0) +ℤ half (get_or c₀ (p + j) (pos 0))) ≡ true
-          → canUndo Chebyshev (take p c₀) (drop p c₀) ≡ rest p c₀ (j + 1 - 1)
+      pub way_on : fits_i64 (get_or c₀ (p - j) (pos 0) +ℤ half (get_or c₀ (p + j) (pos 0))) ≡ true
+          → can_undo Chebyshev (take p c₀) (drop p c₀) ≡ rest p c₀ (j + 1 - 1)
       way_on fits = let next : suc (j - 1) ≡ j + 1 - 1 = omega arith in passed ∙ rw (step, even, fits) (ap (rest p c₀) next)

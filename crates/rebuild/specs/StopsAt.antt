@@ -4,12 +4,12 @@ use Rattle.std.specs.Prelude.{◌≡◌, Bool, true, false, List, ◌↔◌, ℕ
 use Rattle.std.proofs.Math.Option.{some}
 use Rattle.algebra.specs.declared.Basis.{Basis}
 use Rattle.algebra.specs.declared.Parity.{Parity}
-use Rattle.number.specs.Limits.{planLimit}
+use Rattle.number.specs.Limits.{plan_limit}
 use Rattle.counts.specs.declared.choice.SplitStrategy.{SplitStrategy}
-use Rattle.lists.specs.Tree.{Tree, cut, planTree}
-use Rattle.rebuild.specs.Undo.{isEven, fitsI64, doubledIn, beforeCut}
+use Rattle.lists.specs.Tree.{Tree, cut, plan_tree}
+use Rattle.rebuild.specs.Undo.{is_even, fits_i64, doubled_in, before_cut}
 use Rattle.rebuild.specs.Rebuild.{rebuilt}
-use Rattle.rebuild.specs.RebuildCall.{matchesSettings, RebuildCall}
+use Rattle.rebuild.specs.RebuildCall.{matches_settings, RebuildCall}
 use Rattle.rebuild.specs.declared.call.Rebuilt.{Rebuilt}
 
 -- a number of a list that does not pass a test
@@ -22,18 +22,18 @@ pub record Fails (test : ℤ → Bool) (numbers : List ℤ) : Type 0 where
 -- beyond i64; or they can't be at a cut of the first part, or at one of the second
 pub data StopsAt (basis : Basis) : Tree → (lists : List ℤ) → Type 0 where
   odd : {p : ℕ} {first second : Tree} {lists low high : List ℤ} → rebuilt basis first (take p lists) ≡ some low
-      → rebuilt basis second (drop p lists) ≡ some high → Fails isEven (doubledIn basis high) → StopsAt basis (cut p first second) lists
+      → rebuilt basis second (drop p lists) ≡ some high → Fails is_even (doubled_in basis high) → StopsAt basis (cut p first second) lists
   beyond : {p : ℕ} {first second : Tree} {lists low high : List ℤ} → rebuilt basis first (take p lists) ≡ some low
-      → rebuilt basis second (drop p lists) ≡ some high → Fails fitsI64 (beforeCut basis low high) → StopsAt basis (cut p first second) lists
-  in-first : {p : ℕ} {first second : Tree} {lists : List ℤ} → StopsAt basis first (take p lists) → StopsAt basis (cut p first second) lists
-  in-second : {p : ℕ} {first second : Tree} {lists : List ℤ} → StopsAt basis second (drop p lists) → StopsAt basis (cut p first second) lists
+      → rebuilt basis second (drop p lists) ≡ some high → Fails fits_i64 (before_cut basis low high) → StopsAt basis (cut p first second) lists
+  in_first : {p : ℕ} {first second : Tree} {lists : List ℤ} → StopsAt basis first (take p lists) → StopsAt basis (cut p first second) lists
+  in_second : {p : ℕ} {first second : Tree} {lists : List ℤ} → StopsAt basis second (drop p lists) → StopsAt basis (cut p first second) lists
 
 -- what refusal 34 says: the degree is within the limits, base and lists are those of the settings, and there is such a cut
 pub record Stopped (strategy : SplitStrategy) (parity : Parity) (basis : Basis) (degree base : ℕ) (lists : List ℤ) (bounds : List ℕ) : Type 0 where
   pub from_one : 1 ≤ degree
-  pub to-limit : degree ≤ planLimit
-  pub settings : matchesSettings strategy parity basis degree base lists bounds ≡ true
-  pub stops : StopsAt basis (planTree strategy parity basis degree) (take (suc degree) lists)
+  pub to_limit : degree ≤ plan_limit
+  pub settings : matches_settings strategy parity basis degree base lists bounds ≡ true
+  pub stops : StopsAt basis (plan_tree strategy parity basis degree) (take (suc degree) lists)
 
 -- the call refuses with 34 exactly then
 abbrev pub StoppedRefused : Type 0

@@ -14,12 +14,12 @@ abbrev pub half : ℤ → ℤ
 half z = quot_z z (pos 2)
 
 -- whether a number is even
-abbrev pub isEven : ℤ → Bool
-isEven z = eqb (nat_abs z % 2) 0
+abbrev pub is_even : ℤ → Bool
+is_even z = eqb (nat_abs z % 2) 0
 
 -- whether an i64 holds a number, which it does from -2^63 to 2^63 - 1: mag is n both for n and for -(n + 1)
-abbrev pub fitsI64 : ℤ → Bool
-fitsI64 z = ltb (mag z) (2 ^ 63)
+abbrev pub fits_i64 : ℤ → Bool
+fits_i64 z = ltb (mag z) (2 ^ 63)
 
 -- whether every element passes a test
 unfoldable pub every : (ℤ → Bool) → List ℤ → Bool
@@ -44,21 +44,21 @@ unfoldable pub raised : List ℤ → List ℤ → List ℤ
 raised low top = reverse (sums (reverse low) (drop 1 top))
 
 -- the coefficients that were cut into low and high
-unfoldable pub beforeCut : Basis → (low high : List ℤ) → List ℤ
-beforeCut Monomial low high = low ++ high
-beforeCut Chebyshev low high = raised low (halved high) ++ halved high
+unfoldable pub before_cut : Basis → (low high : List ℤ) → List ℤ
+before_cut Monomial low high = low ++ high
+before_cut Chebyshev low high = raised low (halved high) ++ halved high
 
 -- ---- refusal 34, of one cut
 
 -- the coefficients that a cut doubled: in Chebyshev all of high but its first
-abbrev pub doubledIn : Basis → (high : List ℤ) → List ℤ
-doubledIn Monomial high = []
-doubledIn Chebyshev high = drop 1 high
+abbrev pub doubled_in : Basis → (high : List ℤ) → List ℤ
+doubled_in Monomial high = []
+doubled_in Chebyshev high = drop 1 high
 
 -- whether a cut can be undone: no doubled coefficient is odd, and no number that is rebuilt at it is beyond i64
-unfoldable pub canUndo : Basis → (low high : List ℤ) → Bool
-canUndo basis low high = every isEven (doubledIn basis high) && every fitsI64 (beforeCut basis low high)
+unfoldable pub can_undo : Basis → (low high : List ℤ) → Bool
+can_undo basis low high = every is_even (doubled_in basis high) && every fits_i64 (before_cut basis low high)
 
 -- the coefficients before the cut, where it can be undone
 unfoldable pub undone : Basis → (low high : List ℤ) → Option (List ℤ)
-undone basis low high = when (canUndo basis low high) (some (beforeCut basis low high))
+undone basis low high = when (can_undo basis low high) (some (before_cut basis low high))

@@ -2,13 +2,13 @@
 ghost use Rattle.std.specs.Prelude.{◌≡◌, true, ◌≤◌, length, take};
 ghost use Rattle.std.proofs.Math.Option.{some};
 ghost use Rattle.std.proofs.lemmas.List.Edits.{sets};
-ghost use Rattle.number.specs.Limits.{planLimit, countLimit};
+ghost use Rattle.number.specs.Limits.{plan_limit, count_limit};
 ghost use Rattle.number.specs.Options.{when};
 ghost use Rattle.number.specs.inside.Between.{Between};
-ghost use Rattle.counts.specs.Choice.{splitFor};
-ghost use Rattle.rebuild.specs.Undo.{every, fitsI64};
-ghost use Rattle.rebuild.specs.RebuildCall.{matchesSettings, noRebuilt, RebuildCall};
-ghost use Rattle.rebuild.specs.inside.Rebuilding.{smallLimit, Rebuildable, coefficientsAt, Written};
+ghost use Rattle.counts.specs.Choice.{split_for};
+ghost use Rattle.rebuild.specs.Undo.{every, fits_i64};
+ghost use Rattle.rebuild.specs.RebuildCall.{matches_settings, no_rebuilt, RebuildCall};
+ghost use Rattle.rebuild.specs.inside.Rebuilding.{small_limit, Rebuildable, coefficients_at, Written};
 
 use crate::ends::match_ends;
 use crate::parts::rebuild_part;
@@ -28,7 +28,7 @@ pub struct Rebuilt {
 
 // A refusal.
 fn refused(refusal: u8) -> Rebuilt
-    ensures { result ≡ noRebuilt refusal }
+    ensures { result ≡ no_rebuilt refusal }
 {
     Rebuilt {
         refusal,
@@ -47,8 +47,8 @@ fn matches_settings(
     lists: &[i64],
     bounds: &[u16],
 ) -> bool
-    requires { Between 1 degree planLimit × (split ≡ splitFor strategy parity basis degree) }
-    ensures { result ≡ matchesSettings strategy parity basis degree base lists.now bounds.now }
+    requires { Between 1 degree plan_limit × (split ≡ split_for strategy parity basis degree) }
+    ensures { result ≡ matches_settings strategy parity basis degree base lists.now bounds.now }
 {
     if base != power_of_two(split) {
         return false;
@@ -62,7 +62,7 @@ fn matches_settings(
 // The lists copied to the front of a buffer. Each is read, so each is known to fit.
 fn take_lists(lists: &[i64], room: &mut [i64])
     requires { length lists.now ≤ length room.old }
-    ensures { (room.new ≡ sets room.old 0 lists.now) × (every fitsI64 lists.now ≡ true) }
+    ensures { (room.new ≡ sets room.old 0 lists.now) × (every fits_i64 lists.now ≡ true) }
 {
     let mut i = 0;
     while i < lists.len() {
@@ -80,7 +80,7 @@ fn rebuild_lists(
     room: &mut [i64],
 ) -> bool
     requires { Rebuildable split lists.now × (length lists.now ≤ length room.old) }
-    ensures { coefficientsAt strategy basis split lists.now
+    ensures { coefficients_at strategy basis split lists.now
         ≡ when result (some (take (length lists.now) room.new)) }
 {
     let n = lists.len();
@@ -99,7 +99,7 @@ fn write_rebuilt(
     out: &mut [i64],
 ) -> u8
     requires { Rebuildable split lists.now × (length lists.now ≤ length room.old) }
-    ensures { Written (coefficientsAt strategy basis split lists.now) (length lists.now) out.old
+    ensures { Written (coefficients_at strategy basis split lists.now) (length lists.now) out.old
         result out.new }
 {
     if !rebuild_lists(strategy, basis, split, lists, room) {
@@ -115,14 +115,14 @@ fn write_rebuilt(
 
 // A buffer for short lists: clearing the large one would be most of the time that their call takes.
 fn small_scratch() -> [i64; SMALL_LIMIT]
-    ensures { length result ≡ smallLimit }
+    ensures { length result ≡ small_limit }
 {
     [0; SMALL_LIMIT]
 }
 
 // A buffer for lists of any length. As with the small one, the contract keeps its length alone, so that no proof looks at its zeros.
 fn large_scratch() -> [i64; COUNT_LIMIT]
-    ensures { length result ≡ countLimit }
+    ensures { length result ≡ count_limit }
 {
     [0; COUNT_LIMIT]
 }
@@ -136,7 +136,7 @@ fn rebuild_in_scratch(
     out: &mut [i64],
 ) -> u8
     requires { Rebuildable split lists.now }
-    ensures { Written (coefficientsAt strategy basis split lists.now) (length lists.now) out.old
+    ensures { Written (coefficients_at strategy basis split lists.now) (length lists.now) out.old
         result out.new }
 {
     if lists.len() <= SMALL_LIMIT {

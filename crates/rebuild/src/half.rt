@@ -1,7 +1,7 @@
 // Halves and sums of whole numbers.
 ghost use Rattle.std.specs.Prelude.{◌≡◌, true, ◌<◌, ◌^◌, ltb, ◌+ℤ◌};
 ghost use Rattle.std.specs.Int.Signed.{mag};
-ghost use Rattle.rebuild.specs.Undo.{half, isEven, fitsI64};
+ghost use Rattle.rebuild.specs.Undo.{half, is_even, fits_i64};
 
 // Half of x, toward zero.
 pub fn half_of(x: i64) -> i64
@@ -12,7 +12,7 @@ pub fn half_of(x: i64) -> i64
 
 // Whether x is even.
 pub fn is_even(x: i64) -> bool
-    ensures { result ≡ isEven x }
+    ensures { result ≡ is_even x }
 {
     x % 2 == 0
 }
@@ -27,7 +27,7 @@ fn is_near(x: i64) -> bool
 // Whether an i64 holds x + y, where y is a half. It holds every sum of two numbers that are near zero, so that the limits are seldom looked at.
 pub fn plus_fits(x: i64, y: i64) -> bool
     requires { mag y < 2 ^ 62 }
-    ensures { result ≡ fitsI64 (x +ℤ y) }
+    ensures { result ≡ fits_i64 (x +ℤ y) }
 {
     if is_near(x) {
         return true;
@@ -40,7 +40,7 @@ pub fn plus_fits(x: i64, y: i64) -> bool
 
 // x and y.
 pub fn plus(x: i64, y: i64) -> i64
-    requires { fitsI64 (x +ℤ y) ≡ true }
+    requires { fits_i64 (x +ℤ y) ≡ true }
     ensures { result ≡ x +ℤ y }
 {
     x + y

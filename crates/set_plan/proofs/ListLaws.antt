@@ -6,25 +6,25 @@ use native.Mathlib.Omega.{arith}
 use lib.IntN.{ℤ}
 use lib.ListN.{length, get_or, set, take, drop, length-drop, drop_of_length-le}
 use lib.Seq.{sets, sets-eq, length-sets, take_all, drop-drop}
-use Rattle.number.specs.Refusal.{firstRefusal}
-use Rattle.number.proofs.Refusal.{first-passed, first-of-more}
+use Rattle.number.specs.Refusal.{first_refusal}
+use Rattle.number.proofs.Refusal.{first_passed, first_of_more}
 use Rattle.lists.specs.Lists.{joined}
-use Rattle.lists.proofs.Arranging.{length-ends}
+use Rattle.lists.proofs.Arranging.{length_ends}
 use Rattle.walk.specs.declared.plan.Head.{Head}
 use Rattle.plan.specs.PlanHead.{head_of}
-use Rattle.plan.proofs.PlanTests.{early-numbered, early-accepted}
-use Rattle.sets.specs.Members.{curvesIn, handedCount, total}
-use Rattle.sets.specs.Own.{ownTree, ownBoundaries, memberHead, memberCoefficients}
-use Rattle.sets.specs.SetPlan.{headsOf, setCoefficients, setBoundaries, coefficientCount, listCount}
-use Rattle.sets.specs.SetCall.{ownTests, curves}
+use Rattle.plan.proofs.PlanTests.{early_numbered, early_accepted}
+use Rattle.sets.specs.Members.{curves_in, handed_count, total}
+use Rattle.sets.specs.Own.{own_tree, own_boundaries, member_head, member_coefficients}
+use Rattle.sets.specs.SetPlan.{heads_of, set_coefficients, set_boundaries, coefficient_count, list_count}
+use Rattle.sets.specs.SetCall.{own_tests, curves}
 use Rattle.sets.specs.inside.Heads.{HeadFits, HeadsFit}
 use Rattle.sets.specs.inside.Planning.{Few}
 use Rattle.sets.specs.declared.member.Member.{Member}
 use Rattle.sets.specs.declared.member.Members.{Members}
-use Rattle.sets.proofs.Arrays.{noMember, anyHead, from_place, from_end, each_at}
-use Rattle.sets.proofs.HeadLaws.{SizesMost, sizes-most}
-use Rattle.sets.proofs.MemberLaws.{membersFrom, from_start, members-next}
-use Rattle.set_plan.specs.inside.Filling.{curveOf, MemberFits, MemberPut, AllListsFit, AllListsPut}
+use Rattle.sets.proofs.Arrays.{no_member, any_head, from_place, from_end, each_at}
+use Rattle.sets.proofs.HeadLaws.{SizesMost, sizes_most}
+use Rattle.sets.proofs.MemberLaws.{members_from, from_start, members_next}
+use Rattle.set_plan.specs.inside.Filling.{curve_of, MemberFits, MemberPut, AllListsFit, AllListsPut}
 
 -- ---- a buffer and its part from a place on
 
@@ -35,13 +35,13 @@ module _ {A : Type 0} where
   sets_then b (x ∷ xs) ys n m behind = sets_then (set b n x) xs ys (suc n) m (omega arith)
 
   -- the part from a place on
-  pub part-from : (out : List A) (at : ℕ) → take (length out - at) (drop at out) ≡ drop at out
-  part-from out at = take_all (length out - at) (drop at out) (omega (arith, length-drop at out))
+  pub part_from : (out : List A) (at : ℕ) → take (length out - at) (drop at out) ≡ drop at out
+  part_from out at = take_all (length out - at) (drop at out) (omega (arith, length-drop at out))
 
   -- come back with values at its front
-  pub put-from : (out z xs : List A) (at : ℕ) → at + length xs ≤ length out → z ≡ sets (drop at out) 0 xs
+  pub put_from : (out z xs : List A) (at : ℕ) → at + length xs ≤ length out → z ≡ sets (drop at out) 0 xs
       → take at out ++ (z ++ drop (length out - at) (drop at out)) ≡ sets out at xs
-  put-from out z xs at fits is =
+  put_from out z xs at fits is =
       let none : drop (length out - at) (drop at out) ≡ [] = drop_of_length-le (drop at out) {i = length out - at} (omega (arith, length-drop at out)) in
       let same : at + (0 + length xs) ≡ at + length xs = omega arith in
       let front : sets (drop at out) 0 xs ≡ xs ++ drop (at + length xs) out =
@@ -51,20 +51,20 @@ module _ {A : Type 0} where
 
 -- ---- what is left to write
 
-pub ends-kept : {member : Member} {head : Head} {list : ℕ} {c out : List ℤ} {bounds : List ℕ} {out' : List ℤ} {bounds' : List ℕ}
+pub ends_kept : {member : Member} {head : Head} {list : ℕ} {c out : List ℤ} {bounds : List ℕ} {out' : List ℤ} {bounds' : List ℕ}
     → MemberPut member head list c out bounds out' bounds' → length bounds' ≡ length bounds
-ends-kept {member} {head} {list} {c} {out} {bounds} put = ap length put.boundaries ∙ length-sets bounds list (ownBoundaries head)
+ends_kept {member} {head} {list} {c} {out} {bounds} put = ap length put.boundaries ∙ length-sets bounds list (own_boundaries head)
 
 -- of members, their heads and their coefficients, from places `at` and `list` on
 pub record Left (members : List Member) (heads : List Head) (c : List ℤ) (at list : ℕ) (out : List ℤ) (bounds : List ℕ) (whole : List ℤ) (ends : List ℕ)
     : Type 0 where
-  pub within : handedCount members ≤ length c
-  pub accepted : firstRefusal (joined (map ownTests (curvesIn members c))) ≡ 0
-  pub heads-are : heads ≡ headsOf (curvesIn members c)
-  pub room : at + coefficientCount heads ≤ length out
-  pub boundary-room : list + listCount heads ≤ length bounds
-  pub coefficients : sets out at (setCoefficients (curvesIn members c)) ≡ whole
-  pub boundaries : sets bounds list (setBoundaries heads) ≡ ends
+  pub within : handed_count members ≤ length c
+  pub accepted : first_refusal (joined (map own_tests (curves_in members c))) ≡ 0
+  pub heads_are : heads ≡ heads_of (curves_in members c)
+  pub room : at + coefficient_count heads ≤ length out
+  pub boundary_room : list + list_count heads ≤ length bounds
+  pub coefficients : sets out at (set_coefficients (curves_in members c)) ≡ whole
+  pub boundaries : sets bounds list (set_boundaries heads) ≡ ends
 
 -- the boundaries of a head are as many as its lists
 module _ {member : Member} {members : List Member} {head : Head} {heads : List Head} {c : List ℤ} {at list : ℕ} {out : List ℤ} {bounds : List ℕ}
@@ -72,66 +72,66 @@ module _ {member : Member} {members : List Member} {head : Head} {heads : List H
   abbrev own : List ℤ
   own = take member.count c
 
-  head-is : head ≡ memberHead (curveOf member own)
-  unfolding curvesIn
-  head-is = ap (λ (l : List Head). get_or l 0 anyHead) left.heads-are
+  head_is : head ≡ member_head (curve_of member own)
+  unfolding curves_in
+  head_is = ap (λ (l : List Head). get_or l 0 any_head) left.heads_are
 
-  own-passes : firstRefusal (ownTests (curveOf member own)) ≡ 0
-  unfolding curvesIn joined
-  own-passes =
-      first-passed (ownTests (curveOf member own)) (joined (map ownTests (curvesIn members (drop member.count c))))
-      (early-numbered member.fold member.parity own member.a member.b) left.accepted
+  own_passes : first_refusal (own_tests (curve_of member own)) ≡ 0
+  unfolding curves_in joined
+  own_passes =
+      first_passed (own_tests (curve_of member own)) (joined (map own_tests (curves_in members (drop member.count c))))
+      (early_numbered member.fold member.parity own member.a member.b) left.accepted
 
-  pub member-fits : MemberFits member head list own (drop at out) bounds
+  pub member_fits : MemberFits member head list own (drop at out) bounds
   unfolding total
-  member-fits = record {
-    accepted = early-accepted member.fold member.parity own member.a member.b own-passes;
-    head-is = head-is;
+  member_fits = record {
+    accepted = early_accepted member.fold member.parity own member.a member.b own_passes;
+    head_is = head_is;
     room = omega (arith, left.room, length-drop at out);
-    boundary-room = omega (arith, left.boundary-room);
+    boundary_room = omega (arith, left.boundary_room);
   }
 
-  ends-size : length (ownBoundaries head) ≡ head.lists
-  unfolding ownBoundaries head_of
-  ends-size = rw head-is (length-ends (ownTree (memberHead (curveOf member own))) 0 _)
+  ends_size : length (own_boundaries head) ≡ head.lists
+  unfolding own_boundaries head_of
+  ends_size = rw head_is (length_ends (own_tree (member_head (curve_of member own))) 0 _)
 
   -- the buffers keep their lengths
-  pub out-kept : {out' : List ℤ} {bounds' : List ℕ} {z : List ℤ} → MemberPut member head list own (drop at out) bounds z bounds'
+  pub out_kept : {out' : List ℤ} {bounds' : List ℕ} {z : List ℤ} → MemberPut member head list own (drop at out) bounds z bounds'
       → out' ≡ take at out ++ (z ++ drop (length out - at) (drop at out)) → length out' ≡ length out
   unfolding total
-  out-kept {out'} {bounds'} {z} put back =
-      let mine = memberCoefficients (curveOf member own) in
-      ap length (back ∙ put-from out z mine at (omega (arith, put.size, left.room)) put.coefficients) ∙ length-sets out at mine
+  out_kept {out'} {bounds'} {z} put back =
+      let mine = member_coefficients (curve_of member own) in
+      ap length (back ∙ put_from out z mine at (omega (arith, put.size, left.room)) put.coefficients) ∙ length-sets out at mine
 
-  pub left-next : {out' : List ℤ} {bounds' : List ℕ} {z : List ℤ} → MemberPut member head list own (drop at out) bounds z bounds'
+  pub left_next : {out' : List ℤ} {bounds' : List ℕ} {z : List ℤ} → MemberPut member head list own (drop at out) bounds z bounds'
       → out' ≡ take at out ++ (z ++ drop (length out - at) (drop at out))
       → Left members heads (drop member.count c) (at + head.coefficients) (list + head.lists) out' bounds' whole ends
-  unfolding curvesIn total joined setCoefficients setBoundaries
-  left-next {out'} {bounds'} {z} put back =
-      let mine = memberCoefficients (curveOf member own) in
-      let rest = setCoefficients (curvesIn members (drop member.count c)) in
-      let now-is : out' ≡ sets out at mine = back ∙ put-from out z mine at (omega (arith, put.size, left.room)) put.coefficients in
+  unfolding curves_in total joined set_coefficients set_boundaries
+  left_next {out'} {bounds'} {z} put back =
+      let mine = member_coefficients (curve_of member own) in
+      let rest = set_coefficients (curves_in members (drop member.count c)) in
+      let now_is : out' ≡ sets out at mine = back ∙ put_from out z mine at (omega (arith, put.size, left.room)) put.coefficients in
       record {
         within = omega (arith, left.within, length-drop member.count c);
         accepted =
-            sym (first-of-more (ownTests (curveOf member own)) (joined (map ownTests (curvesIn members (drop member.count c))))
-            (early-numbered member.fold member.parity own member.a member.b) own-passes) ∙ left.accepted;
-        heads-are = ap (drop 1) left.heads-are;
-        room = omega (arith, left.room, ap length now-is, length-sets out at mine);
-        boundary-room = omega (arith, left.boundary-room, ap length put.boundaries, length-sets bounds list (ownBoundaries head));
+            sym (first_of_more (own_tests (curve_of member own)) (joined (map own_tests (curves_in members (drop member.count c))))
+            (early_numbered member.fold member.parity own member.a member.b) own_passes) ∙ left.accepted;
+        heads_are = ap (drop 1) left.heads_are;
+        room = omega (arith, left.room, ap length now_is, length-sets out at mine);
+        boundary_room = omega (arith, left.boundary_room, ap length put.boundaries, length-sets bounds list (own_boundaries head));
         coefficients =
-            ap (λ (l : List ℤ). sets l (at + head.coefficients) rest) now-is
+            ap (λ (l : List ℤ). sets l (at + head.coefficients) rest) now_is
             ∙ sets_then out mine rest at (at + head.coefficients) (omega (arith, put.size)) ∙ left.coefficients;
         boundaries =
-            ap (λ (l : List ℕ). sets l (list + head.lists) (setBoundaries heads)) put.boundaries
-            ∙ sets_then bounds (ownBoundaries head) (setBoundaries heads) list (list + head.lists) (omega (arith, ends-size)) ∙ left.boundaries;
+            ap (λ (l : List ℕ). sets l (list + head.lists) (set_boundaries heads)) put.boundaries
+            ∙ sets_then bounds (own_boundaries head) (set_boundaries heads) list (list + head.lists) (omega (arith, ends_size)) ∙ left.boundaries;
       }
 
 -- ---- in the arrays
 
 -- the heads from place i on
-abbrev pub headsFrom : (i count : ℕ) → List Head → List Head
-headsFrom i count heads = take (count - i) (drop i heads)
+abbrev pub heads_from : (i count : ℕ) → List Head → List Head
+heads_from i count heads = take (count - i) (drop i heads)
 
 -- what is left from member i on, whose coefficients stand from place `from` on, gives the whole
 pub record LeftAt (handed : Members) (heads : List Head) (c out₀ : List ℤ) (bounds₀ : List ℕ) (i from at list : ℕ) (out : List ℤ) (bounds : List ℕ)
@@ -139,97 +139,97 @@ pub record LeftAt (handed : Members) (heads : List Head) (c out₀ : List ℤ) (
   pub few : Few handed
   pub fit : HeadsFit heads handed.count
   pub inside : from ≤ length c
-  pub left : Left (membersFrom i handed) (headsFrom i handed.count heads) (drop from c) at list out bounds
-      (sets out₀ 0 (setCoefficients (curves handed c))) (sets bounds₀ 0 (setBoundaries (headsOf (curves handed c))))
+  pub left : Left (members_from i handed) (heads_from i handed.count heads) (drop from c) at list out bounds
+      (sets out₀ 0 (set_coefficients (curves handed c))) (sets bounds₀ 0 (set_boundaries (heads_of (curves handed c))))
 
-pub left-start : {handed : Members} {heads : List Head} {slice : ℕ} {c out : List ℤ} {bounds : List ℕ} → AllListsFit handed heads slice c out bounds
+pub left_start : {handed : Members} {heads : List Head} {slice : ℕ} {c out : List ℤ} {bounds : List ℕ} → AllListsFit handed heads slice c out bounds
     → LeftAt handed heads c out bounds 0 0 0 0 out bounds
-left-start {handed} {heads} {slice} {c} {out} {bounds} fits =
+left_start {handed} {heads} {slice} {c} {out} {bounds} fits =
     let all : handed.count - 0 ≡ handed.count = omega arith in
-    let heads-same : headsFrom 0 handed.count heads ≡ headsOf (curves handed c) = ap (λ (n : ℕ). take n heads) all ∙ fits.heads-are in
+    let heads_same : heads_from 0 handed.count heads ≡ heads_of (curves handed c) = ap (λ (n : ℕ). take n heads) all ∙ fits.heads_are in
     record {
       few = fits.stand.few;
-      fit = fits.heads-fit;
+      fit = fits.heads_fit;
       inside = omega arith;
       left = rw (← from_start handed) (record {
         within = fits.stand.within;
         accepted = fits.accepted;
-        heads-are = heads-same;
-        room = omega (arith, ap coefficientCount heads-same, fits.room);
-        boundary-room = omega (arith, ap listCount heads-same, fits.boundary-room);
+        heads_are = heads_same;
+        room = omega (arith, ap coefficient_count heads_same, fits.room);
+        boundary_room = omega (arith, ap list_count heads_same, fits.boundary_room);
         coefficients = refl;
-        boundaries = ap (λ (l : List Head). sets bounds 0 (setBoundaries l)) heads-same;
+        boundaries = ap (λ (l : List Head). sets bounds 0 (set_boundaries l)) heads_same;
       });
     }
 
 module _ {handed : Members} {heads : List Head} {c out₀ : List ℤ} {bounds₀ : List ℕ} {i from at list : ℕ} {out : List ℤ} {bounds : List ℕ}
     (here : LeftAt handed heads c out₀ bounds₀ i from at list out bounds) where
   abbrev member : Member
-  member = get_or handed.members i noMember
+  member = get_or handed.members i no_member
 
   abbrev head : Head
-  head = get_or heads i anyHead
+  head = get_or heads i any_head
 
-  pub at-within : at ≤ length out
-  at-within = omega (arith, here.left.room)
+  pub at_within : at ≤ length out
+  at_within = omega (arith, here.left.room)
 
   module _ (below : i < handed.count) where
-    inside-heads : i < length heads
-    inside-heads = omega (arith, here.fit.few, here.fit.size)
+    inside_heads : i < length heads
+    inside_heads = omega (arith, here.fit.few, here.fit.size)
 
-    left_here : Left (member ∷ membersFrom (i + 1) handed) (head ∷ headsFrom (i + 1) handed.count heads) (drop from c) at list out bounds
-        (sets out₀ 0 (setCoefficients (curves handed c))) (sets bounds₀ 0 (setBoundaries (headsOf (curves handed c))))
+    left_here : Left (member ∷ members_from (i + 1) handed) (head ∷ heads_from (i + 1) handed.count heads) (drop from c) at list out bounds
+        (sets out₀ 0 (set_coefficients (curves handed c))) (sets bounds₀ 0 (set_boundaries (heads_of (curves handed c))))
     left_here =
-        subst (λ (ms : List Member). Left ms (head ∷ headsFrom (i + 1) handed.count heads) (drop from c) at list out bounds
-        (sets out₀ 0 (setCoefficients (curves handed c))) (sets bounds₀ 0 (setBoundaries (headsOf (curves handed c)))))
-        (members-next here.few i below)
-        (subst (λ (hs : List Head). Left (membersFrom i handed) hs (drop from c) at list out bounds
-        (sets out₀ 0 (setCoefficients (curves handed c))) (sets bounds₀ 0 (setBoundaries (headsOf (curves handed c)))))
-        (from_place anyHead handed.count i heads below inside-heads) here.left)
+        subst (λ (ms : List Member). Left ms (head ∷ heads_from (i + 1) handed.count heads) (drop from c) at list out bounds
+        (sets out₀ 0 (set_coefficients (curves handed c))) (sets bounds₀ 0 (set_boundaries (heads_of (curves handed c)))))
+        (members_next here.few i below)
+        (subst (λ (hs : List Head). Left (members_from i handed) hs (drop from c) at list out bounds
+        (sets out₀ 0 (set_coefficients (curves handed c))) (sets bounds₀ 0 (set_boundaries (heads_of (curves handed c)))))
+        (from_place any_head handed.count i heads below inside_heads) here.left)
 
     -- the head's sizes
-    pub sizes-here : SizesMost head
-    sizes-here = sizes-most (each_at anyHead HeadFits handed.count i heads below inside-heads here.fit.each)
+    pub sizes_here : SizesMost head
+    sizes_here = sizes_most (each_at any_head HeadFits handed.count i heads below inside_heads here.fit.each)
 
     -- the member's coefficients are within the slice
-    pub slice-room : from + member.count ≤ length c
+    pub slice_room : from + member.count ≤ length c
     unfolding total
-    slice-room = omega (arith, left_here.within, length-drop from c, here.inside)
+    slice_room = omega (arith, left_here.within, length-drop from c, here.inside)
 
     -- as the parts of the slices are handed on
     part_c : take (from + member.count - from) (drop from c) ≡ take member.count (drop from c)
     part_c = let size : from + member.count - from ≡ member.count = omega arith in ap (λ (n : ℕ). take n (drop from c)) size
 
-    pub fits-here : MemberFits member head list (take (from + member.count - from) (drop from c)) (take (length out - at) (drop at out)) bounds
-    fits-here = rw (part_c, part-from out at) (member-fits left_here)
+    pub fits_here : MemberFits member head list (take (from + member.count - from) (drop from c)) (take (length out - at) (drop at out)) bounds
+    fits_here = rw (part_c, part_from out at) (member_fits left_here)
 
     module _ {out' z : List ℤ} {bounds' : List ℕ}
         (put : MemberPut member head list (take (from + member.count - from) (drop from c)) (take (length out - at) (drop at out)) bounds z bounds')
         (back : out' ≡ take at out ++ (z ++ drop (length out - at) (drop at out))) where
-      put-here : MemberPut member head list (take member.count (drop from c)) (drop at out) bounds z bounds'
-      put-here = rw (part_c, part-from out at) at put
+      put_here : MemberPut member head list (take member.count (drop from c)) (drop at out) bounds z bounds'
+      put_here = rw (part_c, part_from out at) at put
 
       pub kept_here : length out' ≡ length out
-      kept_here = out-kept left_here put-here back
+      kept_here = out_kept left_here put_here back
 
       pub next_here : LeftAt handed heads c out₀ bounds₀ (i + 1) (from + member.count) (at + head.coefficients) (list + head.lists) out' bounds'
       next_here = record {
         few = here.few;
         fit = here.fit;
-        inside = slice-room;
+        inside = slice_room;
         left =
-            subst (λ (l : List ℤ). Left (membersFrom (i + 1) handed) (headsFrom (i + 1) handed.count heads) l (at + head.coefficients)
-            (list + head.lists) out' bounds' (sets out₀ 0 (setCoefficients (curves handed c))) (sets bounds₀ 0 (setBoundaries (headsOf (curves handed c)))))
+            subst (λ (l : List ℤ). Left (members_from (i + 1) handed) (heads_from (i + 1) handed.count heads) l (at + head.coefficients)
+            (list + head.lists) out' bounds' (sets out₀ 0 (set_coefficients (curves handed c))) (sets bounds₀ 0 (set_boundaries (heads_of (curves handed c)))))
             (drop-drop member.count from c)
-            (left-next left_here put-here back);
+            (left_next left_here put_here back);
       }
 
-  pub left-none : handed.count ≤ i → AllListsPut handed c out₀ bounds₀ out bounds
-  unfolding curvesIn setCoefficients setBoundaries joined
-  left-none past =
+  pub left_none : handed.count ≤ i → AllListsPut handed c out₀ bounds₀ out bounds
+  unfolding curves_in set_coefficients set_boundaries joined
+  left_none past =
       let none = from_end handed.count i (drop i handed.members) past in
-      let no-heads = from_end handed.count i (drop i heads) past in
+      let no_heads = from_end handed.count i (drop i heads) past in
       record {
-        coefficients = sym (ap (λ (ms : List Member). sets out at (setCoefficients (curvesIn ms (drop from c)))) none) ∙ here.left.coefficients;
-        boundaries = sym (ap (λ (hs : List Head). sets bounds list (setBoundaries hs)) no-heads) ∙ here.left.boundaries;
+        coefficients = sym (ap (λ (ms : List Member). sets out at (set_coefficients (curves_in ms (drop from c)))) none) ∙ here.left.coefficients;
+        boundaries = sym (ap (λ (hs : List Head). sets bounds list (set_boundaries hs)) no_heads) ∙ here.left.boundaries;
       }

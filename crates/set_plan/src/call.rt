@@ -1,6 +1,6 @@
 // The call that plans a set.
 ghost use Rattle.std.specs.Prelude.{◌≡◌};
-ghost use Rattle.sets.specs.SetCall.{noSet, SetCall};
+ghost use Rattle.sets.specs.SetCall.{no_set, SetCall};
 
 use super::filling::write_all_lists;
 use super::record::{set_record, total_sizes};
@@ -14,7 +14,7 @@ use sets::{CurveSet, MEMBERS, Members, SetPlanned};
 
 // A refusal.
 fn refused_set(refusal: u8) -> SetPlanned
-    ensures { result ≡ record { refusal = refusal; set = noSet } }
+    ensures { result ≡ record { refusal = refusal; set = no_set } }
 {
     let none = no_head();
     let heads = [none; MEMBERS];

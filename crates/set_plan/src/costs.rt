@@ -1,8 +1,8 @@
 // What members cost.
 ghost use Rattle.std.specs.Prelude.{◌≡◌, ◌≤◌, take};
-ghost use Rattle.sets.specs.SetPlan.{memberLimit, sharedCost, setCost};
+ghost use Rattle.sets.specs.SetPlan.{member_limit, shared_cost, set_cost};
 ghost use Rattle.sets.specs.inside.Heads.{HeadFits, HeadsFit};
-ghost use Rattle.set_plan.specs.inside.Counting.{ownCosts, CostsAre};
+ghost use Rattle.set_plan.specs.inside.Counting.{own_costs, CostsAre};
 
 use lists::relists;
 use number::PolynomialInputTransform;
@@ -22,7 +22,7 @@ pub struct Costs {
 // Those of a member.
 fn own_costs(head: Head) -> Costs
     requires { HeadFits head }
-    ensures { result ≡ ownCosts head }
+    ensures { result ≡ own_costs head }
 {
     let strategy = head.strategy;
     let parity = head.parity;
@@ -58,8 +58,8 @@ pub fn sum_costs(heads: [Head; MEMBERS], count: usize) -> Costs
 
 // The multiplications of a transform for so many members: that which makes y is done once, and that by the input for each.
 fn shared_cost(transform: PolynomialInputTransform, members: usize) -> usize
-    requires { members ≤ memberLimit }
-    ensures { result ≡ sharedCost transform members }
+    requires { members ≤ member_limit }
+    ensures { result ≡ shared_cost transform members }
 {
     match transform {
         PolynomialInputTransform::Identity => 0,
@@ -73,7 +73,7 @@ fn shared_cost(transform: PolynomialInputTransform, members: usize) -> usize
 // Those of the transform that the first `count` members have in common.
 pub fn set_cost(heads: [Head; MEMBERS], count: usize) -> usize
     requires { HeadsFit heads count }
-    ensures { result ≡ setCost (take count heads) }
+    ensures { result ≡ set_cost (take count heads) }
 {
     if count == 0 {
         return 0;

@@ -1,7 +1,7 @@
 // The record of a set by its members' heads, and the sizes of its buffers.
 ghost use Rattle.std.specs.Prelude.{◌≡◌, take};
-ghost use Rattle.sets.specs.SetPlan.{setOf};
-ghost use Rattle.sets.specs.SetSizes.{setSizesOf};
+ghost use Rattle.sets.specs.SetPlan.{set_of};
+ghost use Rattle.sets.specs.SetSizes.{set_sizes_of};
 ghost use Rattle.sets.specs.inside.Marking.{PowersCounted};
 ghost use Rattle.set_plan.specs.inside.Counting.{RecordAsked};
 
@@ -13,7 +13,7 @@ use walk::Head;
 // The record of the first `count` members, whose common powers are so many. Behind them the heads are zero.
 pub fn set_record(heads: [Head; MEMBERS], count: usize, powers: usize) -> CurveSet
     requires { RecordAsked heads count powers }
-    ensures { result ≡ setOf (take count heads) }
+    ensures { result ≡ set_of (take count heads) }
 {
     let costs = sum_costs(heads, count);
     let cost = set_cost(heads, count);
@@ -29,7 +29,7 @@ pub fn set_record(heads: [Head; MEMBERS], count: usize, powers: usize) -> CurveS
 // How many coefficients, lists and steps the first `count` members have together, whose common powers are so many.
 pub fn total_sizes(heads: [Head; MEMBERS], count: usize, powers: usize) -> PlanSizes
     requires { PowersCounted heads count powers }
-    ensures { result ≡ setSizesOf (take count heads) }
+    ensures { result ≡ set_sizes_of (take count heads) }
 {
     let mut coefficients = 0;
     let mut lists = 0;

@@ -1,9 +1,9 @@
 // The sizes of a set before its curves are there.
 ghost use Rattle.std.specs.Prelude.{◌≡◌, map};
-ghost use Rattle.number.specs.Refusal.{firstRefusal};
+ghost use Rattle.number.specs.Refusal.{first_refusal};
 ghost use Rattle.lists.specs.Lists.{joined};
-ghost use Rattle.sets.specs.Members.{membersIn};
-ghost use Rattle.sets.specs.SetSizes.{memberSettingsTests, setSizesTests, setSizesCall};
+ghost use Rattle.sets.specs.Members.{members_in};
+ghost use Rattle.sets.specs.SetSizes.{member_settings_tests, set_sizes_tests, set_sizes_call};
 ghost use Rattle.sets.specs.inside.Planning.{Few};
 
 use super::record::total_sizes;
@@ -19,7 +19,7 @@ use sets::{MEMBERS, Members};
 // The number of the first test of the members' degrees and settings that holds, in member order, or 0.
 fn settings_refusals(handed: Members) -> u8
     requires { Few handed }
-    ensures { result ≡ firstRefusal (joined (map memberSettingsTests (membersIn handed))) }
+    ensures { result ≡ first_refusal (joined (map member_settings_tests (members_in handed))) }
 {
     let mut i = 0;
     while i < handed.count {
@@ -36,7 +36,7 @@ fn settings_refusals(handed: Members) -> u8
 
 // The number of the first test of the sizes that holds, or 0.
 fn sizes_refusal(handed: Members) -> u8
-    ensures { result ≡ firstRefusal (setSizesTests handed) }
+    ensures { result ≡ first_refusal (set_sizes_tests handed) }
 {
     let count = handed.count;
     if count == 0 {
@@ -54,7 +54,7 @@ fn sizes_refusal(handed: Members) -> u8
 // The sizes of every set that is planned with these settings and lengths: how many coefficients, lists and steps it has, the common power steps counted
 // once. The set call takes its own from the same heads.
 pub fn set_sizes(members: Members) -> PlanSizes
-    ensures { result ≡ setSizesCall members }
+    ensures { result ≡ set_sizes_call members }
 {
     let wrong = sizes_refusal(members);
     if 0 < wrong {

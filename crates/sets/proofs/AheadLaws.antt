@@ -7,44 +7,44 @@ use borrow.Author.Tests.{eq-eqb, ne_eqb, lt-ltb, le-ltb, ltb-false, not-true, no
 use lib.Dec.{ltb}
 use lib.IntN.{ℤ}
 use lib.ListN.{length}
-use Rattle.number.specs.Refusal.{firstRefusal}
+use Rattle.number.specs.Refusal.{first_refusal}
 use Rattle.lists.specs.Lists.{joined}
-use Rattle.sets.specs.Members.{membersIn, handedCount, allAlike}
-use Rattle.sets.specs.SetPlan.{memberLimit}
-use Rattle.sets.specs.SetCall.{ownTests, curves, aheadTests}
+use Rattle.sets.specs.Members.{members_in, handed_count, all_alike}
+use Rattle.sets.specs.SetPlan.{member_limit}
+use Rattle.sets.specs.SetCall.{own_tests, curves, ahead_tests}
 use Rattle.sets.specs.declared.member.Members.{Members}
 
 module _ (handed : Members) (c : List ℤ) where
   abbrev answer : ℕ
-  answer = firstRefusal (aheadTests handed c)
+  answer = first_refusal (ahead_tests handed c)
 
   pub ahead_none : handed.count ≡ 0 → 35 ≡ answer
   ahead_none none = sym (rw (eq-eqb handed.count 0 none))
 
-  pub ahead-many : (handed.count ≡ 0 → ⊥) → memberLimit < handed.count → 35 ≡ answer
-  ahead-many some many = sym (rw (ne_eqb handed.count 0 some, lt-ltb memberLimit handed.count many))
+  pub ahead_many : (handed.count ≡ 0 → ⊥) → member_limit < handed.count → 35 ≡ answer
+  ahead_many some many = sym (rw (ne_eqb handed.count 0 some, lt-ltb member_limit handed.count many))
 
-  module _ (some : handed.count ≡ 0 → ⊥) (few : handed.count ≤ memberLimit) {slice : ℕ} (slice_is : slice ≡ length c) {fit : Bool}
-      (fit_is : fit ≡ not (ltb slice (handedCount (membersIn handed)))) where
-    passes : not fit ≡ false → ltb (length c) (handedCount (membersIn handed)) ≡ false
+  module _ (some : handed.count ≡ 0 → ⊥) (few : handed.count ≤ member_limit) {slice : ℕ} (slice_is : slice ≡ length c) {fit : Bool}
+      (fit_is : fit ≡ not (ltb slice (handed_count (members_in handed)))) where
+    passes : not fit ≡ false → ltb (length c) (handed_count (members_in handed)) ≡ false
     passes fits =
-        let none : ltb slice (handedCount (membersIn handed)) ≡ false = not-true _ (sym fit_is ∙ not-false fit fits) in
-        ap (λ (n : ℕ). ltb n (handedCount (membersIn handed))) (sym slice_is) ∙ none
+        let none : ltb slice (handed_count (members_in handed)) ≡ false = not-true _ (sym fit_is ∙ not-false fit fits) in
+        ap (λ (n : ℕ). ltb n (handed_count (members_in handed))) (sym slice_is) ∙ none
 
-    pub ahead-long : not fit ≡ true → 35 ≡ answer
-    ahead-long fails =
-        let over : ltb slice (handedCount (membersIn handed)) ≡ true = not-false _ (sym fit_is ∙ not-true fit fails) in
-        let long = ap (λ (n : ℕ). ltb n (handedCount (membersIn handed))) (sym slice_is) ∙ over in
-        sym (rw (ne_eqb handed.count 0 some, le-ltb memberLimit handed.count few, long))
+    pub ahead_long : not fit ≡ true → 35 ≡ answer
+    ahead_long fails =
+        let over : ltb slice (handed_count (members_in handed)) ≡ true = not-false _ (sym fit_is ∙ not-true fit fails) in
+        let long = ap (λ (n : ℕ). ltb n (handed_count (members_in handed))) (sym slice_is) ∙ over in
+        sym (rw (ne_eqb handed.count 0 some, le-ltb member_limit handed.count few, long))
 
-    pub ahead_within : not fit ≡ false → handedCount (membersIn handed) ≤ length c
-    ahead_within fits = ltb-false (length c) (handedCount (membersIn handed)) (passes fits)
+    pub ahead_within : not fit ≡ false → handed_count (members_in handed) ≤ length c
+    ahead_within fits = ltb-false (length c) (handed_count (members_in handed)) (passes fits)
 
-    pub ahead-unlike : {same : Bool} → not fit ≡ false → same ≡ allAlike (membersIn handed) → not same ≡ true → 36 ≡ answer
-    ahead-unlike {same} fits same-is fails =
-        sym (rw (ne_eqb handed.count 0 some, le-ltb memberLimit handed.count few, passes fits, sym same-is ∙ not-true same fails))
+    pub ahead_unlike : {same : Bool} → not fit ≡ false → same ≡ all_alike (members_in handed) → not same ≡ true → 36 ≡ answer
+    ahead_unlike {same} fits same_is fails =
+        sym (rw (ne_eqb handed.count 0 some, le-ltb member_limit handed.count few, passes fits, sym same_is ∙ not-true same fails))
 
-    pub ahead_own : {same : Bool} {k : ℕ} → not fit ≡ false → same ≡ allAlike (membersIn handed) → not same ≡ false
-        → k ≡ firstRefusal (joined (map ownTests (curves handed c))) → k ≡ answer
-    ahead_own {same} fits same-is alike k-is =
-        k-is ∙ sym (rw (ne_eqb handed.count 0 some, le-ltb memberLimit handed.count few, passes fits, sym same-is ∙ not-false same alike))
+    pub ahead_own : {same : Bool} {k : ℕ} → not fit ≡ false → same ≡ all_alike (members_in handed) → not same ≡ false
+        → k ≡ first_refusal (joined (map own_tests (curves handed c))) → k ≡ answer
+    ahead_own {same} fits same_is alike k_is =
+        k_is ∙ sym (rw (ne_eqb handed.count 0 some, le-ltb member_limit handed.count few, passes fits, sym same_is ∙ not-false same alike))

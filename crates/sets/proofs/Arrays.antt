@@ -13,17 +13,17 @@ use Rattle.algebra.specs.declared.Parity.TheVariants.{Full}
 use Rattle.algebra.specs.declared.PolynomialInputTransform.TheVariants.{Identity}
 use Rattle.counts.specs.declared.choice.SplitStrategy.TheVariants.{MinDepth}
 use Rattle.walk.specs.declared.plan.Head.{Head}
-use Rattle.plan.specs.PlanHead.{noHead}
-use Rattle.sets.specs.SetPlan.{memberLimit, withZeroHeads}
+use Rattle.plan.specs.PlanHead.{no_head}
+use Rattle.sets.specs.SetPlan.{member_limit, with_zero_heads}
 use Rattle.sets.specs.declared.member.Member.{Member}
 
 -- ---- what a read past the end of an array would give: no read of ours is past it
 
-abbrev pub noMember : Member
-noMember = record { strategy = MinDepth; parity = Full; basis = Monomial; fold = false; a = nan; b = nan; count = 0 }
+abbrev pub no_member : Member
+no_member = record { strategy = MinDepth; parity = Full; basis = Monomial; fold = false; a = nan; b = nan; count = 0 }
 
-abbrev pub anyHead : Head
-anyHead = record {
+abbrev pub any_head : Head
+any_head = record {
   basis = Monomial;
   parity = Full;
   strategy = MinDepth;
@@ -68,17 +68,17 @@ from_end n i xs past = let none : n - i ≡ 0 = omega arith in rw none
 
 -- ---- an array that is filled from the front
 
-pub zeros-more : (heads : List Head) (head : Head) → length heads < memberLimit
-    → set (withZeroHeads heads) (length heads) head ≡ withZeroHeads (heads ++ (head ∷ []))
-zeros-more heads head below =
-    let left = memberLimit - (length heads + 1) in
-    let size : memberLimit - length heads ≡ suc left = omega arith in
-    ap (λ (k : ℕ). set (heads ++ replicate k noHead) (length heads) head) size
-    ∙ set_at heads noHead (replicate left noHead) head (length heads) refl
-    ∙ sym (append_assoc heads (head ∷ []) (replicate left noHead))
-    ∙ ap (λ (k : ℕ). (heads ++ (head ∷ [])) ++ replicate k noHead) (longer heads)
+pub zeros_more : (heads : List Head) (head : Head) → length heads < member_limit
+    → set (with_zero_heads heads) (length heads) head ≡ with_zero_heads (heads ++ (head ∷ []))
+zeros_more heads head below =
+    let left = member_limit - (length heads + 1) in
+    let size : member_limit - length heads ≡ suc left = omega arith in
+    ap (λ (k : ℕ). set (heads ++ replicate k no_head) (length heads) head) size
+    ∙ set_at heads no_head (replicate left no_head) head (length heads) refl
+    ∙ sym (append_assoc heads (head ∷ []) (replicate left no_head))
+    ∙ ap (λ (k : ℕ). (heads ++ (head ∷ [])) ++ replicate k no_head) (longer heads)
   where
-    longer : (xs : List Head) → memberLimit - (length xs + 1) ≡ memberLimit - length (xs ++ (head ∷ []))
+    longer : (xs : List Head) → member_limit - (length xs + 1) ≡ member_limit - length (xs ++ (head ∷ []))
     longer xs = omega (arith, length_more xs)
       where
         length_more : (ys : List Head) → length (ys ++ (head ∷ [])) ≡ length ys + 1

@@ -5,97 +5,97 @@ use Rattle.algebra.specs.declared.PolynomialInputTransform.TheVariants.{Identity
 use Rattle.lists.specs.Lists.{joined}
 use Rattle.walk.specs.declared.plan.Head.{Head}
 use Rattle.walk.specs.declared.plan.Step.{Step}
-use Rattle.plan.specs.PlanSteps.{makeStep}
-use Rattle.plan.specs.PlanHead.{noHead}
-use Rattle.plan.specs.Reported.{ofKind, allowedIn}
+use Rattle.plan.specs.PlanSteps.{make_step}
+use Rattle.plan.specs.PlanHead.{no_head}
+use Rattle.plan.specs.Reported.{of_kind, allowed_in}
 use Rattle.sets.specs.Members.{total, Curve}
-use Rattle.sets.specs.Union.{unionOf}
-use Rattle.sets.specs.Own.{ownPowers, ownSteps, ownBoundaries, ownLengths, memberHead, memberCoefficients}
+use Rattle.sets.specs.Union.{union_of}
+use Rattle.sets.specs.Own.{own_powers, own_steps, own_boundaries, own_lengths, member_head, member_coefficients}
 use Rattle.sets.specs.declared.set.CurveSet.{CurveSet}
 
 -- ---- heads, coefficients
 
 -- the members' heads
-abbrev pub headsOf : List Curve → List Head
-headsOf curves = map memberHead curves
+abbrev pub heads_of : List Curve → List Head
+heads_of curves = map member_head curves
 
 -- their lists, one member's after another's
-unfoldable pub setCoefficients : List Curve → List ℤ
-setCoefficients curves = joined (map memberCoefficients curves)
+unfoldable pub set_coefficients : List Curve → List ℤ
+set_coefficients curves = joined (map member_coefficients curves)
 
 -- ---- steps and boundaries
 
 -- the union of the needed powers, rising
-unfoldable pub setPowers : List Head → List ℕ
-setPowers heads = unionOf (map ownPowers heads)
+unfoldable pub set_powers : List Head → List ℕ
+set_powers heads = union_of (map own_powers heads)
 
 -- "power steps once, for the union of needed powers"
-unfoldable pub commonSteps : List Head → List Step
-commonSteps heads = map makeStep (setPowers heads)
+unfoldable pub common_steps : List Head → List Step
+common_steps heads = map make_step (set_powers heads)
 
 -- "then each member's lists and combines"
-unfoldable pub memberSteps : List Head → List Step
-memberSteps heads = joined (map ownSteps heads)
+unfoldable pub member_steps : List Head → List Step
+member_steps heads = joined (map own_steps heads)
 
-unfoldable pub setSteps : List Head → List Step
-setSteps heads = commonSteps heads ++ memberSteps heads
+unfoldable pub set_steps : List Head → List Step
+set_steps heads = common_steps heads ++ member_steps heads
 
 -- "Each member's boundaries and list numbers begin afresh at 0."
-unfoldable pub setBoundaries : List Head → List ℕ
-setBoundaries heads = joined (map ownBoundaries heads)
+unfoldable pub set_boundaries : List Head → List ℕ
+set_boundaries heads = joined (map own_boundaries heads)
 
 -- ---- counts
 
 -- "plus one when folded and, with TimesInput, one more for each member"
-abbrev pub sharedCost : PolynomialInputTransform → (members : ℕ) → ℕ
-sharedCost Identity members = 0
-sharedCost Square members = 1
-sharedCost SquareTimesInput members = 1 + members
-sharedCost ChebyshevT2 members = 1
-sharedCost ChebyshevT2TimesInput members = 1 + members
+abbrev pub shared_cost : PolynomialInputTransform → (members : ℕ) → ℕ
+shared_cost Identity members = 0
+shared_cost Square members = 1
+shared_cost SquareTimesInput members = 1 + members
+shared_cost ChebyshevT2 members = 1
+shared_cost ChebyshevT2TimesInput members = 1 + members
 
 -- the members have one transform, so that of the first
-abbrev pub setCost : List Head → ℕ
-setCost [] = 0
-setCost (head ∷ heads) = sharedCost head.transform (length (head ∷ heads))
+abbrev pub set_cost : List Head → ℕ
+set_cost [] = 0
+set_cost (head ∷ heads) = shared_cost head.transform (length (head ∷ heads))
 
 -- "the size of the union plus all kind 3 steps", plus these
-unfoldable pub setCt : List Head → ℕ
-setCt heads = length (setPowers heads) + ofKind 3 (setSteps heads) + setCost heads
+unfoldable pub set_ct : List Head → ℕ
+set_ct heads = length (set_powers heads) + of_kind 3 (set_steps heads) + set_cost heads
 
 -- "pt-ct is as in document 01, over all members": allowed powers from 1 up over all lists, and steps of kind 4
-unfoldable pub setPt : List Head → ℕ
-setPt heads = total (map (λ (head : Head). allowedIn head.parity (ownLengths head)) heads) + ofKind 4 (setSteps heads)
+unfoldable pub set_pt : List Head → ℕ
+set_pt heads = total (map (λ (head : Head). allowed_in head.parity (own_lengths head)) heads) + of_kind 4 (set_steps heads)
 
 -- ---- the record
 
 -- the most members
-abbrev pub memberLimit : ℕ
-memberLimit = 16
+abbrev pub member_limit : ℕ
+member_limit = 16
 
 -- "heads beyond the members are zero"
-abbrev pub withZeroHeads : List Head → List Head
-withZeroHeads heads = heads ++ replicate (memberLimit - length heads) noHead
+abbrev pub with_zero_heads : List Head → List Head
+with_zero_heads heads = heads ++ replicate (member_limit - length heads) no_head
 
 -- both counts, the number of power steps, and the heads
-unfoldable pub setOf : List Head → CurveSet
-setOf heads = record {
-  ct = setCt heads;
-  pt = setPt heads;
-  powers = length (setPowers heads);
-  heads = withZeroHeads heads;
+unfoldable pub set_of : List Head → CurveSet
+set_of heads = record {
+  ct = set_ct heads;
+  pt = set_pt heads;
+  powers = length (set_powers heads);
+  heads = with_zero_heads heads;
 }
 
 -- how many coefficients and lists members have, and how many loads and combines
-abbrev pub coefficientCount : List Head → ℕ
-coefficientCount heads = total (map (λ (head : Head). head.coefficients) heads)
+abbrev pub coefficient_count : List Head → ℕ
+coefficient_count heads = total (map (λ (head : Head). head.coefficients) heads)
 
-abbrev pub listCount : List Head → ℕ
-listCount heads = total (map (λ (head : Head). head.lists) heads)
+abbrev pub list_count : List Head → ℕ
+list_count heads = total (map (λ (head : Head). head.lists) heads)
 
-abbrev pub ownStepCount : List Head → ℕ
-ownStepCount heads = total (map (λ (head : Head). head.steps) heads)
+abbrev pub own_step_count : List Head → ℕ
+own_step_count heads = total (map (λ (head : Head). head.steps) heads)
 
 -- with the power steps
-abbrev pub setStepCount : List Head → ℕ
-setStepCount heads = length (setPowers heads) + ownStepCount heads
+abbrev pub set_step_count : List Head → ℕ
+set_step_count heads = length (set_powers heads) + own_step_count heads

@@ -1,12 +1,12 @@
 // The members' own tests, and their heads.
 ghost use Rattle.std.specs.Prelude.{◌≡◌, map};
-ghost use Rattle.number.specs.Refusal.{firstRefusal};
+ghost use Rattle.number.specs.Refusal.{first_refusal};
 ghost use Rattle.lists.specs.Lists.{joined};
-ghost use Rattle.plan.specs.PlanCall.{earlyTests};
-ghost use Rattle.sets.specs.Members.{membersIn};
-ghost use Rattle.sets.specs.Own.{headBy};
-ghost use Rattle.sets.specs.SetCall.{ownTests, curves};
-ghost use Rattle.sets.specs.inside.Planning.{Stand, SettingsPass, HandedPass, headsBy};
+ghost use Rattle.plan.specs.PlanCall.{early_tests};
+ghost use Rattle.sets.specs.Members.{members_in};
+ghost use Rattle.sets.specs.Own.{head_by};
+ghost use Rattle.sets.specs.SetCall.{own_tests, curves};
+ghost use Rattle.sets.specs.inside.Planning.{Stand, SettingsPass, HandedPass, heads_by};
 
 use super::member::{MEMBERS, Member, Members};
 use number::{change_of_basis, degree_of};
@@ -17,7 +17,7 @@ use walk::Head;
 
 // The number of the first of a member's own tests that holds, or 0.
 pub fn own_refusal(member: Member, c: &[i64]) -> u8
-    ensures { result ≡ firstRefusal (earlyTests member.fold member.parity c.now member.a member.b) }
+    ensures { result ≡ first_refusal (early_tests member.fold member.parity c.now member.a member.b) }
 {
     let parity = member.parity;
     let wrong = input_refusal(member.fold, parity, c);
@@ -30,7 +30,7 @@ pub fn own_refusal(member: Member, c: &[i64]) -> u8
 // The number of the first of all members' own tests that holds, in member order, or 0. The slice has so many places.
 pub fn own_refusals(handed: Members, slice: usize, c: &[i64]) -> u8
     requires { Stand handed slice c.now }
-    ensures { result ≡ firstRefusal (joined (map ownTests (curves handed c.now))) }
+    ensures { result ≡ first_refusal (joined (map own_tests (curves handed c.now))) }
 {
     let mut at = 0;
     let mut i = 0;
@@ -50,7 +50,7 @@ pub fn own_refusals(handed: Members, slice: usize, c: &[i64]) -> u8
 // A member's head, its steps counted without power steps.
 pub fn member_head(member: Member) -> Head
     requires { SettingsPass member }
-    ensures { result ≡ headBy member }
+    ensures { result ≡ head_by member }
 {
     let strategy = member.strategy;
     let parity = member.parity;
@@ -81,7 +81,7 @@ pub fn member_head(member: Member) -> Head
 // The heads of all members, and zero heads behind them.
 pub fn set_heads(handed: Members) -> [Head; MEMBERS]
     requires { HandedPass handed }
-    ensures { result ≡ headsBy (membersIn handed) }
+    ensures { result ≡ heads_by (members_in handed) }
 {
     let none = no_head();
     let mut heads = [none; MEMBERS];

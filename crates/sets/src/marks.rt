@@ -1,7 +1,7 @@
 // The powers that members need, as marks: place n is true where one of them needs power n.
 ghost use Rattle.std.specs.Prelude.{◌≡◌, ◌≤◌, length, take};
-ghost use Rattle.number.specs.Limits.{planLimit, countLimit};
-ghost use Rattle.sets.specs.Own.{ownSplit};
+ghost use Rattle.number.specs.Limits.{plan_limit, count_limit};
+ghost use Rattle.sets.specs.Own.{own_split};
 ghost use Rattle.sets.specs.inside.Heads.{HeadFits, HeadsFit, SameBasis, PowersTo};
 ghost use Rattle.sets.specs.inside.Marking.{PlacesAdded, TargetsAdded, TargetsUpto, Common, PowersCounted};
 
@@ -14,14 +14,14 @@ use walk::Head;
 // The split of a member, which its base tells.
 pub fn own_split(head: Head) -> usize
     requires { HeadFits head }
-    ensures { result ≡ ownSplit head }
+    ensures { result ≡ own_split head }
 {
     bit_len(head.base) - 1
 }
 
 // Adds marks at the powers below the limit that are needed at once.
 fn add_places(parity: Parity, top: usize, limit: usize, marks: &mut [bool; MARKS])
-    requires { (limit ≤ countLimit) × (length marks.old ≡ countLimit) }
+    requires { (limit ≤ count_limit) × (length marks.old ≡ count_limit) }
     ensures { PlacesAdded parity top limit limit marks.old marks.new }
 {
     let mut n = 0;
@@ -35,7 +35,7 @@ fn add_places(parity: Parity, top: usize, limit: usize, marks: &mut [bool; MARKS
 
 // Adds marks at the powers that a member needs at once: those below the limit, and the top power.
 fn add_targets(head: Head, marks: &mut [bool; MARKS])
-    requires { HeadFits head × (length marks.old ≡ countLimit) }
+    requires { HeadFits head × (length marks.old ≡ count_limit) }
     ensures { TargetsAdded head marks.old marks.new }
 {
     let parity = head.parity;
@@ -65,7 +65,7 @@ fn common_targets(heads: [Head; MEMBERS], count: usize) -> [bool; MARKS]
 // The greatest power that one of the first `count` members may need, or 0 if there is no member.
 fn greatest_power(heads: [Head; MEMBERS], count: usize) -> usize
     requires { HeadsFit heads count }
-    ensures { PowersTo result (take count heads) × (result ≤ planLimit) }
+    ensures { PowersTo result (take count heads) × (result ≤ plan_limit) }
 {
     let mut greatest = 0;
     let mut i = 0;

@@ -1,6 +1,6 @@
 // The members of a set as they are handed in.
 ghost use Rattle.std.specs.Prelude.{◌≡◌, not, ◌≤◌, ltb};
-ghost use Rattle.sets.specs.Members.{alike, allAlike, membersIn, handedCount};
+ghost use Rattle.sets.specs.Members.{alike, all_alike, members_in, handed_count};
 ghost use Rattle.sets.specs.inside.Planning.{Few};
 
 use counts::SplitStrategy;
@@ -51,7 +51,7 @@ pub fn member_alike(one: Member, other: Member) -> bool
 // Whether all members have them in common with the first.
 pub fn members_alike(handed: Members) -> bool
     requires { Few handed × (1 ≤ handed.count) }
-    ensures { result ≡ allAlike (membersIn handed) }
+    ensures { result ≡ all_alike (members_in handed) }
 {
     let first = handed.members[0];
     let mut i = 1;
@@ -68,7 +68,7 @@ pub fn members_alike(handed: Members) -> bool
 // Whether the members' coefficients are within a slice of so many places.
 pub fn lengths_fit(handed: Members, slice: usize) -> bool
     requires { Few handed }
-    ensures { result ≡ not (ltb slice (handedCount (membersIn handed))) }
+    ensures { result ≡ not (ltb slice (handed_count (members_in handed))) }
 {
     let mut left = slice;
     let mut i = 0;

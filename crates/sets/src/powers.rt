@@ -1,10 +1,10 @@
 // All steps of a set: the common power steps, and then those of each member.
 ghost use Rattle.std.specs.Prelude.{◌≡◌, map, take};
 ghost use Rattle.std.proofs.lemmas.List.Edits.{sets};
-ghost use Rattle.needed.specs.inside.Marks.{markedFrom};
+ghost use Rattle.needed.specs.inside.Marks.{marked_from};
 ghost use Rattle.walk.specs.WalksHeld.{flat};
-ghost use Rattle.plan.specs.PlanSteps.{makeStep};
-ghost use Rattle.sets.specs.SetPlan.{setSteps};
+ghost use Rattle.plan.specs.PlanSteps.{make_step};
+ghost use Rattle.sets.specs.SetPlan.{set_steps};
 ghost use Rattle.sets.specs.inside.Writing.{CommonFits, SetStepsFit};
 
 use super::member::MEMBERS;
@@ -16,7 +16,7 @@ use walk::Head;
 // The power steps of the marked powers, rising, of which there are so many.
 fn write_common(marks: [bool; MARKS], powers: usize, steps: &mut [u16])
     requires { CommonFits marks powers steps.old }
-    ensures { steps.new ≡ sets steps.old 0 (flat (map makeStep (markedFrom 0 marks))) }
+    ensures { steps.new ≡ sets steps.old 0 (flat (map make_step (marked_from 0 marks))) }
 {
     let mut step = 0;
     let mut n = 0;
@@ -36,7 +36,7 @@ pub fn write_set(
     steps: &mut [u16],
 )
     requires { SetStepsFit heads count marks powers steps.old }
-    ensures { steps.new ≡ sets steps.old 0 (flat (setSteps (take count heads))) }
+    ensures { steps.new ≡ sets steps.old 0 (flat (set_steps (take count heads))) }
 {
     write_common(marks, powers, steps);
     write_members(heads, count, powers, steps);

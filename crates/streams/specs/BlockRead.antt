@@ -6,14 +6,14 @@ use Rattle.streams.specs.declared.input.BlockRead.{BlockRead}
 use Rattle.streams.specs.declared.input.BlockRead.TheVariants.{Bytes, Ended, Failed}
 
 -- none is the end of the input
-abbrev pub broughtBy : (count : ℕ) → BlockRead
-broughtBy zero = Ended
-broughtBy (suc n) = Bytes (suc n)
+abbrev pub brought_by : (count : ℕ) → BlockRead
+brought_by zero = Ended
+brought_by (suc n) = Bytes (suc n)
 
 -- a read into a block of so many places: it failed if it answers a number below 0, and else brought so many bytes
-unfoldable pub readOutcome : (answer : ℤ) (places : ℕ) → BlockRead
-readOutcome (pos n) places = broughtBy (min n places)
-readOutcome (negsuc n) places = Failed
+unfoldable pub read_outcome : (answer : ℤ) (places : ℕ) → BlockRead
+read_outcome (pos n) places = brought_by (min n places)
+read_outcome (negsuc n) places = Failed
 
 -- the bytes that a read brought are at least one, and stand at the start of the block
 abbrev pub ReadInto : BlockRead → (block : List ℕ) → Type 0

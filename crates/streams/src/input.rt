@@ -1,6 +1,6 @@
 // Standard input, block by block.
 ghost use Rattle.std.specs.Prelude.{◌≡◌, length};
-ghost use Rattle.streams.specs.BlockRead.{readOutcome, ReadInto};
+ghost use Rattle.streams.specs.BlockRead.{read_outcome, ReadInto};
 
 use crate::passing::is_passing;
 use libc::STDIN_FILENO;
@@ -15,7 +15,7 @@ pub enum BlockRead {
 
 // What a read into the block brought that answered `got`.
 fn outcome_of(got: isize, block: &[u8]) -> BlockRead
-    ensures { result ≡ readOutcome got (length block.now) }
+    ensures { result ≡ read_outcome got (length block.now) }
 {
     if got < 0 {
         return BlockRead::Failed;

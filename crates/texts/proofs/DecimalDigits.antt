@@ -9,60 +9,60 @@ use borrow.Author.Tests.{le-leb}
 use lib.Dec.{lit<}
 use lib.ListN.{length, get_or, length-append, get_or-append}
 use Rattle.lines.specs.Bytes.{digit0, digit9}
-use Rattle.lines.specs.Whole.{isDigit, areDigits, numberFrom, number_of}
-use Rattle.texts.specs.Decimal.{digitsWithin, decimal}
+use Rattle.lines.specs.Whole.{is_digit, are_digits, number_from, number_of}
+use Rattle.texts.specs.Decimal.{digits_within, decimal}
 use Rattle.texts.specs.DecimalDigits.{DecimalDigits}
 
 -- ---- the value
 
-value-append : (v : ℕ) (xs ys : List ℕ) → numberFrom v (xs ++ ys) ≡ numberFrom (numberFrom v xs) ys
-unfolding numberFrom
-value-append v [] ys = refl
-value-append v (x ∷ xs) ys = value-append (v * 10 + (x - digit0)) xs ys
+value_append : (v : ℕ) (xs ys : List ℕ) → number_from v (xs ++ ys) ≡ number_from (number_from v xs) ys
+unfolding number_from
+value_append v [] ys = refl
+value_append v (x ∷ xs) ys = value_append (v * 10 + (x - digit0)) xs ys
 
-value-within : (k n : ℕ) → n ≤ k → number_of (digitsWithin k n) ≡ n
-unfolding digitsWithin numberFrom
-value-within zero zero h = refl
-value-within zero (suc n) h = absurd (omega arith)
-value-within (suc k) zero h = refl
-value-within (suc k) (suc n) h =
+value_within : (k n : ℕ) → n ≤ k → number_of (digits_within k n) ≡ n
+unfolding digits_within number_from
+value_within zero zero h = refl
+value_within zero (suc n) h = absurd (omega arith)
+value_within (suc k) zero h = refl
+value_within (suc k) (suc n) h =
     let less : suc n / 10 < suc n = div-lt_self (omega arith) (lit< tt) in
-    let tenth = value-within k (suc n / 10) (omega arith) in
-    value-append 0 (digitsWithin k (suc n / 10)) ((digit0 + suc n % 10) ∷ []) ∙ omega (arith, tenth, div-add-mod' (suc n) 10)
+    let tenth = value_within k (suc n / 10) (omega arith) in
+    value_append 0 (digits_within k (suc n / 10)) ((digit0 + suc n % 10) ∷ []) ∙ omega (arith, tenth, div-add-mod' (suc n) 10)
 
-value-is : (n : ℕ) → number_of (decimal n) ≡ n
-unfolding decimal numberFrom
-value-is zero = refl
-value-is (suc n) = value-within (suc n) (suc n) (omega arith)
+value_is : (n : ℕ) → number_of (decimal n) ≡ n
+unfolding decimal number_from
+value_is zero = refl
+value_is (suc n) = value_within (suc n) (suc n) (omega arith)
 
 -- ---- bytes that are digits
 
-both : (xs ys : List ℕ) → areDigits xs ≡ true → areDigits ys ≡ true → areDigits (xs ++ ys) ≡ true
-unfolding areDigits
+both : (xs ys : List ℕ) → are_digits xs ≡ true → are_digits ys ≡ true → are_digits (xs ++ ys) ≡ true
+unfolding are_digits
 both [] ys p q = q
-both (x ∷ xs) ys p q = by_first (isDigit x) p (both xs ys)
+both (x ∷ xs) ys p q = by_first (is_digit x) p (both xs ys)
   where
-    by_first : (t : Bool) → (t && areDigits xs) ≡ true → (areDigits xs ≡ true → areDigits ys ≡ true → areDigits (xs ++ ys) ≡ true)
-        → (t && areDigits (xs ++ ys)) ≡ true
+    by_first : (t : Bool) → (t && are_digits xs) ≡ true → (are_digits xs ≡ true → are_digits ys ≡ true → are_digits (xs ++ ys) ≡ true)
+        → (t && are_digits (xs ++ ys)) ≡ true
     by_first true p rest = rest p q
     by_first false p rest = p
 
-digits-within : (k n : ℕ) → areDigits (digitsWithin k n) ≡ true
-unfolding digitsWithin areDigits
-digits-within zero n = refl
-digits-within (suc k) zero = refl
-digits-within (suc k) (suc n) =
+digits_within_lem : (k n : ℕ) → are_digits (digits_within k n) ≡ true
+unfolding digits_within are_digits
+digits_within_lem zero n = refl
+digits_within_lem (suc k) zero = refl
+digits_within_lem (suc k) (suc n) =
     let below = mod-lt (suc n) (lit< {m = 0} {n = 10} tt) in
     let least : digit0 ≤ digit0 + suc n % 10 = omega arith in
     let most : digit0 + suc n % 10 ≤ digit9 = omega (arith, below) in
-    let last : areDigits ((digit0 + suc n % 10) ∷ []) ≡ true =
+    let last : are_digits ((digit0 + suc n % 10) ∷ []) ≡ true =
     rw (le-leb digit0 (digit0 + suc n % 10) least, le-leb (digit0 + suc n % 10) digit9 most) in
-    both (digitsWithin k (suc n / 10)) ((digit0 + suc n % 10) ∷ []) (digits-within k (suc n / 10)) last
+    both (digits_within k (suc n / 10)) ((digit0 + suc n % 10) ∷ []) (digits_within_lem k (suc n / 10)) last
 
-digits_are : (n : ℕ) → areDigits (decimal n) ≡ true
-unfolding decimal areDigits
+digits_are : (n : ℕ) → are_digits (decimal n) ≡ true
+unfolding decimal are_digits
 digits_are zero = refl
-digits_are (suc n) = digits-within (suc n) (suc n)
+digits_are (suc n) = digits_within_lem (suc n) (suc n)
 
 -- ---- the first digit
 
@@ -70,34 +70,34 @@ record FirstNotZero (digits : List ℕ) : Type 0 where
   some : 0 < length digits
   differs : get_or digits 0 0 ≡ digit0 → ⊥
 
-no-digits : (k : ℕ) → digitsWithin k 0 ≡ []
-unfolding digitsWithin
-no-digits zero = refl
-no-digits (suc k) = refl
+no_digits : (k : ℕ) → digits_within k 0 ≡ []
+unfolding digits_within
+no_digits zero = refl
+no_digits (suc k) = refl
 
-first-within : (k n : ℕ) → n ≤ k → 0 < n → FirstNotZero (digitsWithin k n)
-unfolding digitsWithin
-first-within zero n h g = absurd (omega arith)
-first-within (suc k) zero h g = absurd (omega arith)
-first-within (suc k) (suc n) h g =
+first_within : (k n : ℕ) → n ≤ k → 0 < n → FirstNotZero (digits_within k n)
+unfolding digits_within
+first_within zero n h g = absurd (omega arith)
+first_within (suc k) zero h g = absurd (omega arith)
+first_within (suc k) (suc n) h g =
     let less : suc n / 10 < suc n = div-lt_self (omega arith) (lit< tt) in
-    by-tenth (suc n / 10) (suc n % 10) (div-add-mod' (suc n) 10) (first-within k (suc n / 10) (omega arith))
+    by_tenth (suc n / 10) (suc n % 10) (div-add-mod' (suc n) 10) (first_within k (suc n / 10) (omega arith))
   where
-    by-tenth : (q d : ℕ) → q * 10 + d ≡ suc n → (0 < q → FirstNotZero (digitsWithin k q)) → FirstNotZero (digitsWithin k q ++ ((digit0 + d) ∷ []))
-    by-tenth zero d e first = rw (no-digits k) (record { some = omega arith; differs = λ (z : digit0 + d ≡ digit0). omega arith })
-    by-tenth (suc q) d e first =
+    by_tenth : (q d : ℕ) → q * 10 + d ≡ suc n → (0 < q → FirstNotZero (digits_within k q)) → FirstNotZero (digits_within k q ++ ((digit0 + d) ∷ []))
+    by_tenth zero d e first = rw (no_digits k) (record { some = omega arith; differs = λ (z : digit0 + d ≡ digit0). omega arith })
+    by_tenth (suc q) d e first =
         let last = (digit0 + d) ∷ [] in
-        let f : FirstNotZero (digitsWithin k (suc q)) = first (omega arith) in
-        let same = get_or-append (digitsWithin k (suc q)) last 0 0 f.some in
+        let f : FirstNotZero (digits_within k (suc q)) = first (omega arith) in
+        let same = get_or-append (digits_within k (suc q)) last 0 0 f.some in
         record {
-          some = omega (arith, length-append (digitsWithin k (suc q)) last, f.some);
-          differs = λ (z : get_or (digitsWithin k (suc q) ++ last) 0 0 ≡ digit0). f.differs (omega (arith, same));
+          some = omega (arith, length-append (digits_within k (suc q)) last, f.some);
+          differs = λ (z : get_or (digits_within k (suc q) ++ last) 0 0 ≡ digit0). f.differs (omega (arith, same));
         }
 
-first-is : (n : ℕ) → get_or (decimal n) 0 0 ≡ digit0 → n ≡ 0
+first_is : (n : ℕ) → get_or (decimal n) 0 0 ≡ digit0 → n ≡ 0
 unfolding decimal
-first-is zero e = refl
-first-is (suc n) e = absurd ((first-within (suc n) (suc n) (omega arith) (omega arith)).differs e)
+first_is zero e = refl
+first_is (suc n) e = absurd ((first_within (suc n) (suc n) (omega arith) (omega arith)).differs e)
 
-pub decimal-digits : DecimalDigits
-decimal-digits = record { digits = digits_are; value = value-is; no-leading-zero = first-is }
+pub decimal_digits : DecimalDigits
+decimal_digits = record { digits = digits_are; value = value_is; no_leading_zero = first_is }

@@ -7,10 +7,10 @@ use native.Mathlib.Omega.{arith}
 use lib.IntN.{ℤ}
 use lib.ListN.{length, get_or, take, drop, length-append}
 use lib.Seq.{take_all, take_at, drop_at, drop-drop, get_or-drop}
-use Rattle.lists.specs.Lists.{joined, endsFrom}
+use Rattle.lists.specs.Lists.{joined, ends_from}
 use Rattle.walk.specs.Boundaries.{start_of, end_of}
-use Rattle.walk.proofs.WalksHeld.{ends-length, coefficients-held, bounds-held, steps-held, steps-fit}
-use Rattle.texts.specs.PlanText.{lines_of, partsFrom, listsIn}
+use Rattle.walk.proofs.WalksHeld.{ends_length, coefficients_held, bounds_held, steps_held, steps_fit}
+use Rattle.texts.specs.PlanText.{lines_of, parts_from, lists_in}
 use Rattle.texts.specs.HeldText.{HeldText}
 
 -- ---- the lists
@@ -24,8 +24,8 @@ between ahead list after s e starts ends =
 
 -- the lists from i on, behind those before them
 parts_held : (bounds : List ℕ) (ahead : List ℤ) (lists : List (List ℤ)) (i : ℕ) → start_of bounds i ≡ length ahead
-    → drop i bounds ≡ endsFrom (length ahead) lists → partsFrom (ahead ++ joined lists) bounds i (length lists) ≡ lists
-unfolding partsFrom joined endsFrom
+    → drop i bounds ≡ ends_from (length ahead) lists → parts_from (ahead ++ joined lists) bounds i (length lists) ≡ lists
+unfolding parts_from joined ends_from
 parts_held bounds ahead [] i starts ends = refl
 parts_held bounds ahead (list ∷ lists) i starts ends =
     let whole : length ahead + length list ≡ length (ahead ++ list) = sym (length-append ahead list) in
@@ -33,20 +33,20 @@ parts_held bounds ahead (list ∷ lists) i starts ends =
     let next : i + 1 ≡ suc i = omega arith in
     let end : end_of bounds i ≡ length ahead + length list =
     ap (λ (n : ℕ). get_or bounds n 0) (sym place) ∙ sym (get_or-drop i bounds 0 0) ∙ ap (λ (l : List ℕ). get_or l 0 0) ends in
-    let later : drop (suc i) bounds ≡ endsFrom (length (ahead ++ list)) lists =
-    ap (λ (n : ℕ). drop n bounds) (sym next) ∙ sym (drop-drop 1 i bounds) ∙ ap (drop 1) ends ∙ ap (λ (n : ℕ). endsFrom n lists) whole in
+    let later : drop (suc i) bounds ≡ ends_from (length (ahead ++ list)) lists =
+    ap (λ (n : ℕ). drop n bounds) (sym next) ∙ sym (drop-drop 1 i bounds) ∙ ap (drop 1) ends ∙ ap (λ (n : ℕ). ends_from n lists) whole in
     ap₂ ◌∷◌ (between ahead list (joined lists) (start_of bounds i) (end_of bounds i) starts end)
-    (ap (λ (c : List ℤ). partsFrom c bounds (suc i) (length lists)) (sym (append_assoc ahead list (joined lists)))
+    (ap (λ (c : List ℤ). parts_from c bounds (suc i) (length lists)) (sym (append_assoc ahead list (joined lists)))
     ∙ parts_held bounds (ahead ++ list) lists (suc i) (end ∙ whole) later)
 
-lists-held : (lists : List (List ℤ)) → listsIn (joined lists) (endsFrom 0 lists) ≡ lists
-lists-held lists =
-    ap (partsFrom (joined lists) (endsFrom 0 lists) 0) (ends-length 0 lists) ∙ parts_held (endsFrom 0 lists) [] lists 0 refl refl
+lists_held : (lists : List (List ℤ)) → lists_in (joined lists) (ends_from 0 lists) ≡ lists
+lists_held lists =
+    ap (parts_from (joined lists) (ends_from 0 lists) 0) (ends_length 0 lists) ∙ parts_held (ends_from 0 lists) [] lists 0 refl refl
 
 -- ---- the text
 
-pub held-text : HeldText
-held-text head coefficients bounds steps lists planned held =
-    let all : length planned ≤ length steps / 4 = omega (arith, held.step_count, steps-fit held) in
-    ap₂ (lines_of head) (ap₂ listsIn (coefficients-held held) (bounds-held held) ∙ lists-held lists)
-    (ap (take (length steps / 4)) (steps-held held) ∙ take_all (length steps / 4) planned all)
+pub held_text : HeldText
+held_text head coefficients bounds steps lists planned held =
+    let all : length planned ≤ length steps / 4 = omega (arith, held.step_count_lem, steps_fit held) in
+    ap₂ (lines_of head) (ap₂ lists_in (coefficients_held held) (bounds_held held) ∙ lists_held lists)
+    (ap (take (length steps / 4)) (steps_held held) ∙ take_all (length steps / 4) planned all)

@@ -4,16 +4,16 @@ use mathlib.Core.List.{List}
 use Prim.Native.Nat.{ℕ}
 use lib.IntN.{ℤ}
 use Rattle.number.specs.declared.interval.Interval.{Interval}
-use Rattle.walk.specs.IntervalUnread.{withInterval}
+use Rattle.walk.specs.IntervalUnread.{with_interval}
 use Rattle.walk.specs.declared.plan.Head.{Head}
-use Rattle.texts.specs.PlanText.{lines_of, planText}
+use Rattle.texts.specs.PlanText.{lines_of, plan_text}
 use Rattle.texts.specs.IntervalUnprinted.{IntervalUnprinted}
 
 unprinted : (interval : Interval) (head : Head) (coefficients : List ℤ) (bounds steps : List ℕ)
-    → planText head coefficients bounds steps ≡ planText (withInterval interval head) coefficients bounds steps
+    → plan_text head coefficients bounds steps ≡ plan_text (with_interval interval head) coefficients bounds steps
 unfolding lines_of
 unprinted interval head coefficients bounds steps = refl
 
-pub interval-unprinted : IntervalUnprinted
-interval-unprinted head other coefficients bounds steps same =
-    unprinted other.interval head coefficients bounds steps ∙ ap (λ (h : Head). planText h coefficients bounds steps) same
+pub interval_unprinted : IntervalUnprinted
+interval_unprinted head other coefficients bounds steps same =
+    unprinted other.interval head coefficients bounds steps ∙ ap (λ (h : Head). plan_text h coefficients bounds steps) same

@@ -9,39 +9,39 @@ use lib.ListN.{length, get_or, take, drop, length-append}
 use lib.Seq.{take_all}
 use Rattle.lists.specs.Lists.{joined}
 use Rattle.walk.specs.declared.plan.Head.{Head}
-use Rattle.texts.specs.PlanText.{lines_of, listsIn, shownSteps, planText}
+use Rattle.texts.specs.PlanText.{lines_of, lists_in, shown_steps, plan_text}
 use Rattle.texts.specs.Put.{Put}
-use Rattle.texts.proofs.PutLaws.{put-none, put_then, put_same}
+use Rattle.texts.proofs.PutLaws.{put_none, put_then, put_same}
 use Rattle.texts.proofs.PartLaws.{from_first}
 
 -- the lines before line n, and line n behind them
-joined-more : (n : ℕ) (ts : List (List ℕ)) → joined (take n ts) ++ get_or ts n [] ≡ joined (take (suc n) ts)
+joined_more : (n : ℕ) (ts : List (List ℕ)) → joined (take n ts) ++ get_or ts n [] ≡ joined (take (suc n) ts)
 unfolding joined
-joined-more zero [] = refl
-joined-more zero (t ∷ ts) = sym (append-nil t)
-joined-more (suc n) [] = refl
-joined-more (suc n) (t ∷ ts) = append_assoc t (joined (take n ts)) (get_or ts n []) ∙ ap (λ (l : List ℕ). t ++ l) (joined-more n ts)
+joined_more zero [] = refl
+joined_more zero (t ∷ ts) = sym (append-nil t)
+joined_more (suc n) [] = refl
+joined_more (suc n) (t ∷ ts) = append_assoc t (joined (take n ts)) (get_or ts n []) ∙ ap (λ (l : List ℕ). t ++ l) (joined_more n ts)
 
 -- they are no longer than all
-joined-most : (n : ℕ) (ts : List (List ℕ)) → length (joined (take n ts)) ≤ length (joined ts)
+joined_most : (n : ℕ) (ts : List (List ℕ)) → length (joined (take n ts)) ≤ length (joined ts)
 unfolding joined
-joined-most zero ts = omega arith
-joined-most (suc n) [] = omega arith
-joined-most (suc n) (t ∷ ts) = omega (arith, joined-most n ts, length-append t (joined (take n ts)), length-append t (joined ts))
+joined_most zero ts = omega arith
+joined_most (suc n) [] = omega arith
+joined_most (suc n) (t ∷ ts) = omega (arith, joined_most n ts, length-append t (joined (take n ts)), length-append t (joined ts))
 
 -- ---- the loop: the lines before line k are put from place `from` on
 
 pub lines_start : (from : ℕ) (out : List ℕ) → Put out from (joined []) out from
 unfolding joined
-lines_start from out = put-none out from
+lines_start from out = put_none out from
 
 module _ (lines : List (List ℕ)) (from k : ℕ) {first out : List ℕ} {at : ℕ} (put : Put first from (joined (take k lines)) out at) where
   -- where line k begins
-  pub line-begins : from + length (joined lines) < 2 ^ 63 → at < 2 ^ 63
-  line-begins ends = omega (arith, put.next, joined-most k lines)
+  pub line_begins : from + length (joined lines) < 2 ^ 63 → at < 2 ^ 63
+  line_begins ends = omega (arith, put.next, joined_most k lines)
 
   pub lines_more : {left : List ℕ} {r : ℕ} → Put out at (get_or lines k []) left r → Put first from (joined (take (k + 1) lines)) left r
-  lines_more line = rw add-one (put_same (put_then put line) (joined-more k lines))
+  lines_more line = rw add-one (put_same (put_then put line) (joined_more k lines))
 
   pub lines_end : length lines ≤ k → Put first from (joined lines) out at
   lines_end past = put_same put (ap joined (take_all k lines past))
@@ -50,13 +50,13 @@ module _ (lines : List (List ℕ)) (from k : ℕ) {first out : List ℕ} {at : �
 
 module _ (head : Head) (coefficients c : List ℤ) (bounds listed steps : List ℕ)
     (e : c ≡ take (head.coefficients - 0) (drop 0 coefficients)) (f : listed ≡ take head.lists bounds) where
-  same_text : joined (lines_of head (listsIn c listed) (shownSteps head steps)) ≡ planText head coefficients bounds steps
+  same_text : joined (lines_of head (lists_in c listed) (shown_steps head steps)) ≡ plan_text head coefficients bounds steps
   same_text = rw (e ∙ from_first coefficients head.coefficients, f)
 
-  pub plan-ends : (at : ℕ) → at + length (planText head coefficients bounds steps) < 2 ^ 63
-      → at + length (joined (lines_of head (listsIn c listed) (shownSteps head steps))) < 2 ^ 63
-  plan-ends at h = omega (arith, ap (λ (t : List ℕ). length t) same_text)
+  pub plan_ends : (at : ℕ) → at + length (plan_text head coefficients bounds steps) < 2 ^ 63
+      → at + length (joined (lines_of head (lists_in c listed) (shown_steps head steps))) < 2 ^ 63
+  plan_ends at h = omega (arith, ap (λ (t : List ℕ). length t) same_text)
 
-  pub plan-put : {out left : List ℕ} {at r : ℕ} → Put out at (joined (lines_of head (listsIn c listed) (shownSteps head steps))) left r
-      → Put out at (planText head coefficients bounds steps) left r
-  plan-put put = put_same put same_text
+  pub plan_put : {out left : List ℕ} {at r : ℕ} → Put out at (joined (lines_of head (lists_in c listed) (shown_steps head steps))) left r
+      → Put out at (plan_text head coefficients bounds steps) left r
+  plan_put put = put_same put same_text

@@ -31,27 +31,27 @@ module _ {A : Type 0} where
         let long = length-drop from cs in
         take_all (e - from) (drop from cs) (omega (arith, long)) ∙ sym (take_all (to - from) (drop from cs) (omega (arith, long)))
 
-    by-start : (t : Bool) → leb from e ≡ t → take (e - s) (drop s cs) ≡ take (to - from) (drop from cs)
-    by-start true h =
+    by_start : (t : Bool) → leb from e ≡ t → take (e - s) (drop s cs) ≡ take (to - from) (drop from cs)
+    by_start true h =
         let within : from ≤ e = leb-true from e h in
         let same : s ≡ from = omega arith in
         ap (λ (k : ℕ). take (e - k) (drop k cs)) same ∙ by_end (leb to (length cs)) refl
-    by-start false h =
+    by_start false h =
         let past : e < from = leb-false from e h in
         take_same (e - s) 0 (drop s cs) (omega arith) ∙ take_same 0 (to - from) (drop from cs) (omega (arith, length-drop from cs))
 
-    pub part-is : take (e - s) (drop s cs) ≡ take (to - from) (drop from cs)
-    part-is = by-start (leb from e) refl
+    pub part_is : take (e - s) (drop s cs) ≡ take (to - from) (drop from cs)
+    part_is = by_start (leb from e) refl
 
-  pub part-short : (cs : List A) (from to : ℕ) → length (take (to - from) (drop from cs)) ≤ to
-  part-short cs from to = omega (arith, length-take (to - from) (drop from cs))
+  pub part_short : (cs : List A) (from to : ℕ) → length (take (to - from) (drop from cs)) ≤ to
+  part_short cs from to = omega (arith, length-take (to - from) (drop from cs))
 
   -- the first n places, or all
-  pub first-is : (xs : List A) (n e : ℕ) → e ≡ min n (length xs) → take e xs ≡ take n xs
-  first-is xs n e ends = take_same e n xs (omega arith)
+  pub first_is : (xs : List A) (n e : ℕ) → e ≡ min n (length xs) → take e xs ≡ take n xs
+  first_is xs n e ends = take_same e n xs (omega arith)
 
   pub from_first : (xs : List A) (n : ℕ) → take (n - 0) (drop 0 xs) ≡ take n xs
   from_first xs n = let same : n - 0 ≡ n = omega arith in ap (λ (k : ℕ). take k xs) same
 
-  pub first-within : (xs : List A) (n e : ℕ) → e ≡ min n (length xs) → length (take e xs) ≡ e
-  first-within xs n e ends = length-take-le e xs (omega arith)
+  pub first_within : (xs : List A) (n e : ℕ) → e ≡ min n (length xs) → length (take e xs) ≡ e
+  first_within xs n e ends = length-take-le e xs (omega arith)

@@ -5,24 +5,24 @@ use Prim.Native.Nat.{ℕ, ◌+◌}
 use native.Mathlib.Omega.{arith}
 use lib.ListN.{length, length-append}
 use lib.Seq.{sets, length-sets}
-use Rattle.lists.proofs.Arranging.{sets-append}
+use Rattle.lists.proofs.Arranging.{sets_append}
 use Rattle.texts.specs.Put.{Put}
 use Rattle.texts.specs.inside.EndsIn64Bits.{EndsIn64Bits}
 
 -- no text, and one text behind another
-pub put-none : (out : List ℕ) (at : ℕ) → Put out at [] out at
-put-none out at = record { buffer = refl; next = omega arith }
+pub put_none : (out : List ℕ) (at : ℕ) → Put out at [] out at
+put_none out at = record { buffer = refl; next = omega arith }
 
 pub put_then : {out out' out'' xs ys : List ℕ} {at r s : ℕ} → Put out at xs out' r → Put out' r ys out'' s → Put out at (xs ++ ys) out'' s
 put_then {out} {out'} {out''} {xs} {ys} {at} {r} {s} p q =
     record {
-      buffer = q.buffer ∙ (λ j. sets (p.buffer j) (p.next j) ys) ∙ sets-append out xs ys at (at + length xs) refl;
+      buffer = q.buffer ∙ (λ j. sets (p.buffer j) (p.next j) ys) ∙ sets_append out xs ys at (at + length xs) refl;
       next = omega (arith, p.next, q.next, length-append xs ys);
     }
 
 -- the buffer keeps its length
-pub put-length : {out out' text : List ℕ} {at r : ℕ} → Put out at text out' r → length out' ≡ length out
-put-length {out} {out'} {text} {at} p = ap (λ (l : List ℕ). length l) p.buffer ∙ length-sets out at text
+pub put_length : {out out' text : List ℕ} {at r : ℕ} → Put out at text out' r → length out' ≡ length out
+put_length {out} {out'} {text} {at} p = ap (λ (l : List ℕ). length l) p.buffer ∙ length-sets out at text
 
 -- the same text, said otherwise
 pub put_same : {out out' xs ys : List ℕ} {at r : ℕ} → Put out at xs out' r → xs ≡ ys → Put out at ys out' r
@@ -33,8 +33,8 @@ put_same {out} {out'} {xs} {ys} {at} {r} p e =
 pub ends_same : (at : ℕ) {xs ys : List ℕ} → xs ≡ ys → EndsIn64Bits at xs → EndsIn64Bits at ys
 ends_same at e h = rw e at h
 
-pub ends-first : (at : ℕ) (xs ys : List ℕ) → EndsIn64Bits at (xs ++ ys) → EndsIn64Bits at xs
-ends-first at xs ys h = omega (arith, length-append xs ys)
+pub ends_first : (at : ℕ) (xs ys : List ℕ) → EndsIn64Bits at (xs ++ ys) → EndsIn64Bits at xs
+ends_first at xs ys h = omega (arith, length-append xs ys)
 
-pub ends-second : {out out' : List ℕ} (at : ℕ) (xs ys : List ℕ) {r : ℕ} → EndsIn64Bits at (xs ++ ys) → Put out at xs out' r → EndsIn64Bits r ys
-ends-second at xs ys h p = omega (arith, length-append xs ys, p.next)
+pub ends_second : {out out' : List ℕ} (at : ℕ) (xs ys : List ℕ) {r : ℕ} → EndsIn64Bits at (xs ++ ys) → Put out at xs out' r → EndsIn64Bits r ys
+ends_second at xs ys h p = omega (arith, length-append xs ys, p.next)

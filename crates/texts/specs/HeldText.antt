@@ -3,8 +3,8 @@ use Rattle.std.specs.Prelude.{◌≡◌, List, ℕ, ℤ}
 use Rattle.walk.specs.WalksHeld.{Holds}
 use Rattle.walk.specs.declared.plan.Head.{Head}
 use Rattle.walk.specs.declared.plan.Step.{Step}
-use Rattle.texts.specs.PlanText.{lines_of, planLines}
+use Rattle.texts.specs.PlanText.{lines_of, plan_lines}
 
 abbrev pub HeldText : Type 0
 HeldText = (head : Head) (coefficients : List ℤ) (bounds steps : List ℕ) (lists : List (List ℤ)) (planned : List Step)
-    → Holds head coefficients bounds steps lists planned → planLines head coefficients bounds steps ≡ lines_of head lists planned
+    → Holds head coefficients bounds steps lists planned → plan_lines head coefficients bounds steps ≡ lines_of head lists planned

@@ -2,8 +2,8 @@
 use Rattle.std.specs.Prelude.{◌≡◌, List, ℕ, ℤ}
 use Rattle.walk.specs.IntervalUnread.{SameButInterval}
 use Rattle.walk.specs.declared.plan.Head.{Head}
-use Rattle.texts.specs.PlanText.{planText}
+use Rattle.texts.specs.PlanText.{plan_text}
 
 abbrev pub IntervalUnprinted : Type 0
 IntervalUnprinted = (head other : Head) (coefficients : List ℤ) (bounds steps : List ℕ) → SameButInterval head other
-    → planText head coefficients bounds steps ≡ planText other coefficients bounds steps
+    → plan_text head coefficients bounds steps ≡ plan_text other coefficients bounds steps

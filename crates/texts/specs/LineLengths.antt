@@ -3,8 +3,8 @@ use Rattle.std.specs.Prelude.{List, ℕ, ◌+◌, ◌*◌, ◌<◌, ◌≤◌, �
 use Rattle.number.specs.Exact.{Within}
 use Rattle.walk.specs.declared.plan.Head.{Head}
 use Rattle.walk.specs.declared.plan.Step.{Step}
-use Rattle.texts.specs.Text.{listLine, refusalLine}
-use Rattle.texts.specs.PlanText.{headLine, stepLine}
+use Rattle.texts.specs.Text.{list_line, refusal_line}
+use Rattle.texts.specs.PlanText.{head_line, step_line}
 
 -- the numbers of a head or step, each of 64 bits
 pub record HeadFits (head : Head) : Type 0 where
@@ -22,9 +22,9 @@ pub record StepFits (step : Step) : Type 0 where
 -- a list of i64 takes at most 22 bytes a coefficient and 2 more, so one of at most 64 takes at most 1,410; any other line at most 128, and a step
 -- whose numbers are at most 4,096, as every plan's are, at most 17
 pub record LineLengths : Type 0 where
-  pub lists : (c : List ℤ) → Within (2 ^ 63) c → length (listLine c) ≤ length c * 22 + 2
-  pub short-lists : (c : List ℤ) → Within (2 ^ 63) c → length c ≤ 64 → length (listLine c) ≤ 1410
-  pub heads : (head : Head) → HeadFits head → length (headLine head) ≤ 128
-  pub steps : (step : Step) → StepFits step → length (stepLine step) ≤ 128
-  pub small-steps : (step : Step) → step.x ≤ 4096 → step.y ≤ 4096 → step.z ≤ 4096 → length (stepLine step) ≤ 17
-  pub refusals : (refusal : ℕ) → refusal < 2 ^ 64 → length (refusalLine refusal) ≤ 128
+  pub lists : (c : List ℤ) → Within (2 ^ 63) c → length (list_line c) ≤ length c * 22 + 2
+  pub short_lists : (c : List ℤ) → Within (2 ^ 63) c → length c ≤ 64 → length (list_line c) ≤ 1410
+  pub heads : (head : Head) → HeadFits head → length (head_line head) ≤ 128
+  pub steps : (step : Step) → StepFits step → length (step_line step) ≤ 128
+  pub small_steps : (step : Step) → step.x ≤ 4096 → step.y ≤ 4096 → step.z ≤ 4096 → length (step_line step) ≤ 17
+  pub refusals : (refusal : ℕ) → refusal < 2 ^ 64 → length (refusal_line refusal) ≤ 128

@@ -1,7 +1,7 @@
 // Bytes and numbers as text, from a place of a buffer on. A place behind the buffer takes nothing.
 ghost use Rattle.std.specs.Prelude.{◌≡◌, [], ◌∷◌, ◌+◌, ◌<◌, set};
 ghost use Rattle.lines.specs.Bytes.{digit0};
-ghost use Rattle.texts.specs.Decimal.{digitsOf, decimal, signedDecimal};
+ghost use Rattle.texts.specs.Decimal.{digits_of, decimal, signed_decimal};
 ghost use Rattle.texts.specs.Put.{Put};
 ghost use Rattle.texts.specs.inside.EndsIn64Bits.{EndsIn64Bits};
 
@@ -35,8 +35,8 @@ fn digit(d: u64) -> u8
 
 // The digits of a number; none for 0.
 fn put_digits(out: &mut [u8], at: usize, n: u64) -> usize
-    requires { EndsIn64Bits at (digitsOf n) }
-    ensures { Put out.old at (digitsOf n) out.new result }
+    requires { EndsIn64Bits at (digits_of n) }
+    ensures { Put out.old at (digits_of n) out.new result }
 {
     if n == 0 {
         return at;
@@ -58,8 +58,8 @@ pub fn put_number(out: &mut [u8], at: usize, n: u64) -> usize
 
 // A whole number.
 pub fn put_signed(out: &mut [u8], at: usize, z: i64) -> usize
-    requires { EndsIn64Bits at (signedDecimal z) }
-    ensures { Put out.old at (signedDecimal z) out.new result }
+    requires { EndsIn64Bits at (signed_decimal z) }
+    ensures { Put out.old at (signed_decimal z) out.new result }
 {
     if z < 0 {
         let next = put(out, at, b'-');

@@ -1,8 +1,8 @@
 // Fields, and lines of them.
 ghost use Rattle.std.specs.Prelude.{◌∷◌, map, ◌+◌, ◌*◌, ◌≤◌, ◌<◌, ◌^◌, length};
 ghost use Rattle.lines.specs.Bytes.{tab};
-ghost use Rattle.texts.specs.Decimal.{decimal, signedDecimal};
-ghost use Rattle.texts.specs.Text.{fieldsText, numbersLine, listLine};
+ghost use Rattle.texts.specs.Decimal.{decimal, signed_decimal};
+ghost use Rattle.texts.specs.Text.{fields_text, numbers_line, list_line};
 ghost use Rattle.texts.specs.Put.{Put};
 ghost use Rattle.texts.specs.inside.EndsIn64Bits.{EndsIn64Bits};
 
@@ -19,8 +19,8 @@ pub fn put_number_field(out: &mut [u8], at: usize, n: u64) -> usize
 
 // A tab and a whole number.
 fn put_signed_field(out: &mut [u8], at: usize, z: i64) -> usize
-    requires { EndsIn64Bits at (tab ∷ signedDecimal z) }
-    ensures { Put out.old at (tab ∷ signedDecimal z) out.new result }
+    requires { EndsIn64Bits at (tab ∷ signed_decimal z) }
+    ensures { Put out.old at (tab ∷ signed_decimal z) out.new result }
 {
     let next = put(out, at, b'\t');
     put_signed(out, next, z)
@@ -28,8 +28,8 @@ fn put_signed_field(out: &mut [u8], at: usize, z: i64) -> usize
 
 // Numbers, with a tab in front of each.
 pub fn put_number_fields(out: &mut [u8], from: usize, ns: &[u64]) -> usize
-    requires { EndsIn64Bits from (fieldsText (map decimal ns.now)) }
-    ensures { Put out.old from (fieldsText (map decimal ns.now)) out.new result }
+    requires { EndsIn64Bits from (fields_text (map decimal ns.now)) }
+    ensures { Put out.old from (fields_text (map decimal ns.now)) out.new result }
 {
     let mut at = from;
     let mut i = 0;
@@ -43,7 +43,7 @@ pub fn put_number_fields(out: &mut [u8], from: usize, ns: &[u64]) -> usize
 // Whole numbers, with a tab in front of each: at most 22 bytes a number.
 fn put_signed_fields(out: &mut [u8], from: usize, c: &[i64]) -> usize
     requires { from + length c.now * 22 < 2 ^ 64 }
-    ensures { Put out.old from (fieldsText (map signedDecimal c.now)) out.new result
+    ensures { Put out.old from (fields_text (map signed_decimal c.now)) out.new result
         × (result ≤ from + length c.now * 22) }
 {
     let mut at = from;
@@ -58,7 +58,7 @@ fn put_signed_fields(out: &mut [u8], from: usize, c: &[i64]) -> usize
 // A line of at most 65,535 numbers.
 pub fn put_numbers_line(out: &mut [u8], at: usize, letter: u8, ns: &[u64]) -> usize
     requires { (at < 2 ^ 63) × (length ns.now ≤ 65535) }
-    ensures { Put out.old at (numbersLine letter ns.now) out.new result }
+    ensures { Put out.old at (numbers_line letter ns.now) out.new result }
 {
     let start = put(out, at, letter);
     let end = put_number_fields(out, start, ns);
@@ -68,7 +68,7 @@ pub fn put_numbers_line(out: &mut [u8], at: usize, letter: u8, ns: &[u64]) -> us
 // The line of a list of at most 65,535 coefficients.
 pub fn put_list_line(out: &mut [u8], at: usize, c: &[i64]) -> usize
     requires { (at < 2 ^ 63) × (length c.now ≤ 65535) }
-    ensures { Put out.old at (listLine c.now) out.new result }
+    ensures { Put out.old at (list_line c.now) out.new result }
 {
     let start = put(out, at, b'L');
     let behind = put_signed_fields(out, start, c);

@@ -1,9 +1,9 @@
 // The lines of a plan one by one, and the line of a refusal.
 ghost use Rattle.std.specs.Prelude.{◌≡◌, [], ◌-◌, ◌/◌, ◌<◌, ◌^◌, min, length, get_or, take, drop};
 ghost use Rattle.walk.specs.Boundaries.{start_of, part_of};
-ghost use Rattle.walk.specs.Lent.{stepAt};
-ghost use Rattle.texts.specs.Text.{listLine, refusalLine};
-ghost use Rattle.texts.specs.PlanText.{headLine, stepLine, lines_of, listsIn, shownSteps};
+ghost use Rattle.walk.specs.Lent.{step_at};
+ghost use Rattle.texts.specs.Text.{list_line, refusal_line};
+ghost use Rattle.texts.specs.PlanText.{head_line, step_line, lines_of, lists_in, shown_steps};
 ghost use Rattle.texts.specs.Put.{Put};
 
 use crate::fields::{put_list_line, put_numbers_line};
@@ -13,7 +13,7 @@ use walk::Head;
 // The line of the head.
 fn put_head(out: &mut [u8], at: usize, head: Head) -> usize
     requires { at < 2 ^ 63 }
-    ensures { Put out.old at (headLine head) out.new result }
+    ensures { Put out.old at (head_line head) out.new result }
 {
     let transform = head.transform;
     let number = transform_number(transform);
@@ -31,7 +31,7 @@ fn put_head(out: &mut [u8], at: usize, head: Head) -> usize
 // The line of a refusal from a place of the buffer on, and the place behind it.
 pub fn put_refusal(refusal: u8, at: usize, out: &mut [u8]) -> usize
     requires { at < 2 ^ 63 }
-    ensures { Put out.old at (refusalLine refusal) out.new result }
+    ensures { Put out.old at (refusal_line refusal) out.new result }
 {
     let ns: [u64; 1] = [refusal as u64];
     put_numbers_line(out, at, b'R', &ns)
@@ -40,7 +40,7 @@ pub fn put_refusal(refusal: u8, at: usize, out: &mut [u8]) -> usize
 // The line of a step.
 fn put_step(out: &mut [u8], at: usize, kind: u16, x: u16, y: u16, z: u16) -> usize
     requires { at < 2 ^ 63 }
-    ensures { Put out.old at (stepLine (record { kind = kind; x = x; y = y; z = z })) out.new result }
+    ensures { Put out.old at (step_line (record { kind = kind; x = x; y = y; z = z })) out.new result }
 {
     if kind == 1 {
         let three: [u64; 3] = [x as u64, y as u64, z as u64];
@@ -59,7 +59,7 @@ fn put_step(out: &mut [u8], at: usize, kind: u16, x: u16, y: u16, z: u16) -> usi
 // The line of step j of a buffer.
 fn put_step_at(out: &mut [u8], at: usize, steps: &[u16], j: usize) -> usize
     requires { (at < 2 ^ 63) × (j < length steps.now / 4) }
-    ensures { Put out.old at (stepLine (stepAt steps.now j)) out.new result }
+    ensures { Put out.old at (step_line (step_at steps.now j)) out.new result }
 {
     let s = 4 * j;
     put_step(out, at, steps[s], steps[s + 1], steps[s + 2], steps[s + 3])
@@ -95,7 +95,7 @@ fn list_start(bounds: &[u16], i: usize) -> usize
 // The line of list i.
 fn put_list(out: &mut [u8], at: usize, c: &[i64], bounds: &[u16], i: usize) -> usize
     requires { (at < 2 ^ 63) × (i < length bounds.now) }
-    ensures { Put out.old at (listLine (part_of c.now bounds.now i)) out.new result }
+    ensures { Put out.old at (list_line (part_of c.now bounds.now i)) out.new result }
 {
     let start = list_start(bounds, i);
     let end = bounds[i] as usize;
@@ -114,7 +114,7 @@ pub fn put_line(
 ) -> usize
     requires { at < 2 ^ 63 }
     ensures { Put out.old at
-        (get_or (lines_of head (listsIn c.now bounds.now) (shownSteps head steps.now)) k []) out.new result }
+        (get_or (lines_of head (lists_in c.now bounds.now) (shown_steps head steps.now)) k []) out.new result }
 {
     if k == 0 {
         return put_head(out, at, head);

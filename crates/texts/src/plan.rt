@@ -1,7 +1,7 @@
 // The text of a plan.
 ghost use Rattle.std.specs.Prelude.{◌≡◌, ◌+◌, ◌/◌, ◌<◌, ◌^◌, min, length, take};
 ghost use Rattle.lists.specs.Lists.{joined};
-ghost use Rattle.texts.specs.PlanText.{lines_of, listsIn, shownSteps, planText};
+ghost use Rattle.texts.specs.PlanText.{lines_of, lists_in, shown_steps, plan_text};
 ghost use Rattle.texts.specs.Put.{Put};
 
 use crate::line::{least, part_between, put_line};
@@ -31,9 +31,9 @@ fn put_lines(
     bounds: &[u16],
     steps: &[u16],
 ) -> usize
-    requires { from + length (joined (lines_of head (listsIn c.now bounds.now) (shownSteps head steps.now))) < 2 ^ 63 }
+    requires { from + length (joined (lines_of head (lists_in c.now bounds.now) (shown_steps head steps.now))) < 2 ^ 63 }
     ensures { Put out.old from
-        (joined (lines_of head (listsIn c.now bounds.now) (shownSteps head steps.now))) out.new result }
+        (joined (lines_of head (lists_in c.now bounds.now) (shown_steps head steps.now))) out.new result }
 {
     let count = line_count(head, bounds, steps);
     let mut at = from;
@@ -54,8 +54,8 @@ pub fn put_plan(
     at: usize,
     out: &mut [u8],
 ) -> usize
-    requires { at + length (planText head coefficients.now bounds.now steps.now) < 2 ^ 63 }
-    ensures { Put out.old at (planText head coefficients.now bounds.now steps.now)
+    requires { at + length (plan_text head coefficients.now bounds.now steps.now) < 2 ^ 63 }
+    ensures { Put out.old at (plan_text head coefficients.now bounds.now steps.now)
         out.new result }
 {
     let c = part_between(coefficients, 0, head.coefficients);

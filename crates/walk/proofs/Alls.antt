@@ -17,10 +17,10 @@ all_then nothing k = nothing
 all_then (holds {v} p) k = k v p
 
 -- under a test, which then holds
-pub all-when : {X : Type 0} {P : X → Type 0} (t : Bool) {o : Option X} → (t ≡ true → All P o) → All P (when t o)
-all-when true p = p refl
-all-when false p = nothing
+pub all_when : {X : Type 0} {P : X → Type 0} (t : Bool) {o : Option X} → (t ≡ true → All P o) → All P (when t o)
+all_when true p = p refl
+all_when false p = nothing
 
-pub all-some : {X : Type 0} {P : X → Type 0} {o : Option X} {v : X} → All P o → o ≡ some v → P v
-all-some nothing e = let same : ◌≡◌ {A = ℕ} 0 1 = cc in absurd (omega arith)
-all-some {P = P} (holds p) e = subst P (same_some e) p
+pub all_some : {X : Type 0} {P : X → Type 0} {o : Option X} {v : X} → All P o → o ≡ some v → P v
+all_some nothing e = let same : ◌≡◌ {A = ℕ} 0 1 = cc in absurd (omega arith)
+all_some {P = P} (holds p) e = subst P (same_some e) p

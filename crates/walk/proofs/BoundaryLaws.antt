@@ -11,28 +11,28 @@ use lib.Dec.{leb, ltb}
 use lib.IntN.{ℤ}
 use lib.ListN.{length, get_or, drop, drop_of_length-le}
 use lib.Seq.{drop-cons}
-use Rattle.walk.specs.Boundaries.{rises, start_of, end_of, part_of, listAt}
+use Rattle.walk.specs.Boundaries.{rises, start_of, end_of, part_of, list_at}
 
 module _ (bounds : List ℕ) (most last i : ℕ) where
-  rises-place : i < length bounds
+  rises_place : i < length bounds
       → rises last most (drop i bounds)
       ≡ (ltb last (get_or bounds i 0) && (leb (get_or bounds i 0) most && rises (get_or bounds i 0) most (drop (i + 1) bounds)))
   unfolding rises
-  rises-place h = rw (add-one, drop-cons bounds i 0)
+  rises_place h = rw (add-one, drop-cons bounds i 0)
 
-  pub rises-not : i < length bounds → get_or bounds i 0 ≤ last → rises last most (drop i bounds) ≡ false
-  rises-not h e = rises-place h ∙ rw (le-ltb last (get_or bounds i 0) e)
+  pub rises_not : i < length bounds → get_or bounds i 0 ≤ last → rises last most (drop i bounds) ≡ false
+  rises_not h e = rises_place h ∙ rw (le-ltb last (get_or bounds i 0) e)
 
-  pub rises-past : i < length bounds → last < get_or bounds i 0 → most < get_or bounds i 0 → rises last most (drop i bounds) ≡ false
-  rises-past h e f = rises-place h ∙ rw (lt-ltb last (get_or bounds i 0) e, lt-leb (get_or bounds i 0) most f)
+  pub rises_past : i < length bounds → last < get_or bounds i 0 → most < get_or bounds i 0 → rises last most (drop i bounds) ≡ false
+  rises_past h e f = rises_place h ∙ rw (lt-ltb last (get_or bounds i 0) e, lt-leb (get_or bounds i 0) most f)
 
   pub rises_next : i < length bounds → last < get_or bounds i 0 → get_or bounds i 0 ≤ most
       → rises last most (drop i bounds) ≡ rises (get_or bounds i 0) most (drop (i + 1) bounds)
-  rises_next h e f = rises-place h ∙ rw (lt-ltb last (get_or bounds i 0) e, le-leb (get_or bounds i 0) most f)
+  rises_next h e f = rises_place h ∙ rw (lt-ltb last (get_or bounds i 0) e, le-leb (get_or bounds i 0) most f)
 
-  pub rises-done : length bounds ≤ i → rises last most (drop i bounds) ≡ true
+  pub rises_done : length bounds ≤ i → rises last most (drop i bounds) ≡ true
   unfolding rises
-  rises-done h = rw (drop_of_length-le bounds h)
+  rises_done h = rw (drop_of_length-le bounds h)
 
 -- list i starts before it ends, and ends within
 pub record Within (from until most : ℕ) : Type 0 where
@@ -70,16 +70,16 @@ within most bounds zero e h = rising 0 most bounds zero e h
 within most bounds (suc i) e h = rising 0 most bounds (suc i) e h
 
 -- where a list starts that is not the first
-pub start-later : (bounds : List ℕ) (i : ℕ) → (i ≡ 0 → ⊥) → get_or bounds (i - 1) 0 ≡ start_of bounds i
-start-later bounds zero e = absurd (e refl)
-start-later bounds (suc i) e = let one : suc i - 1 ≡ i = omega arith in rw one
+pub start_later : (bounds : List ℕ) (i : ℕ) → (i ≡ 0 → ⊥) → get_or bounds (i - 1) 0 ≡ start_of bounds i
+start_later bounds zero e = absurd (e refl)
+start_later bounds (suc i) e = let one : suc i - 1 ≡ i = omega arith in rw one
 
 -- list i
 module _ (c : List ℤ) (bounds : List ℕ) (i : ℕ) where
-  pub list-past : length bounds ≤ i → listAt c bounds i ≡ none
-  unfolding listAt
-  list-past h = rw (le-ltb i (length bounds) h)
+  pub list_past : length bounds ≤ i → list_at c bounds i ≡ none
+  unfolding list_at
+  list_past h = rw (le-ltb i (length bounds) h)
 
-  pub list-is : i < length bounds → listAt c bounds i ≡ some (part_of c bounds i)
-  unfolding listAt
-  list-is h = rw (lt-ltb i (length bounds) h)
+  pub list_is : i < length bounds → list_at c bounds i ≡ some (part_of c bounds i)
+  unfolding list_at
+  list_is h = rw (lt-ltb i (length bounds) h)

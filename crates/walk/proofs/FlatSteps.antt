@@ -4,13 +4,13 @@ use mathlib.Core.List.{List, [], ◌∷◌, ◌++◌}
 use Prim.Native.Nat.{ℕ, zero, suc, ◌+◌, ◌*◌}
 use native.Mathlib.Omega.{arith}
 use lib.ListN.{length, get_or}
-use Rattle.walk.specs.Lent.{stepAt, stepsFrom}
+use Rattle.walk.specs.Lent.{step_at, steps_from}
 use Rattle.walk.specs.WalksHeld.{flat}
 use Rattle.walk.specs.declared.plan.Step.{Step}
 
 -- each step is four numbers further on
-step-later : (k x y z : ℕ) (buffer : List ℕ) (i : ℕ) → stepAt (k ∷ x ∷ y ∷ z ∷ buffer) (suc i) ≡ stepAt buffer i
-step-later k x y z buffer i =
+step_later : (k x y z : ℕ) (buffer : List ℕ) (i : ℕ) → step_at (k ∷ x ∷ y ∷ z ∷ buffer) (suc i) ≡ step_at buffer i
+step_later k x y z buffer i =
     let place : (j n : ℕ) → n ≡ suc (suc (suc (suc j))) → get_or (k ∷ x ∷ y ∷ z ∷ buffer) n 0 ≡ get_or buffer j 0 = λ j n e. rw e in
     rw (
       place (4 * i) (4 * suc i) (omega arith),
@@ -19,22 +19,22 @@ step-later k x y z buffer i =
       place (4 * i + 3) (4 * suc i + 3) (omega arith),
     )
 
-steps-later : (k x y z : ℕ) (buffer : List ℕ) (i n : ℕ) → stepsFrom (k ∷ x ∷ y ∷ z ∷ buffer) (suc i) n ≡ stepsFrom buffer i n
-unfolding stepsFrom
-steps-later k x y z buffer i zero = refl
-steps-later k x y z buffer i (suc n) = ap₂ ◌∷◌ (step-later k x y z buffer i) (steps-later k x y z buffer (suc i) n)
+steps_later : (k x y z : ℕ) (buffer : List ℕ) (i n : ℕ) → steps_from (k ∷ x ∷ y ∷ z ∷ buffer) (suc i) n ≡ steps_from buffer i n
+unfolding steps_from
+steps_later k x y z buffer i zero = refl
+steps_later k x y z buffer i (suc n) = ap₂ ◌∷◌ (step_later k x y z buffer i) (steps_later k x y z buffer (suc i) n)
 
 -- what is read back are the steps
-pub flat-steps : (steps : List Step) (rest : List ℕ) → stepsFrom (flat steps ++ rest) 0 (length steps) ≡ steps
-unfolding flat stepsFrom
-flat-steps [] rest = refl
-flat-steps (step ∷ steps) rest =
-    ap (step ∷◌) (steps-later step.kind step.x step.y step.z (flat steps ++ rest) 0 (length steps) ∙ flat-steps steps rest)
+pub flat_steps : (steps : List Step) (rest : List ℕ) → steps_from (flat steps ++ rest) 0 (length steps) ≡ steps
+unfolding flat steps_from
+flat_steps [] rest = refl
+flat_steps (step ∷ steps) rest =
+    ap (step ∷◌) (steps_later step.kind step.x step.y step.z (flat steps ++ rest) 0 (length steps) ∙ flat_steps steps rest)
 
-pub flat-length : (steps : List Step) → length (flat steps) ≡ 4 * length steps
+pub flat_length : (steps : List Step) → length (flat steps) ≡ 4 * length steps
 unfolding flat
-flat-length [] = refl
-flat-length (step ∷ steps) = let tail = flat-length steps in omega arith
+flat_length [] = refl
+flat_length (step ∷ steps) = let tail = flat_length steps in omega arith
 
 pub flat_append : (xs ys : List Step) → flat (xs ++ ys) ≡ flat xs ++ flat ys
 unfolding flat

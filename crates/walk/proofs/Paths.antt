@@ -5,28 +5,28 @@ use native.Mathlib.Omega.{arith, max_cases}
 use Rattle.walk.specs.Values.{Value}
 use Rattle.walk.specs.Values.Value.{given, product, sum}
 use Rattle.walk.specs.Paths.{PathTo, heaviest, HeaviestGreatest}
-use Rattle.walk.specs.Paths.PathTo.{start, by-first-factor, by-second-factor, by-first-part, by-second-part}
+use Rattle.walk.specs.Paths.PathTo.{start, by_first_factor, by_second_factor, by_first_part, by_second_part}
 
-none-heavier : {v : Value} {u : ℕ} → PathTo v u → u ≤ heaviest v
+none_heavier : {v : Value} {u : ℕ} → PathTo v u → u ≤ heaviest v
 unfolding heaviest
-none-heavier start = omega arith
-none-heavier (by-first-factor path) = omega (arith, none-heavier path)
-none-heavier (by-second-factor path) = omega (arith, none-heavier path)
-none-heavier (by-first-part path) = omega (arith, none-heavier path)
-none-heavier (by-second-part path) = omega (arith, none-heavier path)
+none_heavier start = omega arith
+none_heavier (by_first_factor path) = omega (arith, none_heavier path)
+none_heavier (by_second_factor path) = omega (arith, none_heavier path)
+none_heavier (by_first_part path) = omega (arith, none_heavier path)
+none_heavier (by_second_part path) = omega (arith, none_heavier path)
 
 -- what holds of two numbers holds of the greater
-of-greater : (P : ℕ → Type 0) (a b : ℕ) → P a → P b → P (max a b)
-of-greater P a b for-a for-b = max_cases a b (P (max a b)) (λ h second. rw second for-b) (λ h first. rw first for-a)
+of_greater : (P : ℕ → Type 0) (a b : ℕ) → P a → P b → P (max a b)
+of_greater P a b for_a for_b = max_cases a b (P (max a b)) (λ h second. rw second for_b) (λ h first. rw first for_a)
 
-path-of-heaviest : (v : Value) → PathTo v (heaviest v)
+path_of_heaviest : (v : Value) → PathTo v (heaviest v)
 unfolding heaviest
-path-of-heaviest given = start
-path-of-heaviest (product scale a b) =
-    of-greater (λ w. PathTo (product scale a b) (w + scale)) (heaviest a) (heaviest b) (by-first-factor (path-of-heaviest a))
-    (by-second-factor (path-of-heaviest b))
-path-of-heaviest (sum a b) =
-    of-greater (PathTo (sum a b)) (heaviest a) (heaviest b) (by-first-part (path-of-heaviest a)) (by-second-part (path-of-heaviest b))
+path_of_heaviest given = start
+path_of_heaviest (product scale a b) =
+    of_greater (λ w. PathTo (product scale a b) (w + scale)) (heaviest a) (heaviest b) (by_first_factor (path_of_heaviest a))
+    (by_second_factor (path_of_heaviest b))
+path_of_heaviest (sum a b) =
+    of_greater (PathTo (sum a b)) (heaviest a) (heaviest b) (by_first_part (path_of_heaviest a)) (by_second_part (path_of_heaviest b))
 
-pub heaviest-greatest : HeaviestGreatest
-heaviest-greatest v = record { reached = path-of-heaviest v; most = λ u path. none-heavier path }
+pub heaviest_greatest : HeaviestGreatest
+heaviest_greatest v = record { reached = path_of_heaviest v; most = λ u path. none_heavier path }

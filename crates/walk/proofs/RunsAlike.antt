@@ -5,21 +5,21 @@ use mathlib.Core.List.{List}
 use Prim.Native.Nat.{ℕ}
 use lib.IntN.{ℤ}
 use Rattle.number.specs.Options.{missing}
-use Rattle.number.proofs.Options.{missing-image}
+use Rattle.number.proofs.Options.{missing_image}
 use Rattle.walk.specs.Rules.{Rules}
-use Rattle.walk.specs.Lent.{lentWalk}
+use Rattle.walk.specs.Lent.{lent_walk}
 use Rattle.walk.specs.CarryLaw.{TakesRules}
 use Rattle.walk.specs.RunsAlike.{RunsAlike}
 use Rattle.walk.specs.declared.plan.Head.{Head}
-use Rattle.walk.proofs.CarryLaw.{carry-law}
+use Rattle.walk.proofs.CarryLaw.{carry_law}
 
 -- the rules over the one value
-abbrev oneRules : Rules (Unit {0})
-oneRules = record {
+abbrev one_rules : Rules (Unit {0})
+one_rules = record {
   point = λ z. tt;
   one = tt;
   product = λ u v. tt;
-  productLess = λ u v w. tt;
+  product_less = λ u v w. tt;
   nothing = tt;
   place = λ sum c j power. tt;
   combine = λ plain power high low. tt;
@@ -27,12 +27,12 @@ oneRules = record {
   output = λ transform x v. tt;
 }
 
-taken : {A : Type 0} (𝓡 : Rules A) → TakesRules 𝓡 oneRules (λ (v : A). tt)
+taken : {A : Type 0} (𝓡 : Rules A) → TakesRules 𝓡 one_rules (λ (v : A). tt)
 taken 𝓡 = record {
   point = λ z. refl;
   one = refl;
   product = λ u v. refl;
-  productLess = λ u v w. refl;
+  product_less = λ u v w. refl;
   nothing = refl;
   place = λ sum c j power. refl;
   combine = λ plain power high low. refl;
@@ -41,19 +41,19 @@ taken 𝓡 = record {
 }
 
 module _ (head : Head) (coefficients : List ℤ) (bounds steps : List ℕ) where
-  any-point : (point other : ℤ) → lentWalk oneRules head coefficients bounds steps point ≡ lentWalk oneRules head coefficients bounds steps other
-  unfolding lentWalk
-  any-point point other = refl
+  any_point : (point other : ℤ) → lent_walk one_rules head coefficients bounds steps point ≡ lent_walk one_rules head coefficients bounds steps other
+  unfolding lent_walk
+  any_point point other = refl
 
   -- a walk, and that over the one value
-  runs-as-one : {A : Type 0} (𝓡 : Rules A) (point : ℤ)
-      → missing (lentWalk oneRules head coefficients bounds steps point) ≡ missing (lentWalk 𝓡 head coefficients bounds steps point)
-  runs-as-one {A} 𝓡 point =
-      ap missing ((carry-law A (Unit {0}) 𝓡 oneRules (λ (v : A). tt) (taken 𝓡)).walks head coefficients bounds steps point)
-      ∙ missing-image (λ (v : A). tt) (lentWalk 𝓡 head coefficients bounds steps point)
+  runs_as_one : {A : Type 0} (𝓡 : Rules A) (point : ℤ)
+      → missing (lent_walk one_rules head coefficients bounds steps point) ≡ missing (lent_walk 𝓡 head coefficients bounds steps point)
+  runs_as_one {A} 𝓡 point =
+      ap missing ((carry_law A (Unit {0}) 𝓡 one_rules (λ (v : A). tt) (taken 𝓡)).walks head coefficients bounds steps point)
+      ∙ missing_image (λ (v : A). tt) (lent_walk 𝓡 head coefficients bounds steps point)
 
-pub runs-alike : (A B : Type 0) → RunsAlike A B
-runs-alike A B 𝓡 𝓢 head coefficients bounds steps point other =
-    sym (runs-as-one head coefficients bounds steps 𝓡 point)
-    ∙ ap missing (any-point head coefficients bounds steps point other)
-    ∙ runs-as-one head coefficients bounds steps 𝓢 other
+pub runs_alike : (A B : Type 0) → RunsAlike A B
+runs_alike A B 𝓡 𝓢 head coefficients bounds steps point other =
+    sym (runs_as_one head coefficients bounds steps 𝓡 point)
+    ∙ ap missing (any_point head coefficients bounds steps point other)
+    ∙ runs_as_one head coefficients bounds steps 𝓢 other

@@ -13,37 +13,37 @@ use Rattle.algebra.specs.declared.Parity.{Parity}
 use Rattle.number.specs.Options.{◌then◌}
 use Rattle.walk.specs.Rules.{Rules}
 use Rattle.walk.specs.State.{Powers}
-use Rattle.walk.specs.Load.{addPlace, sumFrom}
+use Rattle.walk.specs.Load.{add_place, sum_from}
 
 module _ (𝓡 : Rules ℕ) (parity : Parity) (powers : Powers ℕ) (j sum : ℕ) (c : ℤ) where
-  pub place-over : allows parity j ≡ false → some sum ≡ addPlace 𝓡 parity powers j sum c
-  unfolding addPlace
-  place-over e = rw e
+  pub place_over : allows parity j ≡ false → some sum ≡ add_place 𝓡 parity powers j sum c
+  unfolding add_place
+  place_over e = rw e
 
-  pub place-missing : allows parity j ≡ true → powers j ≡ none → none ≡ addPlace 𝓡 parity powers j sum c
-  unfolding addPlace
-  place-missing e f = rw (e, f)
+  pub place_missing : allows parity j ≡ true → powers j ≡ none → none ≡ add_place 𝓡 parity powers j sum c
+  unfolding add_place
+  place_missing e f = rw (e, f)
 
-  pub place-added : (p : ℕ) → allows parity j ≡ true → powers j ≡ some p → some (𝓡.place sum c j p) ≡ addPlace 𝓡 parity powers j sum c
-  unfolding addPlace
-  place-added p e f = rw (e, f)
+  pub place_added : (p : ℕ) → allows parity j ≡ true → powers j ≡ some p → some (𝓡.place sum c j p) ≡ add_place 𝓡 parity powers j sum c
+  unfolding add_place
+  place_added p e f = rw (e, f)
 
 -- the sum from place j on
 module _ (𝓡 : Rules ℕ) (parity : Parity) (powers : Powers ℕ) (list : List ℤ) (j sum : ℕ) where
-  sum-place : j < length list
-      → sumFrom 𝓡 parity powers j sum (drop j list)
-      ≡ (addPlace 𝓡 parity powers j sum (get_or list j (pos 0)) then λ next. sumFrom 𝓡 parity powers (j + 1) next (drop (j + 1) list))
-  unfolding sumFrom
-  sum-place h = rw (add-one, drop-cons list j (pos 0))
+  sum_place : j < length list
+      → sum_from 𝓡 parity powers j sum (drop j list)
+      ≡ (add_place 𝓡 parity powers j sum (get_or list j (pos 0)) then λ next. sum_from 𝓡 parity powers (j + 1) next (drop (j + 1) list))
+  unfolding sum_from
+  sum_place h = rw (add-one, drop-cons list j (pos 0))
 
-  pub sum-missing : j < length list → addPlace 𝓡 parity powers j sum (get_or list j (pos 0)) ≡ none
-      → sumFrom 𝓡 parity powers j sum (drop j list) ≡ none
-  sum-missing h e = sum-place h ∙ rw e
+  pub sum_missing : j < length list → add_place 𝓡 parity powers j sum (get_or list j (pos 0)) ≡ none
+      → sum_from 𝓡 parity powers j sum (drop j list) ≡ none
+  sum_missing h e = sum_place h ∙ rw e
 
-  pub sum-next : (next : ℕ) → j < length list → addPlace 𝓡 parity powers j sum (get_or list j (pos 0)) ≡ some next
-      → sumFrom 𝓡 parity powers j sum (drop j list) ≡ sumFrom 𝓡 parity powers (j + 1) next (drop (j + 1) list)
-  sum-next next h e = sum-place h ∙ rw e
+  pub sum_next : (next : ℕ) → j < length list → add_place 𝓡 parity powers j sum (get_or list j (pos 0)) ≡ some next
+      → sum_from 𝓡 parity powers j sum (drop j list) ≡ sum_from 𝓡 parity powers (j + 1) next (drop (j + 1) list)
+  sum_next next h e = sum_place h ∙ rw e
 
-  pub sum_done : length list ≤ j → sumFrom 𝓡 parity powers j sum (drop j list) ≡ some sum
-  unfolding sumFrom
+  pub sum_done : length list ≤ j → sum_from 𝓡 parity powers j sum (drop j list) ≡ some sum
+  unfolding sum_from
   sum_done h = rw (drop_of_length-le list h)

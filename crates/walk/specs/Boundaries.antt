@@ -22,5 +22,5 @@ abbrev pub part_of : List ℤ → (bounds : List ℕ) (i : ℕ) → List ℤ
 part_of c bounds i = take (end_of bounds i - start_of bounds i) (drop (start_of bounds i) c)
 
 -- list i, if there is one
-unfoldable pub listAt : List ℤ → (bounds : List ℕ) → Lists
-listAt c bounds i = when (ltb i (length bounds)) (some (part_of c bounds i))
+unfoldable pub list_at : List ℤ → (bounds : List ℕ) → Lists
+list_at c bounds i = when (ltb i (length bounds)) (some (part_of c bounds i))

@@ -13,5 +13,5 @@ module _ {A : Type 0} (𝓡 : Rules A) (plain : Bool) where
   join_of power (high ∷ low ∷ rest) = some (𝓡.combine plain power high low ∷ rest)
 
   -- power p has to be there
-  unfoldable pub combineOf : Powers A → (waiting : List A) (p : ℕ) → Option (List A)
-  combineOf powers waiting p = powers p then λ power. join_of power waiting
+  unfoldable pub combine_of : Powers A → (waiting : List A) (p : ℕ) → Option (List A)
+  combine_of powers waiting p = powers p then λ power. join_of power waiting

@@ -2,14 +2,14 @@
 use Rattle.std.specs.Prelude.{◌≡◌, List, ℕ, ℤ}
 use Rattle.number.specs.declared.interval.Interval.{Interval}
 use Rattle.walk.specs.Rules.{Rules}
-use Rattle.walk.specs.Lent.{lentWalk}
-use Rattle.walk.specs.Trial.{trialOf}
-use Rattle.walk.specs.Chain.{chainOf}
+use Rattle.walk.specs.Lent.{lent_walk}
+use Rattle.walk.specs.Trial.{trial_of}
+use Rattle.walk.specs.Chain.{chain_of}
 use Rattle.walk.specs.declared.plan.Head.{Head}
 
 -- a head with another interval
-abbrev pub withInterval : Interval → Head → Head
-withInterval interval head = record {
+abbrev pub with_interval : Interval → Head → Head
+with_interval interval head = record {
   basis = head.basis;
   parity = head.parity;
   strategy = head.strategy;
@@ -27,15 +27,15 @@ withInterval interval head = record {
 
 -- two heads that differ in these four numbers only
 abbrev pub SameButInterval : (head other : Head) → Type 0
-SameButInterval head other = withInterval other.interval head ≡ other
+SameButInterval head other = with_interval other.interval head ≡ other
 
 -- beside three buffers they are walked alike
 pub record WalkedAlike (head other : Head) (coefficients : List ℤ) (bounds steps : List ℕ) : Type 1 where
   -- by the rules of the exact walk and by any others
   pub walk : {A : Type 0} (𝓡 : Rules A) (point : ℤ)
-      → lentWalk 𝓡 head coefficients bounds steps point ≡ lentWalk 𝓡 other coefficients bounds steps point
-  pub trial : (point : ℤ) (modulus : ℕ) → trialOf head coefficients bounds steps point modulus ≡ trialOf other coefficients bounds steps point modulus
-  pub chain : (input coeff : ℕ) → chainOf head coefficients bounds steps input coeff ≡ chainOf other coefficients bounds steps input coeff
+      → lent_walk 𝓡 head coefficients bounds steps point ≡ lent_walk 𝓡 other coefficients bounds steps point
+  pub trial : (point : ℤ) (modulus : ℕ) → trial_of head coefficients bounds steps point modulus ≡ trial_of other coefficients bounds steps point modulus
+  pub chain : (input coeff : ℕ) → chain_of head coefficients bounds steps input coeff ≡ chain_of other coefficients bounds steps input coeff
 
 abbrev pub IntervalUnread : Type 1
 IntervalUnread = (head other : Head) (coefficients : List ℤ) (bounds steps : List ℕ) → SameButInterval head other

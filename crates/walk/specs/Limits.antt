@@ -2,9 +2,9 @@
 use Rattle.std.specs.Prelude.{ℕ}
 
 -- the most values that wait
-abbrev pub waitingLimit : ℕ
-waitingLimit = 16
+abbrev pub waiting_limit : ℕ
+waiting_limit = 16
 
 -- the greatest trial modulus
-abbrev pub modulusLimit : ℕ
-modulusLimit = 2147483647
+abbrev pub modulus_limit : ℕ
+modulus_limit = 2147483647

@@ -14,49 +14,49 @@ pub record Making (A : Type 0) : Type 0 where
   pub sum : (a b : A) → A
 
 -- the values themselves
-abbrev pub valueMaking : Making Value
-valueMaking = record { given = given; product = product; sum = sum }
+abbrev pub value_making : Making Value
+value_making = record { given = given; product = product; sum = sum }
 
 module _ {A : Type 0} (𝓜 : Making A) where
   -- 2·T_a·T_b - T_c, where doubling is an addition and T_c is only subtracted
-  abbrev pub productLessMade : (input : ℕ) (u v w : A) → A
-  productLessMade input u v w = 𝓜.sum (𝓜.product input u v) w
+  abbrev pub product_less_made : (input : ℕ) (u v w : A) → A
+  product_less_made input u v w = 𝓜.sum (𝓜.product input u v) w
 
   -- at an allowed power the coefficient times the power is a pt-ct multiplication; the constant is only added
-  unfoldable pub placeMade : (coeff : ℕ) (so_far : A) (j : ℕ) (power : A) → A
-  placeMade coeff so_far zero power = 𝓜.sum so_far 𝓜.given
-  placeMade coeff so_far (suc j) power = 𝓜.sum so_far (𝓜.product coeff 𝓜.given power)
+  unfoldable pub place_made : (coeff : ℕ) (so_far : A) (j : ℕ) (power : A) → A
+  place_made coeff so_far zero power = 𝓜.sum so_far 𝓜.given
+  place_made coeff so_far (suc j) power = 𝓜.sum so_far (𝓜.product coeff 𝓜.given power)
 
   -- high times the power is a ct-ct multiplication, in kind 4 a pt-ct one; low is only added
-  abbrev pub combineMade : (scale : ℕ) (power high low : A) → A
-  combineMade scale power high low = 𝓜.sum (𝓜.product scale high power) low
+  abbrev pub combine_made : (scale : ℕ) (power high low : A) → A
+  combine_made scale power high low = 𝓜.sum (𝓜.product scale high power) low
 
   -- x, x² or 2x² - 1 by transform
-  unfoldable pub inputMade : (input : ℕ) → PolynomialInputTransform → (x : A) → A
-  inputMade input Identity x = x
-  inputMade input Square x = 𝓜.product input x x
-  inputMade input SquareTimesInput x = 𝓜.product input x x
-  inputMade input ChebyshevT2 x = productLessMade input x x 𝓜.given
-  inputMade input ChebyshevT2TimesInput x = productLessMade input x x 𝓜.given
+  unfoldable pub input_made : (input : ℕ) → PolynomialInputTransform → (x : A) → A
+  input_made input Identity x = x
+  input_made input Square x = 𝓜.product input x x
+  input_made input SquareTimesInput x = 𝓜.product input x x
+  input_made input ChebyshevT2 x = product_less_made input x x 𝓜.given
+  input_made input ChebyshevT2TimesInput x = product_less_made input x x 𝓜.given
 
   -- a TimesInput transform multiplies the value that is left by x
-  unfoldable pub outputMade : (input : ℕ) → PolynomialInputTransform → (x v : A) → A
-  outputMade input Identity x v = v
-  outputMade input Square x v = v
-  outputMade input SquareTimesInput x v = 𝓜.product input x v
-  outputMade input ChebyshevT2 x v = v
-  outputMade input ChebyshevT2TimesInput x v = 𝓜.product input x v
+  unfoldable pub output_made : (input : ℕ) → PolynomialInputTransform → (x v : A) → A
+  output_made input Identity x v = v
+  output_made input Square x v = v
+  output_made input SquareTimesInput x v = 𝓜.product input x v
+  output_made input ChebyshevT2 x v = v
+  output_made input ChebyshevT2TimesInput x v = 𝓜.product input x v
 
   -- the point, the number 1 and the sum of no place are given
-  abbrev pub madeRules : (input coeff : ℕ) → Rules A
-  madeRules input coeff = record {
+  abbrev pub made_rules : (input coeff : ℕ) → Rules A
+  made_rules input coeff = record {
     point = λ x. 𝓜.given;
     one = 𝓜.given;
     product = 𝓜.product input;
-    productLess = productLessMade input;
+    product_less = product_less_made input;
     nothing = 𝓜.given;
-    place = λ so_far c j power. placeMade coeff so_far j power;
-    combine = λ plain. combineMade (cond plain coeff input);
-    input = inputMade input;
-    output = outputMade input;
+    place = λ so_far c j power. place_made coeff so_far j power;
+    combine = λ plain. combine_made (cond plain coeff input);
+    input = input_made input;
+    output = output_made input;
   }

@@ -7,10 +7,10 @@ use Rattle.walk.specs.Values.Value.{given, product, sum}
 -- scale to the weight; an addition or a subtraction adds nothing.
 pub data PathTo : Value → (weight : ℕ) → Type 0 where
   start : PathTo given 0
-  by-first-factor : {scale : ℕ} {a b : Value} {w : ℕ} → PathTo a w → PathTo (product scale a b) (w + scale)
-  by-second-factor : {scale : ℕ} {a b : Value} {w : ℕ} → PathTo b w → PathTo (product scale a b) (w + scale)
-  by-first-part : {a b : Value} {w : ℕ} → PathTo a w → PathTo (sum a b) w
-  by-second-part : {a b : Value} {w : ℕ} → PathTo b w → PathTo (sum a b) w
+  by_first_factor : {scale : ℕ} {a b : Value} {w : ℕ} → PathTo a w → PathTo (product scale a b) (w + scale)
+  by_second_factor : {scale : ℕ} {a b : Value} {w : ℕ} → PathTo b w → PathTo (product scale a b) (w + scale)
+  by_first_part : {a b : Value} {w : ℕ} → PathTo a w → PathTo (sum a b) w
+  by_second_part : {a b : Value} {w : ℕ} → PathTo b w → PathTo (sum a b) w
 
 -- w is the greatest weight over all paths that end in v
 pub record Greatest (v : Value) (w : ℕ) : Type 0 where

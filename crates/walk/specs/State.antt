@@ -16,8 +16,8 @@ pub record State (A : Type 0) : Type 0 where
   pub waiting : List A
 
 -- a state with other powers, and one with other waiting values
-abbrev pub withPowers : {A : Type 0} → State A → Powers A → State A
-withPowers state powers = record { powers = powers; waiting = state.waiting }
+abbrev pub with_powers : {A : Type 0} → State A → Powers A → State A
+with_powers state powers = record { powers = powers; waiting = state.waiting }
 
-abbrev pub withWaiting : {A : Type 0} → State A → List A → State A
-withWaiting state waiting = record { powers = state.powers; waiting = waiting }
+abbrev pub with_waiting : {A : Type 0} → State A → List A → State A
+with_waiting state waiting = record { powers = state.powers; waiting = waiting }

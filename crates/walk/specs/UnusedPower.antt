@@ -8,14 +8,14 @@ use Rattle.walk.specs.Kinds.{make, kind_of}
 use Rattle.walk.specs.Rules.{Rules}
 use Rattle.walk.specs.State.{Lists}
 use Rattle.walk.specs.Walk.{walk_of}
-use Rattle.walk.specs.Uses.{usesOf}
-use Rattle.walk.specs.UsesMade.{isAmong}
+use Rattle.walk.specs.Uses.{uses_of}
+use Rattle.walk.specs.UsesMade.{is_among}
 use Rattle.walk.specs.declared.plan.Step.{Step}
 
 -- none of some steps uses power n
 abbrev pub NoneUses : Parity → Basis → Lists → (n : ℕ) → List Step → Type 0
 NoneUses parity basis lists n [] = Unit {0}
-NoneUses parity basis lists n (step ∷ steps) = (isAmong n (usesOf parity basis lists step) ≡ false) × NoneUses parity basis lists n steps
+NoneUses parity basis lists n (step ∷ steps) = (is_among n (uses_of parity basis lists step) ≡ false) × NoneUses parity basis lists n steps
 
 -- a step that makes a power which none of the later steps uses
 abbrev pub UnusedLeftOut : Type 0 → Type 0

@@ -7,33 +7,33 @@ use Rattle.walk.specs.Kinds.{Kind, make, load, combine, unknown, kind_of}
 use Rattle.walk.specs.Rules.{Rules}
 use Rattle.walk.specs.State.{Lists}
 use Rattle.walk.specs.Walk.{walk_of}
-use Rattle.walk.specs.Uses.{usesOf}
+use Rattle.walk.specs.Uses.{uses_of}
 use Rattle.walk.specs.declared.plan.Step.{Step}
 
 -- whether a number, and whether each of some, is among others
-unfoldable pub isAmong : ℕ → List ℕ → Bool
-isAmong n [] = false
-isAmong n (m ∷ ms) = eqb n m || isAmong n ms
+unfoldable pub is_among : ℕ → List ℕ → Bool
+is_among n [] = false
+is_among n (m ∷ ms) = eqb n m || is_among n ms
 
-unfoldable pub allAmong : List ℕ → List ℕ → Bool
-allAmong [] ms = true
-allAmong (n ∷ ns) ms = isAmong n ms && allAmong ns ms
+unfoldable pub all_among : List ℕ → List ℕ → Bool
+all_among [] ms = true
+all_among (n ∷ ns) ms = is_among n ms && all_among ns ms
 
 -- the powers made, after one more step
-abbrev pub madeBy : Kind → (x : ℕ) (made : List ℕ) → List ℕ
-madeBy make x made = x ∷ made
-madeBy load x made = made
-madeBy (combine plain) x made = made
-madeBy unknown x made = made
+abbrev pub made_by : Kind → (x : ℕ) (made : List ℕ) → List ℕ
+made_by make x made = x ∷ made
+made_by load x made = made
+made_by (combine plain) x made = made
+made_by unknown x made = made
 
-abbrev pub madeAfter : Step → (made : List ℕ) → List ℕ
-madeAfter step made = madeBy (kind_of step.kind) step.x made
+abbrev pub made_after : Step → (made : List ℕ) → List ℕ
+made_after step made = made_by (kind_of step.kind) step.x made
 
 -- each step uses powers that are made before it
 abbrev pub UsesMade : Parity → Basis → Lists → (made : List ℕ) → List Step → Type 0
 UsesMade parity basis lists made [] = Unit {0}
 UsesMade parity basis lists made (step ∷ steps) =
-    (allAmong (usesOf parity basis lists step) made ≡ true) × UsesMade parity basis lists (madeAfter step made) steps
+    (all_among (uses_of parity basis lists step) made ≡ true) × UsesMade parity basis lists (made_after step made) steps
 
 -- so it is with every walk that has a value
 abbrev pub WalksUseMade : Type 0 → Type 0

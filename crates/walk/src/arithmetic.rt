@@ -1,6 +1,6 @@
 // The arithmetic that the steps run on: what the walk's rules make of remainders, and of weights.
 ghost use Rattle.std.specs.Prelude.{◌≡◌};
-ghost use Rattle.walk.specs.inside.Arithmetic.{rulesOf, Usable};
+ghost use Rattle.walk.specs.inside.Arithmetic.{rules_of, Usable};
 
 use crate::remainder::{combine_mod, mul_mod, place_mod, product_less_mod, remainder_of};
 use crate::weights::{combine_weight, place_weight, product_less_weight, product_weight};
@@ -15,7 +15,7 @@ pub enum Arithmetic {
 // The point.
 pub fn point_of(arithmetic: Arithmetic, x: i64) -> u64
     requires { Usable arithmetic }
-    ensures { result ≡ (rulesOf arithmetic).point x }
+    ensures { result ≡ (rules_of arithmetic).point x }
 {
     match arithmetic {
         Arithmetic::Remainders(m) => remainder_of(x, m),
@@ -26,7 +26,7 @@ pub fn point_of(arithmetic: Arithmetic, x: i64) -> u64
 // Power 0.
 pub fn one_of(arithmetic: Arithmetic) -> u64
     requires { Usable arithmetic }
-    ensures { result ≡ (rulesOf arithmetic).one }
+    ensures { result ≡ (rules_of arithmetic).one }
 {
     match arithmetic {
         Arithmetic::Remainders(m) => 1 % m,
@@ -37,7 +37,7 @@ pub fn one_of(arithmetic: Arithmetic) -> u64
 // A power, from those of its two parts.
 pub fn product(arithmetic: Arithmetic, u: u64, v: u64) -> u64
     requires { Usable arithmetic }
-    ensures { result ≡ (rulesOf arithmetic).product u v }
+    ensures { result ≡ (rules_of arithmetic).product u v }
 {
     match arithmetic {
         Arithmetic::Remainders(m) => mul_mod(u, v, m),
@@ -48,7 +48,7 @@ pub fn product(arithmetic: Arithmetic, u: u64, v: u64) -> u64
 // A power, from those of its two parts and the one at their distance.
 pub fn product_less(arithmetic: Arithmetic, u: u64, v: u64, w: u64) -> u64
     requires { Usable arithmetic }
-    ensures { result ≡ (rulesOf arithmetic).productLess u v w }
+    ensures { result ≡ (rules_of arithmetic).product_less u v w }
 {
     match arithmetic {
         Arithmetic::Remainders(m) => product_less_mod(u, v, w, m),
@@ -59,7 +59,7 @@ pub fn product_less(arithmetic: Arithmetic, u: u64, v: u64, w: u64) -> u64
 // A list's sum with one more place, j.
 pub fn place(arithmetic: Arithmetic, sum: u64, c: i64, j: usize, power: u64) -> u64
     requires { Usable arithmetic }
-    ensures { result ≡ (rulesOf arithmetic).place sum c j power }
+    ensures { result ≡ (rules_of arithmetic).place sum c j power }
 {
     match arithmetic {
         Arithmetic::Remainders(m) => place_mod(sum, c, power, m),
@@ -70,7 +70,7 @@ pub fn place(arithmetic: Arithmetic, sum: u64, c: i64, j: usize, power: u64) -> 
 // High and low combined by a power.
 pub fn combined(arithmetic: Arithmetic, plain: bool, power: u64, high: u64, low: u64) -> u64
     requires { Usable arithmetic }
-    ensures { result ≡ (rulesOf arithmetic).combine plain power high low }
+    ensures { result ≡ (rules_of arithmetic).combine plain power high low }
 {
     match arithmetic {
         Arithmetic::Remainders(m) => combine_mod(power, high, low, m),

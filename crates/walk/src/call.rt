@@ -1,8 +1,8 @@
 // The trial walk.
 ghost use Rattle.std.specs.Prelude.{◌≡◌};
-ghost use Rattle.walk.specs.Lent.{lentWalk};
-ghost use Rattle.walk.specs.Trial.{noTrial, trialOf};
-ghost use Rattle.walk.specs.inside.Arithmetic.{rulesOf, Usable};
+ghost use Rattle.walk.specs.Lent.{lent_walk};
+ghost use Rattle.walk.specs.Trial.{no_trial, trial_of};
+ghost use Rattle.walk.specs.inside.Arithmetic.{rules_of, Usable};
 ghost use Rattle.walk.specs.inside.Arrays.{found};
 
 use crate::arithmetic::{Arithmetic, point_of};
@@ -22,7 +22,7 @@ pub struct Trial {
 
 // A refusal.
 fn no_trial(refusal: u8) -> Trial
-    ensures { result ≡ noTrial refusal }
+    ensures { result ≡ no_trial refusal }
 {
     Trial {
         refusal: refusal,
@@ -40,7 +40,7 @@ pub fn walk_lent(
     steps: &[u16],
 ) -> Found
     requires { Usable arithmetic }
-    ensures { found result ≡ lentWalk (rulesOf arithmetic) head coefficients.now bounds.now steps.now point }
+    ensures { found result ≡ lent_walk (rules_of arithmetic) head coefficients.now bounds.now steps.now point }
 {
     let n = head.coefficients;
     let lists = head.lists;
@@ -87,7 +87,7 @@ pub fn trial_walk(
     point: i64,
     modulus: u64,
 ) -> Trial
-    ensures { result ≡ trialOf head coefficients.now bounds.now steps.now point modulus }
+    ensures { result ≡ trial_of head coefficients.now bounds.now steps.now point modulus }
 {
     if modulus < 2 {
         return no_trial(11);

@@ -1,6 +1,6 @@
 // The heaviest chain.
 ghost use Rattle.std.specs.Prelude.{◌≡◌};
-ghost use Rattle.walk.specs.Chain.{noChain, chainOf};
+ghost use Rattle.walk.specs.Chain.{no_chain, chain_of};
 
 use crate::arithmetic::Arithmetic;
 use crate::call::walk_lent;
@@ -17,7 +17,7 @@ pub struct Chain {
 
 // A refusal.
 fn no_chain(refusal: u8) -> Chain
-    ensures { result ≡ noChain refusal }
+    ensures { result ≡ no_chain refusal }
 {
     Chain {
         refusal: refusal,
@@ -34,7 +34,7 @@ pub fn heaviest_chain(
     input: usize,
     coeff: usize,
 ) -> Chain
-    ensures { result ≡ chainOf head coefficients.now bounds.now steps.now input coeff }
+    ensures { result ≡ chain_of head coefficients.now bounds.now steps.now input coeff }
 {
     if SCALE_LIMIT < input {
         return no_chain(10);

@@ -1,6 +1,6 @@
 // A lent plan: its head, and its steps of four numbers each.
 ghost use Rattle.std.specs.Prelude.{◌≡◌, ◌+◌, ◌*◌, ◌≤◌, length};
-ghost use Rattle.walk.specs.Lent.{stepAt};
+ghost use Rattle.walk.specs.Lent.{step_at};
 
 use counts::SplitStrategy;
 use number::{Basis, Interval, Parity, PolynomialInputTransform};
@@ -42,7 +42,7 @@ fn wide(n: u16) -> usize
 // Step i of a buffer.
 pub fn step_at(i: usize, steps: &[u16]) -> Step
     requires { 4 * i + 4 ≤ length steps.now }
-    ensures { result ≡ stepAt steps.now i }
+    ensures { result ≡ step_at steps.now i }
 {
     let at = 4 * i;
     Step {

@@ -1,12 +1,12 @@
 // The powers that were made: 4,096 numbers, and marks of which are there.
 ghost use Rattle.std.specs.Prelude.{◌≡◌};
 ghost use Rattle.std.proofs.Math.Option.{some};
-ghost use Rattle.number.specs.Limits.{countLimit};
-ghost use Rattle.number.specs.Split.{splitOf};
+ghost use Rattle.number.specs.Limits.{count_limit};
+ghost use Rattle.number.specs.Split.{split_of};
 ghost use Rattle.number.specs.Options.{when};
-ghost use Rattle.walk.specs.Make.{isMakeable, powerFrom, makeOf};
-ghost use Rattle.walk.specs.inside.Arithmetic.{rulesOf, Usable};
-ghost use Rattle.walk.specs.inside.Arrays.{found, powersOf, firstNumbers, firstMarks, FoundPower, FoundMark};
+ghost use Rattle.walk.specs.Make.{is_makeable, power_from, make_of};
+ghost use Rattle.walk.specs.inside.Arithmetic.{rules_of, Usable};
+ghost use Rattle.walk.specs.inside.Arrays.{found, powers_of, first_numbers, first_marks, FoundPower, FoundMark};
 
 use crate::arithmetic::{Arithmetic, one_of, product, product_less};
 use crate::limits::POWERS;
@@ -40,8 +40,8 @@ pub fn power_at(n: usize, powers: &[u64; POWERS], made: &[bool; POWERS]) -> Foun
 
 // Whether power n may be made of a and b: it is at most 4,095, and they are the parts of its split, which is handed in.
 fn is_makeable(n: usize, a: usize, b: usize, parts: Parts) -> bool
-    requires { parts ≡ splitOf n }
-    ensures { result ≡ isMakeable n a b }
+    requires { parts ≡ split_of n }
+    ensures { result ≡ is_makeable n a b }
 {
     if PLAN_LIMIT < n {
         return false;
@@ -63,7 +63,7 @@ fn power_from(
     made: &[bool; POWERS],
 ) -> Found
     requires { Usable arithmetic }
-    ensures { found result ≡ powerFrom (rulesOf arithmetic) basis (powersOf powers.now made.now) a b distance }
+    ensures { found result ≡ power_from (rules_of arithmetic) basis (powers_of powers.now made.now) a b distance }
 {
     let Found::Number(u) = power_at(a, powers, made) else {
         return Found::Missing;
@@ -93,8 +93,8 @@ pub fn make_power(
     made: &mut [bool; POWERS],
 ) -> bool
     requires { Usable arithmetic }
-    ensures { when result (some (powersOf powers.new made.new))
-        ≡ makeOf (rulesOf arithmetic) basis (powersOf powers.old made.old) n a b }
+    ensures { when result (some (powers_of powers.new made.new))
+        ≡ make_of (rules_of arithmetic) basis (powers_of powers.old made.old) n a b }
 {
     let parts = split_degree(n);
     if !is_makeable(n, a, b, parts) {
@@ -114,7 +114,7 @@ pub fn make_power(
 // Power 0 is 1, power 1 is y.
 pub fn first_powers(y: u64, arithmetic: Arithmetic) -> [u64; POWERS]
     requires { Usable arithmetic }
-    ensures { result ≡ firstNumbers countLimit (rulesOf arithmetic).one y }
+    ensures { result ≡ first_numbers count_limit (rules_of arithmetic).one y }
 {
     let mut powers = [0u64; POWERS];
     powers[0] = one_of(arithmetic);
@@ -124,7 +124,7 @@ pub fn first_powers(y: u64, arithmetic: Arithmetic) -> [u64; POWERS]
 
 // Powers 0 and 1 are there.
 pub fn first_marks() -> [bool; POWERS]
-    ensures { result ≡ firstMarks countLimit }
+    ensures { result ≡ first_marks count_limit }
 {
     let mut made = [false; POWERS];
     made[0] = true;

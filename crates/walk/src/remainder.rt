@@ -2,7 +2,7 @@
 ghost use Rattle.std.specs.Prelude.{◌≡◌, ◌-◌};
 ghost use Rattle.algebra.specs.Operations.{double};
 ghost use Rattle.algebra.specs.Remainder.{rem, remainders};
-ghost use Rattle.walk.specs.Rules.{trialRules};
+ghost use Rattle.walk.specs.Rules.{trial_rules};
 ghost use Rattle.walk.specs.inside.Modulus.{IsModulus};
 
 // The remainder of a whole number, from 0 to m - 1. Below zero it is taken of -(x + 1), which fits for every x.
@@ -49,7 +49,7 @@ pub fn twice_mod(a: u64, m: u64) -> u64
 // 2uv - w.
 pub fn product_less_mod(u: u64, v: u64, w: u64, m: u64) -> u64
     requires { IsModulus m }
-    ensures { result ≡ (trialRules m).productLess u v w }
+    ensures { result ≡ (trial_rules m).product_less u v w }
 {
     let less = opposite(w, m);
     add_mod(twice_mod(mul_mod(u, v, m), m), less, m)

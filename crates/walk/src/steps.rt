@@ -1,13 +1,13 @@
 // The steps of a plan, one after another.
 ghost use Rattle.std.specs.Prelude.{◌≡◌, ◌*◌, ◌≤◌, length};
 ghost use Rattle.walk.specs.Load.{load_of};
-ghost use Rattle.walk.specs.Combine.{combineOf};
+ghost use Rattle.walk.specs.Combine.{combine_of};
 ghost use Rattle.walk.specs.Walk.{step_of, walk_of};
-ghost use Rattle.walk.specs.Boundaries.{listAt};
-ghost use Rattle.walk.specs.Lent.{stepsFrom};
-ghost use Rattle.walk.specs.inside.Arithmetic.{rulesOf, Usable};
-ghost use Rattle.walk.specs.inside.Arrays.{found, powersOf};
-ghost use Rattle.walk.specs.inside.Waits.{waitingIn, FitsSixteen, Waits};
+ghost use Rattle.walk.specs.Boundaries.{list_at};
+ghost use Rattle.walk.specs.Lent.{steps_from};
+ghost use Rattle.walk.specs.inside.Arithmetic.{rules_of, Usable};
+ghost use Rattle.walk.specs.inside.Arrays.{found, powers_of};
+ghost use Rattle.walk.specs.inside.Waits.{waiting_in, FitsSixteen, Waits};
 ghost use Rattle.walk.specs.inside.Taken.{state_of, Taken, Runnable};
 
 use crate::arithmetic::Arithmetic;
@@ -30,8 +30,8 @@ fn load(
     made: &[bool; POWERS],
 ) -> Turn
     requires { Runnable arithmetic coefficients.now bounds.now × FitsSixteen w }
-    ensures { Waits (load_of (rulesOf arithmetic) parity (powersOf powers.now made.now)
-        (listAt coefficients.now bounds.now) (waitingIn w) i) result }
+    ensures { Waits (load_of (rules_of arithmetic) parity (powers_of powers.now made.now)
+        (list_at coefficients.now bounds.now) (waiting_in w) i) result }
 {
     if bounds.len() <= i {
         return refused(w);
@@ -53,7 +53,7 @@ fn combine(
     made: &[bool; POWERS],
 ) -> Turn
     requires { Usable arithmetic × FitsSixteen w }
-    ensures { Waits (combineOf (rulesOf arithmetic) plain (powersOf powers.now made.now) (waitingIn w) p) result }
+    ensures { Waits (combine_of (rules_of arithmetic) plain (powers_of powers.now made.now) (waiting_in w) p) result }
 {
     let Found::Number(v) = power_at(p, powers, made) else {
         return refused(w);
@@ -74,7 +74,7 @@ fn take_step(
     made: &mut [bool; POWERS],
 ) -> Turn
     requires { Runnable arithmetic coefficients.now bounds.now × FitsSixteen w }
-    ensures { Taken (step_of (rulesOf arithmetic) parity basis (listAt coefficients.now bounds.now) step
+    ensures { Taken (step_of (rules_of arithmetic) parity basis (list_at coefficients.now bounds.now) step
         (state_of powers.old made.old w)) powers.new made.new result }
 {
     let kind = step.kind;
@@ -121,8 +121,8 @@ pub fn run_steps(
     steps: &[u16],
 ) -> Found
     requires { Runnable arithmetic coefficients.now bounds.now × (4 * count ≤ length steps.now) }
-    ensures { found result ≡ walk_of (rulesOf arithmetic) parity basis (listAt coefficients.now bounds.now)
-        (stepsFrom steps.now 0 count) y }
+    ensures { found result ≡ walk_of (rules_of arithmetic) parity basis (list_at coefficients.now bounds.now)
+        (steps_from steps.now 0 count) y }
 {
     let mut powers = first_powers(y, arithmetic);
     let mut made = first_marks();

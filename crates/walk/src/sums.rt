@@ -1,9 +1,9 @@
 // The lists of a plan, and their values.
 ghost use Rattle.std.specs.Prelude.{◌≡◌, true, ◌<◌, length};
-ghost use Rattle.walk.specs.Load.{addPlace, sumFrom};
+ghost use Rattle.walk.specs.Load.{add_place, sum_from};
 ghost use Rattle.walk.specs.Boundaries.{rises, start_of, part_of};
-ghost use Rattle.walk.specs.inside.Arithmetic.{rulesOf, Usable};
-ghost use Rattle.walk.specs.inside.Arrays.{found, powersOf};
+ghost use Rattle.walk.specs.inside.Arithmetic.{rules_of, Usable};
+ghost use Rattle.walk.specs.inside.Arrays.{found, powers_of};
 
 use crate::arithmetic::{Arithmetic, place};
 use crate::limits::POWERS;
@@ -59,7 +59,7 @@ fn add_place(
     made: &[bool; POWERS],
 ) -> Found
     requires { Usable arithmetic }
-    ensures { found result ≡ addPlace (rulesOf arithmetic) parity (powersOf powers.now made.now) j sum c }
+    ensures { found result ≡ add_place (rules_of arithmetic) parity (powers_of powers.now made.now) j sum c }
 {
     if !is_allowed(parity, j) {
         return Found::Number(sum);
@@ -79,8 +79,8 @@ pub fn sum_list(
     made: &[bool; POWERS],
 ) -> Found
     requires { Usable arithmetic }
-    ensures { found result ≡ sumFrom (rulesOf arithmetic) parity (powersOf powers.now made.now) 0
-        (rulesOf arithmetic).nothing list.now }
+    ensures { found result ≡ sum_from (rules_of arithmetic) parity (powers_of powers.now made.now) 0
+        (rules_of arithmetic).nothing list.now }
 {
     let mut sum: u64 = 0;
     let mut j: usize = 0;

@@ -1,6 +1,6 @@
 // What a transform does to the point and to the value that is left.
 ghost use Rattle.std.specs.Prelude.{◌≡◌};
-ghost use Rattle.walk.specs.inside.Arithmetic.{rulesOf, Usable};
+ghost use Rattle.walk.specs.inside.Arithmetic.{rules_of, Usable};
 
 use crate::arithmetic::{Arithmetic, one_of, product, product_less};
 use number::PolynomialInputTransform;
@@ -8,7 +8,7 @@ use number::PolynomialInputTransform;
 // 2x² - 1.
 fn second_chebyshev(x: u64, arithmetic: Arithmetic) -> u64
     requires { Usable arithmetic }
-    ensures { result ≡ (rulesOf arithmetic).productLess x x (rulesOf arithmetic).one }
+    ensures { result ≡ (rules_of arithmetic).product_less x x (rules_of arithmetic).one }
 {
     product_less(arithmetic, x, x, one_of(arithmetic))
 }
@@ -16,7 +16,7 @@ fn second_chebyshev(x: u64, arithmetic: Arithmetic) -> u64
 // y is x, x² or 2x² - 1 by transform.
 pub fn input_of(transform: PolynomialInputTransform, x: u64, arithmetic: Arithmetic) -> u64
     requires { Usable arithmetic }
-    ensures { result ≡ (rulesOf arithmetic).input transform x }
+    ensures { result ≡ (rules_of arithmetic).input transform x }
 {
     match transform {
         PolynomialInputTransform::Identity => x,
@@ -30,7 +30,7 @@ pub fn input_of(transform: PolynomialInputTransform, x: u64, arithmetic: Arithme
 // A TimesInput transform multiplies the value that is left by x.
 pub fn output_of(transform: PolynomialInputTransform, x: u64, v: u64, arithmetic: Arithmetic) -> u64
     requires { Usable arithmetic }
-    ensures { result ≡ (rulesOf arithmetic).output transform x v }
+    ensures { result ≡ (rules_of arithmetic).output transform x v }
 {
     match transform {
         PolynomialInputTransform::Identity => v,

@@ -1,12 +1,12 @@
 // The waiting values.
 ghost use Rattle.std.specs.Prelude.{◌≡◌, []};
 ghost use Rattle.std.proofs.Math.Option.{none};
-ghost use Rattle.walk.specs.Load.{pushOf};
+ghost use Rattle.walk.specs.Load.{push_of};
 ghost use Rattle.walk.specs.Combine.{join_of};
-ghost use Rattle.walk.specs.Walk.{oneLeft};
-ghost use Rattle.walk.specs.inside.Arithmetic.{rulesOf, Usable};
+ghost use Rattle.walk.specs.Walk.{one_left};
+ghost use Rattle.walk.specs.inside.Arithmetic.{rules_of, Usable};
 ghost use Rattle.walk.specs.inside.Arrays.{found};
-ghost use Rattle.walk.specs.inside.Waits.{waitingIn, FitsSixteen, Waits};
+ghost use Rattle.walk.specs.inside.Waits.{waiting_in, FitsSixteen, Waits};
 
 use crate::arithmetic::{Arithmetic, combined};
 use crate::limits::WAITING;
@@ -28,7 +28,7 @@ pub struct Turn {
 
 // Nothing waits yet.
 pub fn none_waiting() -> Waiting
-    ensures { FitsSixteen result × (waitingIn result ≡ []) }
+    ensures { FitsSixteen result × (waiting_in result ≡ []) }
 {
     Waiting {
         values: [0; WAITING],
@@ -50,7 +50,7 @@ pub fn refused(w: Waiting) -> Turn
 // One more value, unless 16 wait.
 pub fn push(w: Waiting, v: u64) -> Turn
     requires { FitsSixteen w }
-    ensures { Waits (pushOf (waitingIn w) v) result }
+    ensures { Waits (push_of (waiting_in w) v) result }
 {
     let at = w.count;
     if WAITING <= at {
@@ -68,7 +68,7 @@ pub fn push(w: Waiting, v: u64) -> Turn
 // High and low taken, and what a power makes of them pushed.
 pub fn join(w: Waiting, plain: bool, power: u64, arithmetic: Arithmetic) -> Turn
     requires { FitsSixteen w × Usable arithmetic }
-    ensures { Waits (join_of (rulesOf arithmetic) plain power (waitingIn w)) result }
+    ensures { Waits (join_of (rules_of arithmetic) plain power (waiting_in w)) result }
 {
     let at = w.count;
     if at < 2 {
@@ -87,7 +87,7 @@ pub fn join(w: Waiting, plain: bool, power: u64, arithmetic: Arithmetic) -> Turn
 
 // The value that is left, if there is just one.
 pub fn one_left(w: Waiting) -> Found
-    ensures { found result ≡ oneLeft (waitingIn w) }
+    ensures { found result ≡ one_left (waiting_in w) }
 {
     let left = w.count;
     if left != 1 {

@@ -1,8 +1,8 @@
 -- What the functions that take a block's bytes say to one another.
 use Rattle.std.specs.Prelude.{◌≡◌, Bool, true, cond, List, [], ◌∷◌, ◌++◌, ℕ, ◌+◌, ◌-◌, ◌<◌, ◌≤◌, length, get_or, take, drop}
-use Rattle.lines.specs.Bytes.{lineFeed}
-use Rattle.answers.specs.Answer.{answerText}
-use Rattle.answers.specs.InputLines.{noFeed}
+use Rattle.lines.specs.Bytes.{line_feed}
+use Rattle.answers.specs.Answer.{answer_text}
+use Rattle.answers.specs.InputLines.{no_feed}
 use Rattle.answers.specs.Turns.{held_of}
 use Rattle.answers.specs.declared.hold.Piece.{Piece}
 
@@ -14,8 +14,8 @@ between from to block = take (to - from) (drop from block)
 pub record FeedFrom (block : List ℕ) (at r : ℕ) : Type 0 where
   pub onward : at ≤ r
   pub within : r ≤ length block
-  pub free : noFeed (between at r block) ≡ true
-  pub feed : r < length block → get_or block r 0 ≡ lineFeed
+  pub free : no_feed (between at r block) ≡ true
+  pub feed : r < length block → get_or block r 0 ≡ line_feed
 
 -- bytes behind those that were held, as many as the buffer has places for
 pub record Held (line : List ℕ) (held : ℕ) (bytes line' : List ℕ) (r : ℕ) : Type 0 where
@@ -25,16 +25,16 @@ pub record Held (line : List ℕ) (held : ℕ) (bytes line' : List ℕ) (r : ℕ
 -- the bytes of a block from a place on up to its first line feed, held with those that were held
 pub record Taken (block : List ℕ) (at : ℕ) (line : List ℕ) (held : ℕ) (line' : List ℕ) (r : Piece) : Type 0 where
   pub bytes : List ℕ
-  pub free : noFeed bytes ≡ true
-  pub part : between at r.next block ≡ cond r.whole (bytes ++ (lineFeed ∷ [])) bytes
+  pub free : no_feed bytes ≡ true
+  pub part : between at r.next block ≡ cond r.whole (bytes ++ (line_feed ∷ [])) bytes
   pub onward : at < length block → at < r.next
-  pub next-within : r.next ≤ length block
-  pub held-within : r.held ≤ length line
+  pub next_within : r.next ≤ length block
+  pub held_within : r.held ≤ length line
   pub text : take r.held line' ≡ held_of (take held line ++ bytes)
 
 -- what a piece makes be written, and how much of the line is held behind it
-abbrev pub pieceText : Piece → (line : List ℕ) → List ℕ
-pieceText piece line = cond piece.whole (answerText (take piece.held line)) []
+abbrev pub piece_text : Piece → (line : List ℕ) → List ℕ
+piece_text piece line = cond piece.whole (answer_text (take piece.held line)) []
 
-abbrev pub heldAfter : Piece → ℕ
-heldAfter piece = cond piece.whole 0 piece.held
+abbrev pub held_after : Piece → ℕ
+held_after piece = cond piece.whole 0 piece.held

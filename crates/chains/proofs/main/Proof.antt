@@ -5,34 +5,34 @@ use native.Mathlib.Omega.{arith}
 use borrow.Author.Rules.{rules}
 use lib.ListN.{length}
 use lib.Seq.{length-take-le}
-use Rattle.texts.proofs.PutLaws.{put-length}
+use Rattle.texts.proofs.PutLaws.{put_length}
 use Rattle.chains.proofs.main.Statement.{statement}
 use Rattle.chains.proofs.main.Tie as tie
 
 -- the lines end within the buffer
-within : (k : tie.After-put-chains) → k.put-chains.result ≤ length k.put-chains.new.0
-within k = let put = k.put-chains.ensures in omega (arith, put.1, put-length put.0, k.before.before.text-buffer.ensures)
+within : (k : tie.After-put-chains) → k.put_chains.result ≤ length k.put_chains.new.0
+within k = let put = k.put_chains.ensures in omega (arith, put.1, put_length put.0, k.before.before.text_buffer.ensures)
 
-text-buffer-requires : tie.Need-text-buffer-requires
-text-buffer-requires c κs = search rules
+text_buffer_requires : tie.Need-text-buffer-requires
+text_buffer_requires c κs = search rules
 
-slice-aggregate-put-chains : tie.Need-slice-aggregate-put-chains
-slice-aggregate-put-chains c = search rules
+slice_aggregate_put_chains : tie.Need-slice-aggregate-put-chains
+slice_aggregate_put_chains c = search rules
 
-put-chains-requires : tie.Need-put-chains-requires
-put-chains-requires c κs = search rules
+put_chains_requires : tie.Need-put-chains-requires
+put_chains_requires c κs = search rules
 
-array-share-prefix-text : tie.Need-array-share-prefix-text
-array-share-prefix-text c = within c.before
+array_share_prefix_text : tie.Need-array-share-prefix-text
+array_share_prefix_text c = within c.before
 
-slice-aggregate-write-text : tie.Need-slice-aggregate-write-text
-slice-aggregate-write-text c = sym (length-take-le _ _ (within c.before.before))
+slice_aggregate_write_text : tie.Need-slice-aggregate-write-text
+slice_aggregate_write_text c = sym (length-take-le _ _ (within c.before.before))
 
-slice-aggregate-write-text-2 : tie.Need-slice-aggregate-write-text-2
-slice-aggregate-write-text-2 c = search rules
+slice_aggregate_write_text_2 : tie.Need-slice-aggregate-write-text-2
+slice_aggregate_write_text_2 c = search rules
 
-write-text-requires : tie.Need-write-text-requires
-write-text-requires c κs = search rules
+write_text_requires : tie.Need-write-text-requires
+write_text_requires c κs = search rules
 
 returns : tie.Need-returns
 returns c = search rules
@@ -41,11 +41,11 @@ pub main_spec : {M : Type 1} → statement M
 main_spec =
     tie.close
     (tie.spec
-    text-buffer-requires
-    slice-aggregate-put-chains
-    put-chains-requires
-    array-share-prefix-text
-    slice-aggregate-write-text
-    slice-aggregate-write-text-2
-    write-text-requires
+    text_buffer_requires
+    slice_aggregate_put_chains
+    put_chains_requires
+    array_share_prefix_text
+    slice_aggregate_write_text
+    slice_aggregate_write_text_2
+    write_text_requires
     returns)

@@ -18,5 +18,5 @@ pub record BetterOf (one other r : Best) : Type 0 where
   pub second : AsGood r other
 
 -- a split with its pair
-abbrev pub withPair : (pairs : ℕ → Pair) → (split : ℕ) → Best
-withPair pairs split = record { split = split; pair = pairs split }
+abbrev pub with_pair : (pairs : ℕ → Pair) → (split : ℕ) → Best
+with_pair pairs split = record { split = split; pair = pairs split }

@@ -5,14 +5,14 @@ use mathlib.Core.List.{List, ◌++◌}
 use Prim.Native.Nat.{◌-◌}
 use lib.ListN.{length, take, drop, replicate}
 use lib.Ieee.{Float, nan}
-use Rattle.number.specs.Numbers.{floatOps}
+use Rattle.number.specs.Numbers.{float_ops}
 use Rattle.number.proofs.Literals.{zero_is}
-use Rattle.algebra.proofs.Filling.{place-step, place_end}
+use Rattle.algebra.proofs.Filling.{place_step, place_end}
 use Rattle.interpolation.proofs.clear.Statement.{statement}
 use Rattle.interpolation.proofs.clear.Tie as tie
 
 abbrev cleared : List Float → List Float
-cleared sums = replicate (length sums) floatOps.zero
+cleared sums = replicate (length sums) float_ops.zero
 
 abbrev invariant-loop : tie.invariant-loop
 invariant-loop sums₀ i₀ sums i = (length sums ≡ length sums₀) × (take i sums ++ cleared (drop i sums) ≡ cleared sums₀)
@@ -20,25 +20,25 @@ invariant-loop sums₀ i₀ sums i = (length sums ≡ length sums₀) × (take i
 abbrev decreases-loop : tie.decreases-loop
 decreases-loop sums₀ i₀ sums i = length sums₀ - i
 
-loop-holds : tie.Need-loop-init invariant-loop decreases-loop
-loop-holds c = (refl, refl)
+loop_holds : tie.Need-loop-init invariant-loop decreases-loop
+loop_holds c = (refl, refl)
 
-mul-sums : tie.Need-overflow-mul-sums invariant-loop decreases-loop
-mul-sums c = search rules
+mul_sums : tie.Need-overflow-mul-sums invariant-loop decreases-loop
+mul_sums c = search rules
 
-slice-write-sums : tie.Need-slice-write-sums invariant-loop decreases-loop
-slice-write-sums c = search rules
+slice_write_sums : tie.Need-slice-write-sums invariant-loop decreases-loop
+slice_write_sums c = search rules
 
-add-i : tie.Need-overflow-add-i invariant-loop decreases-loop
-add-i c = search rules
+add_i : tie.Need-overflow-add-i invariant-loop decreases-loop
+add_i c = search rules
 
-loop-less : tie.Need-loop-smaller invariant-loop decreases-loop
-loop-less c = search rules
+loop_less : tie.Need-loop-smaller invariant-loop decreases-loop
+loop_less c = search rules
 
-loop-again : tie.Need-loop-preserved invariant-loop decreases-loop
-loop-again c =
+loop_again : tie.Need-loop-preserved invariant-loop decreases-loop
+loop_again c =
     let turn = c.before in
-    (search rules, rw zero_is (place-step cleared cleared turn.loop.sums turn.loop.i _ nan (search rules) refl ∙ turn.loop.invariant.1))
+    (search rules, rw zero_is (place_step cleared cleared turn.loop.sums turn.loop.i _ nan (search rules) refl ∙ turn.loop.invariant.1))
 
 same_length : tie.Need-same-length invariant-loop decreases-loop
 same_length c = search rules
@@ -54,11 +54,11 @@ clear_spec =
     (tie.spec
     invariant-loop
     decreases-loop
-    loop-holds
-    mul-sums
-    slice-write-sums
-    add-i
-    loop-less
-    loop-again
+    loop_holds
+    mul_sums
+    slice_write_sums
+    add_i
+    loop_less
+    loop_again
     same_length
     returns)

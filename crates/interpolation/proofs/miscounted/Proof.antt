@@ -12,10 +12,10 @@ returns-2 c =
     let start = c.before.before in
     rw (eq-eqb start.args.nodes start.args.values c.before.if1.false, eq-eqb start.args.nodes 0 c.if2.true)
 
-returns-3 : tie.Need-returns-3
-returns-3 c =
+returns_3 : tie.Need-returns-3
+returns_3 c =
     let start = c.before.before in
     rw (eq-eqb start.args.nodes start.args.values c.before.if1.false, ne_eqb start.args.nodes 0 c.if2.false)
 
-pub miscounted-spec : {M : Type 1} → statement M
-miscounted-spec = tie.close (tie.spec returns returns-2 returns-3)
+pub miscounted_spec : {M : Type 1} → statement M
+miscounted_spec = tie.close (tie.spec returns returns-2 returns_3)

@@ -3,7 +3,7 @@ use Rattle.std.specs.Prelude.{List, [], ◌∷◌, ℕ, zero, suc}
 use Rattle.lines.specs.Fields.{fields}
 
 -- the fields from the n-th byte on; none behind the line's end
-unfoldable pub fieldsFrom : (n : ℕ) → List ℕ → List (List ℕ)
-fieldsFrom zero bs = fields bs
-fieldsFrom (suc n) [] = []
-fieldsFrom (suc n) (b ∷ bs) = fieldsFrom n bs
+unfoldable pub fields_from : (n : ℕ) → List ℕ → List (List ℕ)
+fields_from zero bs = fields bs
+fields_from (suc n) [] = []
+fields_from (suc n) (b ∷ bs) = fields_from n bs

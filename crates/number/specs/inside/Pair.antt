@@ -4,12 +4,12 @@ use Rattle.algebra.specs.Operations.{Operations, double}
 
 module _ {A : Type 0} (𝓞 : Operations A) (d : A) where
   -- the coefficient at low loses the one at high, which doubles
-  unfoldable pub cutOne : List A → ℕ → ℕ → List A
-  cutOne c low high = set (set c low (𝓞.sub (get_or c low d) (get_or c high d))) high (double 𝓞 (get_or c high d))
+  unfoldable pub cut_one : List A → ℕ → ℕ → List A
+  cut_one c low high = set (set c low (𝓞.sub (get_or c low d) (get_or c high d))) high (double 𝓞 (get_or c high d))
 
   -- then the next pair outwards as well
-  unfoldable pub cutTwo : List A → ℕ → ℕ → List A
-  cutTwo c low high = cutOne (cutOne c low high) (low - 1) (high + 1)
+  unfoldable pub cut_two : List A → ℕ → ℕ → List A
+  cut_two c low high = cut_one (cut_one c low high) (low - 1) (high + 1)
 
 -- both numbers of a pair are at most 2^52
 pub record PairTo52 (c : List ℤ) (low high : ℕ) : Type 0 where

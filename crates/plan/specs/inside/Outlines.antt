@@ -3,43 +3,43 @@
 use Rattle.std.specs.Prelude.{ℕ, suc, ◌-◌, ◌*◌, ◌^◌, Bool}
 use Rattle.algebra.specs.declared.Basis.{Basis}
 use Rattle.algebra.specs.declared.Parity.{Parity}
-use Rattle.number.specs.Bits.{bitLen}
-use Rattle.needed.specs.NeededList.{neededCount}
-use Rattle.counts.specs.Choice.{splitFor}
-use Rattle.counts.specs.PlainCount.{allowedTo}
+use Rattle.number.specs.Bits.{bit_len}
+use Rattle.needed.specs.NeededList.{needed_count}
+use Rattle.counts.specs.Choice.{split_for}
+use Rattle.counts.specs.PlainCount.{allowed_to}
 use Rattle.counts.specs.declared.choice.SplitStrategy.{SplitStrategy}
 use Rattle.lists.specs.Tree.{Tree, tree_of, relists}
-use Rattle.lists.specs.Arrange.{leavesOf, lengthsOf}
-use Rattle.plan.specs.PlanSteps.{lastLength, lastPlain}
-use Rattle.plan.specs.Reported.{allowedIn}
-use Rattle.plan.specs.PlanSizes.{stepCount}
+use Rattle.lists.specs.Arrange.{leaves_of, lengths_of}
+use Rattle.plan.specs.PlanSteps.{last_length, last_plain}
+use Rattle.plan.specs.Reported.{allowed_in}
+use Rattle.plan.specs.PlanSizes.{step_count}
 use Rattle.plan.specs.declared.outline.Totals.{Totals}
 use Rattle.plan.specs.declared.outline.Outline.{Outline}
 
 -- the lists that a tree makes of n coefficients: how many, the allowed powers from 1 up over all of them, and the length of the last
-unfoldable pub totalsOf : Parity → Tree → (n : ℕ) → Totals
-totalsOf parity tree n = record { lists = leavesOf tree; pt = allowedIn parity (lengthsOf tree n); last = lastLength tree n }
+unfoldable pub totals_of : Parity → Tree → (n : ℕ) → Totals
+totals_of parity tree n = record { lists = leaves_of tree; pt = allowed_in parity (lengths_of tree n); last = last_length tree n }
 
 -- those of the low part of a degree from the base on: it is cut in halves down to the base, so each list is as long as the base
-unfoldable pub lowTotals : Parity → (degree split : ℕ) → Totals
-lowTotals parity degree split = record {
-  lists = 2 ^ (bitLen degree - 1 - split);
-  pt = 2 ^ (bitLen degree - 1 - split) * allowedTo parity (2 ^ split - 1);
+unfoldable pub low_totals : Parity → (degree split : ℕ) → Totals
+low_totals parity degree split = record {
+  lists = 2 ^ (bit_len degree - 1 - split);
+  pt = 2 ^ (bit_len degree - 1 - split) * allowed_to parity (2 ^ split - 1);
   last = 2 ^ split;
 }
 
 -- of a degree at a split: the split, the rule of kind 4, the number of needed powers, the allowed powers over all lists, and the sizes
-abbrev pub outlineAt : (leading : Bool) → Parity → Basis → (degree split : ℕ) → Outline
-outlineAt leading parity basis degree split = record {
+abbrev pub outline_at : (leading : Bool) → Parity → Basis → (degree split : ℕ) → Outline
+outline_at leading parity basis degree split = record {
   split = split;
-  plain = lastPlain degree (tree_of leading degree degree split);
-  powers = neededCount parity basis degree split;
-  pt = allowedIn parity (lengthsOf (tree_of leading degree degree split) (suc degree));
+  plain = last_plain degree (tree_of leading degree degree split);
+  powers = needed_count parity basis degree split;
+  pt = allowed_in parity (lengths_of (tree_of leading degree degree split) (suc degree));
   coefficients = suc degree;
-  lists = leavesOf (tree_of leading degree degree split);
-  steps = stepCount (neededCount parity basis degree split) (leavesOf (tree_of leading degree degree split));
+  lists = leaves_of (tree_of leading degree degree split);
+  steps = step_count (needed_count parity basis degree split) (leaves_of (tree_of leading degree degree split));
 }
 
 -- by a strategy
-abbrev pub outlineFor : SplitStrategy → Parity → Basis → (degree : ℕ) → Outline
-outlineFor strategy parity basis degree = outlineAt (relists strategy) parity basis degree (splitFor strategy parity basis degree)
+abbrev pub outline_for : SplitStrategy → Parity → Basis → (degree : ℕ) → Outline
+outline_for strategy parity basis degree = outline_at (relists strategy) parity basis degree (split_for strategy parity basis degree)

@@ -3,46 +3,46 @@ use Rattle.std.specs.Prelude.{◌≡◌, Bool, true, cond, List, [], ◌∷◌, 
 use Rattle.std.proofs.lemmas.List.Edits.{sets}
 use Rattle.algebra.specs.declared.Basis.{Basis}
 use Rattle.algebra.specs.declared.Parity.{Parity}
-use Rattle.number.specs.Limits.{planLimit, countLimit}
-use Rattle.needed.specs.NeededList.{neededCount}
+use Rattle.number.specs.Limits.{plan_limit, count_limit}
+use Rattle.needed.specs.NeededList.{needed_count}
 use Rattle.needed.specs.inside.Planned.{Planned}
-use Rattle.needed.specs.inside.Marks.{twoPowers}
+use Rattle.needed.specs.inside.Marks.{two_powers}
 use Rattle.lists.specs.Tree.{Tree, tree_of}
-use Rattle.lists.specs.Arrange.{leavesOf}
+use Rattle.lists.specs.Arrange.{leaves_of}
 use Rattle.lists.specs.inside.Listing.{Ranges}
 use Rattle.walk.specs.WalksHeld.{flat}
-use Rattle.plan.specs.PlanSteps.{makeStep, powerSteps, lastPlain, treeSteps, stepsAt}
+use Rattle.plan.specs.PlanSteps.{make_step, power_steps, last_plain, tree_steps, steps_at}
 use Rattle.plan.specs.declared.tree.Place.{Place}
 
 -- step i has its four places, and a u16 holds its numbers
 pub record StepFits (i kind x y z : ℕ) (steps : List ℕ) : Type 0 where
   pub places : 4 * i + 4 ≤ length steps
-  pub kind-limit : kind ≤ 4
-  pub x-limit : x ≤ countLimit
-  pub y-limit : y ≤ countLimit
-  pub z-limit : z ≤ countLimit
+  pub kind_limit : kind ≤ 4
+  pub x_limit : x ≤ count_limit
+  pub y_limit : y ≤ count_limit
+  pub z_limit : z ≤ count_limit
 
 -- ---- the power steps
 
 -- a power that is marked has parts, and its step has its places
 pub record PowerFits (marked : Bool) (n step : ℕ) (steps : List ℕ) : Type 0 where
-  pub limit : n ≤ planLimit
-  pub from-two : marked ≡ true → 2 ≤ n
+  pub limit : n ≤ plan_limit
+  pub from_two : marked ≡ true → 2 ≤ n
   pub places : 4 * (step + cond marked 1 0) ≤ length steps
 
 -- the numbers of a mark at n: those of one step, or none
-abbrev pub markNumbers : (marked : Bool) (n : ℕ) → List ℕ
-markNumbers marked n = cond marked (flat (makeStep n ∷ [])) []
+abbrev pub mark_numbers : (marked : Bool) (n : ℕ) → List ℕ
+mark_numbers marked n = cond marked (flat (make_step n ∷ [])) []
 
 -- they stand from step `step` on, and r is the next step
 pub record PowerPut (marked : Bool) (n step : ℕ) (steps : List ℕ) (r : ℕ) (steps' : List ℕ) : Type 0 where
-  pub numbers : steps' ≡ sets steps (4 * step) (markNumbers marked n)
+  pub numbers : steps' ≡ sets steps (4 * step) (mark_numbers marked n)
   pub next : r ≡ step + cond marked 1 0
 
 -- all power steps stand from the first place on, and r is their number
 pub record PowersPut (parity : Parity) (basis : Basis) (degree split : ℕ) (steps : List ℕ) (r : ℕ) (steps' : List ℕ) : Type 0 where
-  pub numbers : steps' ≡ sets steps 0 (flat (powerSteps parity basis degree split))
-  pub next : r ≡ neededCount parity basis degree split
+  pub numbers : steps' ≡ sets steps 0 (flat (power_steps parity basis degree split))
+  pub next : r ≡ needed_count parity basis degree split
 
 -- the powers of two from 2^split on, of at most so many binary digits: their steps have their places
 pub record TwoPowersFit (split digits step : ℕ) (steps : List ℕ) : Type 0 where
@@ -52,7 +52,7 @@ pub record TwoPowersFit (split digits step : ℕ) (steps : List ℕ) : Type 0 wh
 
 -- they stand from step `step` on, and r is the next step
 pub record TwoPowersPut (split digits step : ℕ) (steps : List ℕ) (r : ℕ) (steps' : List ℕ) : Type 0 where
-  pub numbers : steps' ≡ sets steps (4 * step) (flat (map makeStep (twoPowers split (digits - split))))
+  pub numbers : steps' ≡ sets steps (4 * step) (flat (map make_step (two_powers split (digits - split))))
   pub next : r ≡ step + (digits - split)
 
 -- ---- the loads and combines
@@ -61,19 +61,19 @@ pub record TwoPowersPut (split digits step : ℕ) (steps : List ℕ) (r : ℕ) (
 -- there are twice the lists less one
 pub record TreeFits (leading : Bool) (whole degree split list step : ℕ) (steps : List ℕ) : Type 0 where
   pub ranges : Ranges whole degree split
-  pub list-limit : list + leavesOf (tree_of leading whole degree split) ≤ countLimit
-  pub places : 4 * (step + (leavesOf (tree_of leading whole degree split) + leavesOf (tree_of leading whole degree split))) ≤ length steps + 4
+  pub list_limit : list + leaves_of (tree_of leading whole degree split) ≤ count_limit
+  pub places : 4 * (step + (leaves_of (tree_of leading whole degree split) + leaves_of (tree_of leading whole degree split))) ≤ length steps + 4
 
 -- they stand from step `step` on, and r holds the next list and the next step
 pub record TreePut (plain : Bool) (tree : Tree) (list step : ℕ) (steps : List ℕ) (r : Place) (steps' : List ℕ) : Type 0 where
-  pub numbers : steps' ≡ sets steps (4 * step) (flat (treeSteps plain tree list))
-  pub next-list : r.list ≡ list + leavesOf tree
-  pub next-step : r.step + 1 ≡ step + (leavesOf tree + leavesOf tree)
+  pub numbers : steps' ≡ sets steps (4 * step) (flat (tree_steps plain tree list))
+  pub next_list : r.list ≡ list + leaves_of tree
+  pub next_step : r.step + 1 ≡ step + (leaves_of tree + leaves_of tree)
 
 -- ---- all steps
 
 -- the rule of kind 4 is worked out, and there are four places a step
 pub record StepsFit (leading plain : Bool) (parity : Parity) (basis : Basis) (degree split : ℕ) (steps : List ℕ) : Type 0 where
   pub planned : Planned degree split
-  pub plain-is : plain ≡ lastPlain degree (tree_of leading degree degree split)
-  pub places : 4 * length (stepsAt leading parity basis degree split) ≤ length steps
+  pub plain_is : plain ≡ last_plain degree (tree_of leading degree degree split)
+  pub places : 4 * length (steps_at leading parity basis degree split) ≤ length steps

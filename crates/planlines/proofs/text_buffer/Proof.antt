@@ -8,5 +8,5 @@ use Rattle.planlines.proofs.text_buffer.Tie as tie
 returns : tie.Need-returns
 returns c = sym (length-replicate {A = ℕ} 1048576 0)
 
-pub text-buffer-spec : {M : Type 1} → statement M
-text-buffer-spec = tie.close (tie.spec returns)
+pub text_buffer_spec : {M : Type 1} → statement M
+text_buffer_spec = tie.close (tie.spec returns)

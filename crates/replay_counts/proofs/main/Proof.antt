@@ -10,38 +10,38 @@ invariant-loop text₀ lines₀ tally₀ turns₀ text lines tally turns = Unit 
 abbrev decreases-loop : tie.decreases-loop
 decreases-loop text₀ lines₀ tally₀ turns₀ text lines tally turns = turns
 
-opened-requires : tie.Need-opened-requires invariant-loop decreases-loop
-opened-requires c κs = search rules
+opened_requires : tie.Need-opened-requires invariant-loop decreases-loop
+opened_requires c κs = search rules
 
-started-requires : tie.Need-started-requires invariant-loop decreases-loop
-started-requires c κs = search rules
+started_requires : tie.Need-started-requires invariant-loop decreases-loop
+started_requires c κs = search rules
 
-loop-holds : tie.Need-loop-init invariant-loop decreases-loop
-loop-holds c = search rules
+loop_holds : tie.Need-loop-init invariant-loop decreases-loop
+loop_holds c = search rules
 
-next-line-requires : tie.Need-next-line-requires invariant-loop decreases-loop
-next-line-requires c κs = search rules
+next_line_requires : tie.Need-next-line-requires invariant-loop decreases-loop
+next_line_requires c κs = search rules
 
-line-of-requires : tie.Need-line-of-requires invariant-loop decreases-loop
-line-of-requires c κs = search rules
+line_of_requires : tie.Need-line-of-requires invariant-loop decreases-loop
+line_of_requires c κs = search rules
 
 agrees-requires : tie.Need-agrees-requires invariant-loop decreases-loop
 agrees-requires c κs = search rules
 
-counted-requires : tie.Need-counted-requires invariant-loop decreases-loop
-counted-requires c κs = search rules
+counted_requires : tie.Need-counted-requires invariant-loop decreases-loop
+counted_requires c κs = search rules
 
-sub-turns : tie.Need-overflow-sub-turns invariant-loop decreases-loop
-sub-turns c = search rules
+sub_turns : tie.Need-overflow-sub-turns invariant-loop decreases-loop
+sub_turns c = search rules
 
-loop-less : tie.Need-loop-smaller invariant-loop decreases-loop
-loop-less c = search rules
+loop_less : tie.Need-loop-smaller invariant-loop decreases-loop
+loop_less c = search rules
 
-loop-again : tie.Need-loop-preserved invariant-loop decreases-loop
-loop-again c = search rules
+loop_again : tie.Need-loop-preserved invariant-loop decreases-loop
+loop_again c = search rules
 
-print-tally-requires : tie.Need-print-tally-requires invariant-loop decreases-loop
-print-tally-requires c κs = search rules
+print_tally_requires : tie.Need-print-tally-requires invariant-loop decreases-loop
+print_tally_requires c κs = search rules
 
 returns : tie.Need-returns invariant-loop decreases-loop
 returns c = search rules
@@ -52,15 +52,15 @@ main_spec =
     (tie.spec
     invariant-loop
     decreases-loop
-    opened-requires
-    started-requires
-    loop-holds
-    next-line-requires
-    line-of-requires
+    opened_requires
+    started_requires
+    loop_holds
+    next_line_requires
+    line_of_requires
     agrees-requires
-    counted-requires
-    sub-turns
-    loop-less
-    loop-again
-    print-tally-requires
+    counted_requires
+    sub_turns
+    loop_less
+    loop_again
+    print_tally_requires
     returns)

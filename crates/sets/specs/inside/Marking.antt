@@ -1,27 +1,27 @@
 -- The common powers worked out as marks (docs/RULES.md, "Sets of curves").
 use Rattle.std.specs.Prelude.{◌≡◌, ◌⊎◌, ◌↔◌, Bool, true, List, [], ◌∷◌, ℕ, ◌≤◌, ◌<◌, length, take}
 use Rattle.algebra.specs.declared.Parity.{Parity}
-use Rattle.number.specs.Limits.{countLimit}
+use Rattle.number.specs.Limits.{count_limit}
 use Rattle.needed.specs.Needed.{Target}
-use Rattle.needed.specs.NeededList.{isTarget}
-use Rattle.needed.specs.inside.Marks.{Marked, markedFrom}
+use Rattle.needed.specs.NeededList.{is_target}
+use Rattle.needed.specs.inside.Marks.{Marked, marked_from}
 use Rattle.walk.specs.declared.plan.Head.{Head}
-use Rattle.sets.specs.Own.{ownSplit}
-use Rattle.sets.specs.SetPlan.{setPowers}
+use Rattle.sets.specs.Own.{own_split}
+use Rattle.sets.specs.SetPlan.{set_powers}
 use Rattle.sets.specs.inside.Heads.{HeadsFit}
 
 -- the powers below n that are needed at once are marked too, and nothing else
 pub record PlacesAdded (parity : Parity) (top limit n : ℕ) (marks marks' : List Bool) : Type 0 where
-  pub size : length marks' ≡ countLimit
-  pub marked : (m : ℕ) → Marked marks' m ↔ (Marked marks m ⊎ ((m < n) × (isTarget parity top limit m ≡ true)))
+  pub size : length marks' ≡ count_limit
+  pub marked : (m : ℕ) → Marked marks' m ↔ (Marked marks m ⊎ ((m < n) × (is_target parity top limit m ≡ true)))
 
 -- a member needs power n at once
 abbrev pub OwnTarget : Head → (n : ℕ) → Type 0
-OwnTarget head n = Target head.parity head.degree (ownSplit head) n
+OwnTarget head n = Target head.parity head.degree (own_split head) n
 
 -- the powers that a member needs at once are marked too, and nothing else
 pub record TargetsAdded (head : Head) (marks marks' : List Bool) : Type 0 where
-  pub size : length marks' ≡ countLimit
+  pub size : length marks' ≡ count_limit
   pub marked : (n : ℕ) → Marked marks' n ↔ (Marked marks n ⊎ OwnTarget head n)
 
 -- one of some members needs power n at once
@@ -31,16 +31,16 @@ TargetIn (head ∷ heads) n = OwnTarget head n ⊎ TargetIn heads n
 
 -- the powers that one of the first i members needs at once are marked, and nothing else
 pub record TargetsUpto (heads : List Head) (i : ℕ) (marks : List Bool) : Type 0 where
-  pub size : length marks ≡ countLimit
+  pub size : length marks ≡ count_limit
   pub marked : (n : ℕ) → Marked marks n ↔ TargetIn (take i heads) n
 
 -- the marked places are the common powers of the first `count` heads
 pub record Common (heads : List Head) (count : ℕ) (marks : List Bool) : Type 0 where
-  pub size : length marks ≡ countLimit
-  pub powers : markedFrom 0 marks ≡ setPowers (take count heads)
+  pub size : length marks ≡ count_limit
+  pub powers : marked_from 0 marks ≡ set_powers (take count heads)
 
 -- they are counted
 pub record PowersCounted (heads : List Head) (count powers : ℕ) : Type 0 where
-  pub heads-fit : HeadsFit heads count
-  pub powers-are : powers ≡ length (setPowers (take count heads))
-  pub powers-most : powers ≤ countLimit
+  pub heads_fit : HeadsFit heads count
+  pub powers_are : powers ≡ length (set_powers (take count heads))
+  pub powers_most : powers ≤ count_limit

@@ -5,15 +5,15 @@ use Rattle.number.specs.Options.{when}
 use Rattle.walk.specs.State.{State}
 use Rattle.walk.specs.Boundaries.{rises}
 use Rattle.walk.specs.inside.Arithmetic.{Usable}
-use Rattle.walk.specs.inside.Arrays.{powersOf}
-use Rattle.walk.specs.inside.Waits.{waitingIn, FitsSixteen}
+use Rattle.walk.specs.inside.Arrays.{powers_of}
+use Rattle.walk.specs.inside.Waits.{waiting_in, FitsSixteen}
 use Rattle.walk.specs.declared.arithmetic.Arithmetic.{Arithmetic}
 use Rattle.walk.specs.declared.waiting.Waiting.{Waiting}
 use Rattle.walk.specs.declared.waiting.Turn.{Turn}
 
 -- the state that arrays and waiting values hold
 abbrev pub state_of : List ℕ → List Bool → Waiting → State ℕ
-state_of powers made w = record { powers = powersOf powers made; waiting = waitingIn w }
+state_of powers made w = record { powers = powers_of powers made; waiting = waiting_in w }
 
 -- the state after a step that may be refused
 pub record Taken (wanted : Option (State ℕ)) (powers : List ℕ) (made : List Bool) (r : Turn) : Type 0 where

@@ -4,12 +4,12 @@ use Rattle.std.specs.Prelude.{ℕ, ◌+◌, max, min}
 use Rattle.walk.specs.MadeRules.{Making}
 
 -- the greatest number of 64 bits
-abbrev pub weightLimit : ℕ
-weightLimit = 18446744073709551615
+abbrev pub weight_limit : ℕ
+weight_limit = 18446744073709551615
 
 -- a weight as 64 bits hold it
 abbrev pub capped : ℕ → ℕ
-capped w = min w weightLimit
+capped w = min w weight_limit
 
-abbrev pub weightMaking : Making ℕ
-weightMaking = record { given = 0; product = λ scale a b. capped (max a b + scale); sum = λ a b. max a b }
+abbrev pub weight_making : Making ℕ
+weight_making = record { given = 0; product = λ scale a b. capped (max a b + scale); sum = λ a b. max a b }

@@ -3,22 +3,22 @@
 use mathlib.Core.Path.{ap, ◌∙◌}
 use borrow.Author.Rules.{rules}
 use Rattle.texts.proofs.PutLaws.{put_same}
-use Rattle.answers.specs.inside.TextFor.{textFor}
-use Rattle.answers.proofs.AnswerLaws.{line_refused, line-said}
+use Rattle.answers.specs.inside.TextFor.{text_for}
+use Rattle.answers.proofs.AnswerLaws.{line_refused, line_said}
 use Rattle.answers.proofs.answer.put_answer.Statement.{statement}
 use Rattle.answers.proofs.answer.put_answer.Tie as tie
 
-read-line-requires : tie.Need-read-line-requires
-read-line-requires c κs = search rules
+read_line_requires : tie.Need-read-line-requires
+read_line_requires c κs = search rules
 
-put-refusal-requires : tie.Need-put-refusal-requires
-put-refusal-requires c κs = search rules
+put_refusal_requires : tie.Need-put-refusal-requires
+put_refusal_requires c κs = search rules
 
 same_length : tie.Need-same-length
 same_length c = search rules
 
-same-length-2 : tie.Need-same-length-2
-same-length-2 c = search rules
+same_length_2 : tie.Need-same-length-2
+same_length_2 c = search rules
 
 returns : tie.Need-returns
 returns c =
@@ -26,28 +26,28 @@ returns c =
     let test = put.before.before in
     let read = test.before.before in
     let start = read.before.before.before.before.before.before in
-    put_same put.put-refusal.ensures (line_refused start.requires.coefficient-room read.read-line.ensures test.if1.true)
+    put_same put.put_refusal.ensures (line_refused start.requires.coefficient_room_lem read.read_line.ensures test.if1.true)
 
-part-between-requires : tie.Need-part-between-requires
-part-between-requires c κs = search rules
+part_between_requires : tie.Need-part-between-requires
+part_between_requires c κs = search rules
 
-put-planned-requires : tie.Need-put-planned-requires
-put-planned-requires c κs = search rules
+put_planned_requires : tie.Need-put-planned-requires
+put_planned_requires c κs = search rules
 
-same-length-3 : tie.Need-same-length-3
-same-length-3 c = search rules
+same_length_3 : tie.Need-same-length-3
+same_length_3 c = search rules
 
-same-length-4 : tie.Need-same-length-4
-same-length-4 c = search rules
+same_length_4 : tie.Need-same-length-4
+same_length_4 c = search rules
 
-same-length-5 : tie.Need-same-length-5
-same-length-5 c = search rules
+same_length_5 : tie.Need-same-length-5
+same_length_5 c = search rules
 
-same-length-6 : tie.Need-same-length-6
-same-length-6 c = search rules
+same_length_6 : tie.Need-same-length-6
+same_length_6 c = search rules
 
-same-length-7 : tie.Need-same-length-7
-same-length-7 c = search rules
+same_length_7 : tie.Need-same-length-7
+same_length_7 c = search rules
 
 returns-2 : tie.Need-returns-2
 returns-2 c =
@@ -56,23 +56,23 @@ returns-2 c =
     let test = part.before.before in
     let read = test.before.before in
     let start = read.before.before.before.before.before.before in
-    put_same put.put-planned.ensures
-    (ap (textFor _ _ _ _) part.part-between.ensures ∙ line-said start.requires.coefficient-room read.read-line.ensures test.if1.false)
+    put_same put.put_planned.ensures
+    (ap (text_for _ _ _ _) part.part_between.ensures ∙ line_said start.requires.coefficient_room_lem read.read_line.ensures test.if1.false)
 
-pub put-answer-spec : {M : Type 1} → statement M
-put-answer-spec =
+pub put_answer_spec : {M : Type 1} → statement M
+put_answer_spec =
     tie.close
     (tie.spec
-    read-line-requires
-    put-refusal-requires
+    read_line_requires
+    put_refusal_requires
     same_length
-    same-length-2
+    same_length_2
     returns
-    part-between-requires
-    put-planned-requires
-    same-length-3
-    same-length-4
-    same-length-5
-    same-length-6
-    same-length-7
+    part_between_requires
+    put_planned_requires
+    same_length_3
+    same_length_4
+    same_length_5
+    same_length_6
+    same_length_7
     returns-2)

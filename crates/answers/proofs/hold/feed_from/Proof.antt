@@ -6,46 +6,46 @@ use native.Mathlib.Omega.{arith}
 use borrow.Author.Tests.{ne_eqb}
 use borrow.Author.Rules.{rules}
 use lib.ListN.{length}
-use Rattle.answers.specs.InputLines.{noFeed}
+use Rattle.answers.specs.InputLines.{no_feed}
 use Rattle.answers.specs.inside.Pieces.{between}
 use Rattle.answers.proofs.PieceLaws.{between_none, between_more, no_bytes, free_more}
 use Rattle.answers.proofs.hold.feed_from.Statement.{statement}
 use Rattle.answers.proofs.hold.feed_from.Tie as tie
 
 abbrev invariant-loop : tie.invariant-loop
-invariant-loop block at i₀ i = record { onward : at ≤ i; within : i ≤ length block; free : noFeed (between at i block) ≡ true }
+invariant-loop block at i₀ i = record { onward : at ≤ i; within : i ≤ length block; free : no_feed (between at i block) ≡ true }
 
 abbrev decreases-loop : tie.decreases-loop
 decreases-loop block at i₀ i = length block - i
 
-loop-holds : tie.Need-loop-init invariant-loop decreases-loop
-loop-holds c =
+loop_holds : tie.Need-loop-init invariant-loop decreases-loop
+loop_holds c =
     let a = c.args in
-    record { onward = omega arith; within = c.requires; free = ap noFeed (between_none a.block.now a.at) ∙ no_bytes }
+    record { onward = omega arith; within = c.requires; free = ap no_feed (between_none a.block.now a.at) ∙ no_bytes }
 
-shared-slice-read-if1 : tie.Need-shared-slice-read-if1 invariant-loop decreases-loop
-shared-slice-read-if1 c = search rules
+shared_slice_read_if1 : tie.Need-shared-slice-read-if1 invariant-loop decreases-loop
+shared_slice_read_if1 c = search rules
 
 returns : tie.Need-returns invariant-loop decreases-loop
 returns c =
     let loop = c.before.before.before.loop in
     record { onward = loop.invariant.onward; within = loop.invariant.within; free = loop.invariant.free; feed = λ h. c.if1.true }
 
-add-i : tie.Need-overflow-add-i invariant-loop decreases-loop
-add-i c = search rules
+add_i : tie.Need-overflow-add-i invariant-loop decreases-loop
+add_i c = search rules
 
-loop-less : tie.Need-loop-smaller invariant-loop decreases-loop
-loop-less c = search rules
+loop_less : tie.Need-loop-smaller invariant-loop decreases-loop
+loop_less c = search rules
 
-loop-again : tie.Need-loop-preserved invariant-loop decreases-loop
-loop-again c =
+loop_again : tie.Need-loop-preserved invariant-loop decreases-loop
+loop_again c =
     let loop = c.before.before.before.loop in
     let a = c.before.before.before.before.args in
     record {
       onward = omega (arith, loop.invariant.onward);
       within = omega arith;
       free =
-          ap noFeed (between_more a.block.now a.at loop.i loop.invariant.onward (omega arith))
+          ap no_feed (between_more a.block.now a.at loop.i loop.invariant.onward (omega arith))
           ∙ free_more _ _ loop.invariant.free (ne_eqb _ _ c.if1.false);
     }
 
@@ -54,16 +54,16 @@ returns-2 c =
     let loop = c.before.loop in
     record { onward = loop.invariant.onward; within = loop.invariant.within; free = loop.invariant.free; feed = λ h. absurd (omega arith) }
 
-pub feed-from-spec : {M : Type 1} → statement M
-feed-from-spec =
+pub feed_from_spec : {M : Type 1} → statement M
+feed_from_spec =
     tie.close
     (tie.spec
     invariant-loop
     decreases-loop
-    loop-holds
-    shared-slice-read-if1
+    loop_holds
+    shared_slice_read_if1
     returns
-    add-i
-    loop-less
-    loop-again
+    add_i
+    loop_less
+    loop_again
     returns-2)

@@ -20,34 +20,34 @@ invariant-loop line₀ held bytes count i₀ line i = record {
 abbrev decreases-loop : tie.decreases-loop
 decreases-loop line₀ held bytes count i₀ line i = count - i
 
-sub-least : tie.Need-overflow-sub-least invariant-loop decreases-loop
-sub-least c = search rules
+sub_least : tie.Need-overflow-sub-least invariant-loop decreases-loop
+sub_least c = search rules
 
-least-requires : tie.Need-least-requires invariant-loop decreases-loop
-least-requires c κs = search rules
+least_requires : tie.Need-least-requires invariant-loop decreases-loop
+least_requires c κs = search rules
 
-loop-holds : tie.Need-loop-init invariant-loop decreases-loop
-loop-holds c =
+loop_holds : tie.Need-loop-init invariant-loop decreases-loop
+loop_holds c =
     let a = c.before.before.before.args in
     record { few = omega arith; long = refl; text = held_none a.line.now a.bytes.now a.held }
 
-shared-slice-read-line : tie.Need-shared-slice-read-line invariant-loop decreases-loop
-shared-slice-read-line c = search rules
+shared_slice_read_line : tie.Need-shared-slice-read-line invariant-loop decreases-loop
+shared_slice_read_line c = search rules
 
-add-line : tie.Need-overflow-add-line invariant-loop decreases-loop
-add-line c = search rules
+add_line : tie.Need-overflow-add-line invariant-loop decreases-loop
+add_line c = search rules
 
-slice-write-line : tie.Need-slice-write-line invariant-loop decreases-loop
-slice-write-line c = search rules
+slice_write_line : tie.Need-slice-write-line invariant-loop decreases-loop
+slice_write_line c = search rules
 
-add-i : tie.Need-overflow-add-i invariant-loop decreases-loop
-add-i c = search rules
+add_i : tie.Need-overflow-add-i invariant-loop decreases-loop
+add_i c = search rules
 
-loop-less : tie.Need-loop-smaller invariant-loop decreases-loop
-loop-less c = search rules
+loop_less : tie.Need-loop-smaller invariant-loop decreases-loop
+loop_less c = search rules
 
-loop-again : tie.Need-loop-preserved invariant-loop decreases-loop
-loop-again c =
+loop_again : tie.Need-loop-preserved invariant-loop decreases-loop
+loop_again c =
     let loop = c.before.before.loop in
     let least = c.before.before.before.least in
     let a = c.before.before.before.before.before.before.args in
@@ -60,8 +60,8 @@ loop-again c =
           (omega (arith, least.ensures, loop.invariant.long)) (omega (arith, least.ensures));
     }
 
-add-result : tie.Need-overflow-add-result invariant-loop decreases-loop
-add-result c = search rules
+add_result : tie.Need-overflow-add-result invariant-loop decreases-loop
+add_result c = search rules
 
 same_length : tie.Need-same-length invariant-loop decreases-loop
 same_length c = search rules
@@ -82,21 +82,21 @@ returns c =
           ∙ held_all a.line.now a.bytes.now a.held least.result start.requires least.ensures;
     }
 
-pub hold-spec : {M : Type 1} → statement M
-hold-spec =
+pub hold_spec : {M : Type 1} → statement M
+hold_spec =
     tie.close
     (tie.spec
     invariant-loop
     decreases-loop
-    sub-least
-    least-requires
-    loop-holds
-    shared-slice-read-line
-    add-line
-    slice-write-line
-    add-i
-    loop-less
-    loop-again
-    add-result
+    sub_least
+    least_requires
+    loop_holds
+    shared_slice_read_line
+    add_line
+    slice_write_line
+    add_i
+    loop_less
+    loop_again
+    add_result
     same_length
     returns)

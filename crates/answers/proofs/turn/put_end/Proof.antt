@@ -5,37 +5,37 @@ use native.Mathlib.Omega.{arith}
 use borrow.Author.Rules.{rules}
 use lib.ListN.{take}
 use lib.Seq.{length-take-le}
-use Rattle.texts.proofs.PutLaws.{put-none, put_same}
-use Rattle.answers.specs.Turns.{endText}
-use Rattle.answers.proofs.TurnLaws.{end_none, end-some}
+use Rattle.texts.proofs.PutLaws.{put_none, put_same}
+use Rattle.answers.specs.Turns.{end_text}
+use Rattle.answers.proofs.TurnLaws.{end_none, end_some}
 use Rattle.answers.proofs.turn.put_end.Statement.{statement}
 use Rattle.answers.proofs.turn.put_end.Tie as tie
 
 returns : tie.Need-returns
 returns c =
     let a = c.before.before.before.before.before.args in
-    put_same (put-none a.out.now 0) (sym end_none ∙ ap (λ (n : ℕ). endText (take n a.line.now)) (sym c.if1.true))
+    put_same (put_none a.out.now 0) (sym end_none ∙ ap (λ (n : ℕ). end_text (take n a.line.now)) (sym c.if1.true))
 
-slice-aggregate-put-answer : tie.Need-slice-aggregate-put-answer
-slice-aggregate-put-answer c = sym (length-take-le _ _ c.before.before.before.before.before.before.requires.1)
+slice_aggregate_put_answer : tie.Need-slice-aggregate-put-answer
+slice_aggregate_put_answer c = sym (length-take-le _ _ c.before.before.before.before.before.before.requires.1)
 
-put-answer-requires : tie.Need-put-answer-requires
-put-answer-requires c κs = search rules
+put_answer_requires : tie.Need-put-answer-requires
+put_answer_requires c κs = search rules
 
 same_length : tie.Need-same-length
 same_length c = search rules
 
-same-length-2 : tie.Need-same-length-2
-same-length-2 c = search rules
+same_length_2 : tie.Need-same-length-2
+same_length_2 c = search rules
 
-same-length-3 : tie.Need-same-length-3
-same-length-3 c = search rules
+same_length_3 : tie.Need-same-length-3
+same_length_3 c = search rules
 
-same-length-4 : tie.Need-same-length-4
-same-length-4 c = search rules
+same_length_4 : tie.Need-same-length-4
+same_length_4 c = search rules
 
-same-length-5 : tie.Need-same-length-5
-same-length-5 c = search rules
+same_length_5 : tie.Need-same-length-5
+same_length_5 c = search rules
 
 returns-2 : tie.Need-returns-2
 returns-2 c =
@@ -43,19 +43,19 @@ returns-2 c =
     let test = put.before.before.before.before.before.before.before in
     let start = test.before.before.before.before.before in
     let a = start.args in
-    put_same put.put-answer.ensures
-    (sym (end-some (take a.held a.line.now) (omega (arith, length-take-le a.held a.line.now start.requires.1, test.if1.false))))
+    put_same put.put_answer.ensures
+    (sym (end_some (take a.held a.line.now) (omega (arith, length-take-le a.held a.line.now start.requires.1, test.if1.false))))
 
-pub put-end-spec : {M : Type 1} → statement M
-put-end-spec =
+pub put_end_spec : {M : Type 1} → statement M
+put_end_spec =
     tie.close
     (tie.spec
     returns
-    slice-aggregate-put-answer
-    put-answer-requires
+    slice_aggregate_put_answer
+    put_answer_requires
     same_length
-    same-length-2
-    same-length-3
-    same-length-4
-    same-length-5
+    same_length_2
+    same_length_3
+    same_length_4
+    same_length_5
     returns-2)

@@ -1,22 +1,22 @@
 -- `chains::letters::letters_at` meets its contract. Each letter is read from its row at the place that the definition reads.
 use mathlib.Core.Path.{refl}
 use borrow.Author.Rules.{rules}
-use Rattle.chains.specs.Letters.{lettersAt}
+use Rattle.chains.specs.Letters.{letters_at}
 use Rattle.chains.proofs.letters.letters_at.Statement.{statement}
 use Rattle.chains.proofs.letters.letters_at.Tie as tie
 
-array-read-t9 : tie.Need-array-read-t9
-array-read-t9 c = search rules
+array_read_t9 : tie.Need-array-read-t9
+array_read_t9 c = search rules
 
-array-read-t14 : tie.Need-array-read-t14
-array-read-t14 c = search rules
+array_read_t14 : tie.Need-array-read-t14
+array_read_t14 c = search rules
 
-array-read-t18 : tie.Need-array-read-t18
-array-read-t18 c = search rules
+array_read_t18 : tie.Need-array-read-t18
+array_read_t18 c = search rules
 
 returns : tie.Need-returns
-unfolding lettersAt
+unfolding letters_at
 returns c = refl
 
-pub letters-at-spec : {M : Type 1} → statement M
-letters-at-spec = tie.close (tie.spec array-read-t9 array-read-t14 array-read-t18 returns)
+pub letters_at_spec : {M : Type 1} → statement M
+letters_at_spec = tie.close (tie.spec array_read_t9 array_read_t14 array_read_t18 returns)

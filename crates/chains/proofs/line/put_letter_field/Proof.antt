@@ -16,5 +16,5 @@ same_length c = search rules
 returns : tie.Need-returns
 returns c = let done = c.before.before in put_then done.before.before.before.before.put.ensures done.put2.ensures
 
-pub put-letter-field-spec : {M : Type 1} → statement M
-put-letter-field-spec = tie.close (tie.spec put-requires put-requires-2 same_length returns)
+pub put_letter_field_spec : {M : Type 1} → statement M
+put_letter_field_spec = tie.close (tie.spec put-requires put-requires-2 same_length returns)

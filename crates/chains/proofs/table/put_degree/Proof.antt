@@ -5,10 +5,10 @@ use Prim.Native.Nat.{◌+◌, ◌-◌, ◌*◌, ◌≤◌}
 use native.Mathlib.Omega.{arith}
 use borrow.Author.Rules.{rules}
 use Rattle.texts.specs.Put.{Put}
-use Rattle.texts.proofs.PutLaws.{put-length, put-none, put_same, put_then}
-use Rattle.chains.specs.Line.{lineRoom}
+use Rattle.texts.proofs.PutLaws.{put_length, put_none, put_same, put_then}
+use Rattle.chains.specs.Line.{line_room}
 use Rattle.chains.specs.Table.{lines_from}
-use Rattle.chains.proofs.TableLaws.{no_lines, lines-behind}
+use Rattle.chains.proofs.TableLaws.{no_lines, lines_behind}
 use Rattle.chains.proofs.table.put_degree.Statement.{statement}
 use Rattle.chains.proofs.table.put_degree.Tie as tie
 
@@ -16,40 +16,40 @@ abbrev invariant-loop : tie.invariant-loop
 invariant-loop out₀ at degree next₀ k₀ out next k = record {
   within : k ≤ 12;
   put : Put out₀ at (lines_from degree 0 k) out next;
-  room : next ≤ at + k * lineRoom;
+  room : next ≤ at + k * line_room;
 }
 
 abbrev decreases-loop : tie.decreases-loop
 decreases-loop out₀ at degree next₀ k₀ out next k = 12 - k
 
-loop-holds : tie.Need-loop-init invariant-loop decreases-loop
-loop-holds c =
+loop_holds : tie.Need-loop-init invariant-loop decreases-loop
+loop_holds c =
     let args = c.before.args in
-    record { within = omega arith; put = put_same (put-none args.out.now args.at) (sym (no_lines args.degree)); room = omega arith }
+    record { within = omega arith; put = put_same (put_none args.out.now args.at) (sym (no_lines args.degree)); room = omega arith }
 
-put-line-at-requires : tie.Need-put-line-at-requires invariant-loop decreases-loop
-put-line-at-requires c κs = search rules
+put_line_at_requires : tie.Need-put-line-at-requires invariant-loop decreases-loop
+put_line_at_requires c κs = search rules
 
-add-k : tie.Need-overflow-add-k invariant-loop decreases-loop
-add-k c = search rules
+add_k : tie.Need-overflow-add-k invariant-loop decreases-loop
+add_k c = search rules
 
-loop-less : tie.Need-loop-smaller invariant-loop decreases-loop
-loop-less c = search rules
+loop_less : tie.Need-loop-smaller invariant-loop decreases-loop
+loop_less c = search rules
 
-loop-again : tie.Need-loop-preserved invariant-loop decreases-loop
-loop-again c =
+loop_again : tie.Need-loop-preserved invariant-loop decreases-loop
+loop_again c =
     let called = c.before.before in
     let turn = called.before.before.before in
     let inv = turn.loop.invariant in
-    let line = called.put-line-at.ensures in
+    let line = called.put_line_at.ensures in
     record {
       within = omega arith;
-      put = put_same (put_then inv.put line.0) (lines-behind turn.before.before.args.degree turn.loop.k);
+      put = put_same (put_then inv.put line.0) (lines_behind turn.before.before.args.degree turn.loop.k);
       room = omega (arith, inv.room, line.1);
     }
 
 same_length : tie.Need-same-length invariant-loop decreases-loop
-same_length c = put-length c.before.loop.invariant.put
+same_length c = put_length c.before.loop.invariant.put
 
 returns : tie.Need-returns invariant-loop decreases-loop
 returns c =
@@ -57,16 +57,16 @@ returns c =
     let all : loop.k ≡ 12 = omega arith in
     (put_same loop.invariant.put (ap (lines_from c.before.before.before.args.degree 0) all), omega (arith, loop.invariant.room))
 
-pub put-degree-spec : {M : Type 1} → statement M
-put-degree-spec =
+pub put_degree_spec : {M : Type 1} → statement M
+put_degree_spec =
     tie.close
     (tie.spec
     invariant-loop
     decreases-loop
-    loop-holds
-    put-line-at-requires
-    add-k
-    loop-less
-    loop-again
+    loop_holds
+    put_line_at_requires
+    add_k
+    loop_less
+    loop_again
     same_length
     returns)

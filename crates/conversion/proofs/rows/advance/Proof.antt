@@ -4,8 +4,8 @@ use borrow.Author.Rules.{rules}
 use Rattle.conversion.proofs.rows.advance.Statement.{statement}
 use Rattle.conversion.proofs.rows.advance.Tie as tie
 
-next-row-requires : tie.Need-next-row-requires
-next-row-requires c κs = c.before.before.requires c.before.if1.true
+next_row_requires : tie.Need-next-row-requires
+next_row_requires c κs = c.before.before.requires c.before.if1.true
 
 same_length : tie.Need-same-length
 same_length c = search rules
@@ -16,5 +16,5 @@ returns c = rw c.before.before.before.if1.true c.before.next_row.ensures
 returns-2 : tie.Need-returns-2
 returns-2 c = rw c.if1.false refl
 
-pub advance-spec : {M : Type 1} → statement M
-advance-spec = tie.close (tie.spec next-row-requires same_length returns returns-2)
+pub advance_spec : {M : Type 1} → statement M
+advance_spec = tie.close (tie.spec next_row_requires same_length returns returns-2)

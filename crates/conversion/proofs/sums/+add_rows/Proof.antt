@@ -12,83 +12,83 @@ use mir.Val.{to_z, of_z}
 use Rattle.number.proofs.Signed.{back}
 use Rattle.bases.specs.Convert.{quotient_of}
 use Rattle.conversion.specs.inside.Converting.{places_of}
-use Rattle.conversion.proofs.Summing.{all-summed, row_fits, next_fits, row-summed}
+use Rattle.conversion.proofs.Summing.{all_summed, row_fits, next_fits, row_summed}
 use Rattle.conversion.proofs.sums.+add_rows.{statement}
 use Rattle.conversion.proofs.sums.+add_rows.Tie.{close}
-use Rattle.conversion.proofs.sums.add_rows.Reads as add-rows
-use Rattle.conversion.proofs.sums.add_rows.Kinds as add-rows-kinds
-use Rattle.conversion.proofs.sums.+add_rows.Lts-add_rows as add-rows-lts
-use Rattle.conversion.proofs.rows.advance.Reads as advance-reads
-use Rattle.conversion.proofs.sums.add_row.Reads as add-row-reads
-use Rattle.conversion.proofs.whole.quotient.Reads as quotient-reads
+use Rattle.conversion.proofs.sums.add_rows.Reads as add_rows
+use Rattle.conversion.proofs.sums.add_rows.Kinds as add_rows_kinds
+use Rattle.conversion.proofs.sums.+add_rows.Lts-add_rows as add_rows_lts
+use Rattle.conversion.proofs.rows.advance.Reads as advance_reads
+use Rattle.conversion.proofs.sums.add_row.Reads as add_row_reads
+use Rattle.conversion.proofs.whole.quotient.Reads as quotient_reads
 
-abbrev μ-add-rows : Measures 4 add-rows-kinds.ps ℕ
+abbrev μ-add-rows : Measures 4 add_rows_kinds.ps ℕ
 μ-add-rows κs a = length a.1.0.now - a.1.1.0
 
-abbrev add-rows-at : ℕ → In 4 add-rows-kinds.ps
-add-rows-at t = and 4 add-rows-kinds.ps (is 4 add-rows-kinds.ps μ-add-rows t) add-rows.Pre
+abbrev add_rows_at : ℕ → In 4 add_rows_kinds.ps
+add_rows_at t = and 4 add_rows_kinds.ps (is 4 add_rows_kinds.ps μ-add-rows t) add_rows.Pre
 
-abbrev add-rows-below : ℕ → In 4 add-rows-kinds.ps
-add-rows-below t = and 4 add-rows-kinds.ps (falls 4 add-rows-kinds.ps ◌<◌ μ-add-rows t) add-rows.Pre
+abbrev add_rows_below : ℕ → In 4 add_rows_kinds.ps
+add_rows_below t = and 4 add_rows_kinds.ps (falls 4 add_rows_kinds.ps ◌<◌ μ-add-rows t) add_rows.Pre
 
 -- what is handed for the callees
-abbrev calls : ℕ → add-rows-lts.Claims
+abbrev calls : ℕ → add_rows_lts.Claims
 calls t = (
-  quotient-reads.Asked,
-  quotient-reads.Learnt,
-  add-row-reads.Asked,
-  add-row-reads.Learnt,
-  advance-reads.Asked,
-  advance-reads.Learnt,
-  add-rows-below t,
-  add-rows.Post,
+  quotient_reads.Asked,
+  quotient_reads.Learnt,
+  add_row_reads.Asked,
+  add_row_reads.Learnt,
+  advance_reads.Asked,
+  advance_reads.Learnt,
+  add_rows_below t,
+  add_rows.Post,
 )
 
 module _ (t : ℕ) where
   -- coefficient n's quotient, as the machine has it
-  quotient_is : (k : add-rows-lts.After-quotient (calls t) (add-rows-at t) add-rows.Post) → let start = k.before.before.before in
+  quotient_is : (k : add_rows_lts.After-quotient (calls t) (add_rows_at t) add_rows.Post) → let start = k.before.before.before in
       to_z w64 (of_z w64 k.quotient.result) ≡ quotient_of start.args.to start.args.n (places_of start.args.c.now start.args.n)
   quotient_is k =
       let start = k.before.before.before in
       let x = places_of start.args.c.now start.args.n in
-      let read : to_z w64 (of_z w64 x) ≡ x = back k.before.quotient-arg.given refl in
-      back k.quotient.type-inv (k.quotient.ensures ∙ ap (quotient_of start.args.to start.args.n) read)
+      let read : to_z w64 (of_z w64 x) ≡ x = back k.before.quotient_arg.given refl in
+      back k.quotient.type_inv (k.quotient.ensures ∙ ap (quotient_of start.args.to start.args.n) read)
 
-  add-rows-mul-quotient : add-rows-lts.Need-overflow-mul-quotient (calls t) (add-rows-at t) add-rows.Post
-  add-rows-mul-quotient c = search rules
+  add_rows_mul_quotient : add_rows_lts.Need-overflow-mul-quotient (calls t) (add_rows_at t) add_rows.Post
+  add_rows_mul_quotient c = search rules
 
-  add-rows-shared-slice-copy-out-quotient : add-rows-lts.Need-shared-slice-copy-out-quotient (calls t) (add-rows-at t) add-rows.Post
-  add-rows-shared-slice-copy-out-quotient c = search rules
+  add_rows_shared_slice_copy_out_quotient : add_rows_lts.Need-shared-slice-copy-out-quotient (calls t) (add_rows_at t) add_rows.Post
+  add_rows_shared_slice_copy_out_quotient c = search rules
 
-  add-rows-quotient-requires : add-rows-lts.Need-quotient-requires (calls t) (add-rows-at t) add-rows.Post
-  add-rows-quotient-requires c κs =
+  add_rows_quotient_requires : add_rows_lts.Need-quotient-requires (calls t) (add_rows_at t) add_rows.Post
+  add_rows_quotient_requires c κs =
       let start = c.before.before in
       let few = start.requires.1.ready.few in
       omega (arith, c.before.if1.true)
 
-  add-rows-add-row-requires : add-rows-lts.Need-add-row-requires (calls t) (add-rows-at t) add-rows.Post
-  add-rows-add-row-requires c κs =
+  add_rows_add_row_requires : add_rows_lts.Need-add-row-requires (calls t) (add_rows_at t) add_rows.Post
+  add_rows_add_row_requires c κs =
       let asked = c.before.before in
       let start = asked.before.before.before in
       rw (quotient_is asked)
       (row_fits start.args.to start.args.c.now start.args.n start.args.row.now start.args.next.now start.args.sums.now
       start.requires.1 asked.before.before.if1.true)
 
-  add-rows-add-advance : add-rows-lts.Need-overflow-add-advance (calls t) (add-rows-at t) add-rows.Post
-  add-rows-add-advance c = search rules
+  add_rows_add_advance : add_rows_lts.Need-overflow-add-advance (calls t) (add_rows_at t) add_rows.Post
+  add_rows_add_advance c = search rules
 
-  add-rows-advance-requires : add-rows-lts.Need-advance-requires (calls t) (add-rows-at t) add-rows.Post
-  add-rows-advance-requires c κs =
+  add_rows_advance_requires : add_rows_lts.Need-advance-requires (calls t) (add_rows_at t) add_rows.Post
+  add_rows_advance_requires c κs =
       let asked = c.before.before.before.before.before.before in
       let start = asked.before.before.before in
       next_fits start.args.to start.args.c.now start.args.n start.args.row.now start.args.next.now start.args.sums.now
       start.requires.1 asked.before.before.if1.true
 
-  add-rows-add-add-rows : add-rows-lts.Need-overflow-add-add-rows (calls t) (add-rows-at t) add-rows.Post
-  add-rows-add-add-rows c = search rules
+  add_rows_add_add_rows : add_rows_lts.Need-overflow-add-add-rows (calls t) (add_rows_at t) add_rows.Post
+  add_rows_add_add_rows c = search rules
 
-  add-rows-add-rows-requires : add-rows-lts.Need-add-rows-requires (calls t) (add-rows-at t) add-rows.Post
-  add-rows-add-rows-requires c κs =
+  add_rows_add_rows_requires : add_rows_lts.Need-add-rows-requires (calls t) (add_rows_at t) add_rows.Post
+  add_rows_add_rows_requires c κs =
       let made = c.before.before.before.before in
       let added = made.before.before.before.before in
       let asked = added.before.before.before in
@@ -96,41 +96,41 @@ module _ (t : ℕ) where
       let more = asked.before.before.if1.true in (
         omega (arith, start.requires.0, more),
         rw (made.advance.ensures, added.add_row.ensures, quotient_is asked)
-            (row-summed start.args.to start.args.c.now start.args.n start.args.row.now start.args.next.now start.args.sums.now
+            (row_summed start.args.to start.args.c.now start.args.n start.args.row.now start.args.next.now start.args.sums.now
             start.requires.1 more),
       )
 
-  add-rows-same-length : add-rows-lts.Need-same-length (calls t) (add-rows-at t) add-rows.Post
-  add-rows-same-length c = search rules
+  add_rows_same_length : add_rows_lts.Need-same-length (calls t) (add_rows_at t) add_rows.Post
+  add_rows_same_length c = search rules
 
-  add-rows-same-length-2 : add-rows-lts.Need-same-length-2 (calls t) (add-rows-at t) add-rows.Post
-  add-rows-same-length-2 c = search rules
+  add_rows_same_length_2 : add_rows_lts.Need-same-length-2 (calls t) (add_rows_at t) add_rows.Post
+  add_rows_same_length_2 c = search rules
 
-  add-rows-same-length-3 : add-rows-lts.Need-same-length-3 (calls t) (add-rows-at t) add-rows.Post
-  add-rows-same-length-3 c = search rules
+  add_rows_same_length_3 : add_rows_lts.Need-same-length-3 (calls t) (add_rows_at t) add_rows.Post
+  add_rows_same_length_3 c = search rules
 
-  add-rows-returns : add-rows-lts.Need-returns (calls t) (add-rows-at t) add-rows.Post
-  add-rows-returns c = c.before.before.before.add-rows.ensures
+  add_rows_returns : add_rows_lts.Need-returns (calls t) (add_rows_at t) add_rows.Post
+  add_rows_returns c = c.before.before.before.add_rows.ensures
 
-  add-rows-returns-2 : add-rows-lts.Need-returns-2 (calls t) (add-rows-at t) add-rows.Post
-  add-rows-returns-2 c =
+  add_rows_returns_2 : add_rows_lts.Need-returns-2 (calls t) (add_rows_at t) add_rows.Post
+  add_rows_returns_2 c =
       let start = c.before in
-      all-summed start.args.to start.args.c.now start.args.n start.args.row.now start.args.next.now start.args.sums.now
+      all_summed start.args.to start.args.c.now start.args.n start.args.row.now start.args.next.now start.args.sums.now
       start.requires.1 c.if1.false
 
 pub +add-rows-spec : {M : Type 1} → statement M
 +add-rows-spec =
-    close μ-add-rows λ t. add-rows-lts.spec (calls t) (add-rows-at t) add-rows.Post
-    (add-rows-mul-quotient t)
-    (add-rows-shared-slice-copy-out-quotient t)
-    (add-rows-quotient-requires t)
-    (add-rows-add-row-requires t)
-    (add-rows-add-advance t)
-    (add-rows-advance-requires t)
-    (add-rows-add-add-rows t)
-    (add-rows-add-rows-requires t)
-    (add-rows-same-length t)
-    (add-rows-same-length-2 t)
-    (add-rows-same-length-3 t)
-    (add-rows-returns t)
-    (add-rows-returns-2 t)
+    close μ-add-rows λ t. add_rows_lts.spec (calls t) (add_rows_at t) add_rows.Post
+    (add_rows_mul_quotient t)
+    (add_rows_shared_slice_copy_out_quotient t)
+    (add_rows_quotient_requires t)
+    (add_rows_add_row_requires t)
+    (add_rows_add_advance t)
+    (add_rows_advance_requires t)
+    (add_rows_add_add_rows t)
+    (add_rows_add_rows_requires t)
+    (add_rows_same_length t)
+    (add_rows_same_length_2 t)
+    (add_rows_same_length_3 t)
+    (add_rows_returns t)
+    (add_rows_returns_2 t)

@@ -8,14 +8,14 @@ use Rattle.conversion.proofs.whole.denominator.Tie as tie
 enum_told : tie.Need-enum-told
 enum_told c = search rules
 
-enum-told-2 : tie.Need-enum-told-2
-enum-told-2 c = search rules
+enum_told_2 : tie.Need-enum-told-2
+enum_told_2 c = search rules
 
-degree-of-requires : tie.Need-degree-of-requires
-degree-of-requires c κs = search rules
+degree_of_requires : tie.Need-degree-of-requires
+degree_of_requires c κs = search rules
 
-power-of-two-requires : tie.Need-power-of-two-requires
-power-of-two-requires c κs = search rules
+power_of_two_requires : tie.Need-power-of-two-requires
+power_of_two_requires c κs = search rules
 
 returns : tie.Need-returns
 returns c = search rules
@@ -23,9 +23,9 @@ returns c = search rules
 returns-2 : tie.Need-returns-2
 returns-2 c =
     let told = c.before.before in
-    rw told.enum-told2.given.1 (c.power-of-two.ensures ∙ ap (λ (k : ℕ). 2 ^ k) c.before.degree-of.ensures)
+    rw told.enum_told2.given.1 (c.power_of_two.ensures ∙ ap (λ (k : ℕ). 2 ^ k) c.before.degree_of.ensures)
 
-pub denominator-spec : {M : Type 1} → statement M
-denominator-spec =
+pub denominator_spec : {M : Type 1} → statement M
+denominator_spec =
     tie.close
-    (tie.spec enum_told enum-told-2 degree-of-requires power-of-two-requires returns returns-2)
+    (tie.spec enum_told enum_told_2 degree_of_requires power_of_two_requires returns returns-2)

@@ -2,26 +2,26 @@
 -- parity allows it.
 use native.Mathlib.Omega.{arith}
 use borrow.Author.Rules.{rules}
-use Rattle.counts.proofs.BoundLaws.{allowed-one}
+use Rattle.counts.proofs.BoundLaws.{allowed_one}
 use Rattle.counts.proofs.bound.allowed_from_two.Statement.{statement}
 use Rattle.counts.proofs.bound.allowed_from_two.Tie as tie
 
-allowed-to-requires : tie.Need-allowed-to-requires
-allowed-to-requires c κs = search rules
+allowed_to_requires : tie.Need-allowed-to-requires
+allowed_to_requires c κs = search rules
 
-allowed-to-requires-2 : tie.Need-allowed-to-requires-2
-allowed-to-requires-2 c κs = search rules
+allowed_to_requires_2 : tie.Need-allowed-to-requires-2
+allowed_to_requires_2 c κs = search rules
 
-sub-result : tie.Need-overflow-sub-result
-sub-result c =
+sub_result : tie.Need-overflow-sub-result
+sub_result c =
     let start = c.before.before in
-    omega (arith, c.before.allowed-to.ensures, c.allowed-to2.ensures, allowed-one start.args.parity start.args.degree start.requires.from)
+    omega (arith, c.before.allowed_to.ensures, c.allowed_to2.ensures, allowed_one start.args.parity start.args.degree start.requires.from)
 
 returns : tie.Need-returns
 returns c =
     let start = c.before.before in
-    omega (arith, c.before.allowed-to.ensures, c.allowed-to2.ensures, allowed-one start.args.parity start.args.degree start.requires.from)
+    omega (arith, c.before.allowed_to.ensures, c.allowed_to2.ensures, allowed_one start.args.parity start.args.degree start.requires.from)
 
-pub allowed-from-two-spec : {M : Type 1} → statement M
-allowed-from-two-spec =
-    tie.close (tie.spec allowed-to-requires allowed-to-requires-2 sub-result returns)
+pub allowed_from_two_spec : {M : Type 1} → statement M
+allowed_from_two_spec =
+    tie.close (tie.spec allowed_to_requires allowed_to_requires_2 sub_result returns)

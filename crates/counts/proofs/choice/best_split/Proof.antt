@@ -5,7 +5,7 @@ use native.Mathlib.Omega.{arith}
 use borrow.Author.Rules.{rules}
 use Rattle.number.specs.inside.Between.{Between}
 use Rattle.counts.specs.Pair.{pair_at}
-use Rattle.counts.proofs.ChoiceLaws.{depth-range}
+use Rattle.counts.proofs.ChoiceLaws.{depth_range}
 use Rattle.counts.proofs.BetterLaws.{BestSoFar, begins, goes_on, ends}
 use Rattle.counts.proofs.choice.best_split.Statement.{statement}
 use Rattle.counts.proofs.choice.best_split.Tie as tie
@@ -19,52 +19,52 @@ decreases-loop parity basis degree bits likely best₀ split₀ best split = bit
 
 -- the likely split is one of the splits
 module _ (k : tie.After-min-depth invariant-loop decreases-loop) where
-  likely-range : Between 1 k.min-depth.result k.before.args.bits
-  likely-range =
-      let range = depth-range k.before.args.bits k.before.requires.1.from in
-      rw k.min-depth.ensures range
+  likely_range : Between 1 k.min_depth.result k.before.args.bits
+  likely_range =
+      let range = depth_range k.before.args.bits k.before.requires.1.from in
+      rw k.min_depth.ensures range
 
-min-depth-requires : tie.Need-min-depth-requires invariant-loop decreases-loop
-min-depth-requires c κs = search rules
+min_depth_requires : tie.Need-min-depth-requires invariant-loop decreases-loop
+min_depth_requires c κs = search rules
 
-estimate-op-counts-requires : tie.Need-estimate-op-counts-requires invariant-loop decreases-loop
-estimate-op-counts-requires c κs =
+estimate_op_counts_requires : tie.Need-estimate-op-counts-requires invariant-loop decreases-loop
+estimate_op_counts_requires c κs =
     let start = c.before in
-    let likely = likely-range c in
+    let likely = likely_range c in
     record { degrees = start.requires.0; splits = record { from = likely.from; to = omega (arith, start.requires.1.to) } }
 
-loop-holds : tie.Need-loop-init invariant-loop decreases-loop
-loop-holds c =
+loop_holds : tie.Need-loop-init invariant-loop decreases-loop
+loop_holds c =
     let args = c.before.before.args in
-    let likely = likely-range c.before in (
+    let likely = likely_range c.before in (
       omega arith,
       omega arith,
-      begins (pair_at args.parity args.basis args.degree) args.bits _ likely.from likely.to c.estimate-op-counts.ensures,
+      begins (pair_at args.parity args.basis args.degree) args.bits _ likely.from likely.to c.estimate_op_counts.ensures,
     )
 
-better-at-requires : tie.Need-better-at-requires invariant-loop decreases-loop
-better-at-requires c κs =
+better_at_requires : tie.Need-better-at-requires invariant-loop decreases-loop
+better_at_requires c κs =
     let loop = c.before.loop in
     let start = c.before.before.before.before in (
       record { degrees = start.requires.0; splits = record { from = loop.invariant.0; to = omega (arith, start.requires.1.to, c.loop-test.true) } },
       loop.invariant.2.pair,
     )
 
-add-split : tie.Need-overflow-add-split invariant-loop decreases-loop
-add-split c = search rules
+add_split : tie.Need-overflow-add-split invariant-loop decreases-loop
+add_split c = search rules
 
-loop-less : tie.Need-loop-smaller invariant-loop decreases-loop
-loop-less c = search rules
+loop_less : tie.Need-loop-smaller invariant-loop decreases-loop
+loop_less c = search rules
 
-loop-again : tie.Need-loop-preserved invariant-loop decreases-loop
-loop-again c =
+loop_again : tie.Need-loop-preserved invariant-loop decreases-loop
+loop_again c =
     let test = c.before in
     let loop = test.before.loop in
     let args = test.before.before.before.before.args in (
       omega arith,
       omega arith,
       goes_on (pair_at args.parity args.basis args.degree) args.bits loop.invariant.0 test.loop-test.true loop.invariant.2
-          c.better-at.ensures,
+          c.better_at.ensures,
     )
 
 returns : tie.Need-returns invariant-loop decreases-loop
@@ -74,17 +74,17 @@ returns c =
     let past : args.bits < loop.split = omega arith in
     ends (pair_at args.parity args.basis args.degree) args.bits past loop.invariant.2
 
-pub best-split-spec : {M : Type 1} → statement M
-best-split-spec =
+pub best_split_spec : {M : Type 1} → statement M
+best_split_spec =
     tie.close
     (tie.spec
     invariant-loop
     decreases-loop
-    min-depth-requires
-    estimate-op-counts-requires
-    loop-holds
-    better-at-requires
-    add-split
-    loop-less
-    loop-again
+    min_depth_requires
+    estimate_op_counts_requires
+    loop_holds
+    better_at_requires
+    add_split
+    loop_less
+    loop_again
     returns)

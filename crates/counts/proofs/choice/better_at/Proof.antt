@@ -4,8 +4,8 @@ use mathlib.Core.Path.{sym, ap, ◌∙◌}
 use native.Mathlib.Omega.{arith}
 use borrow.Author.Rules.{rules}
 use Rattle.counts.specs.Pair.{pair_at}
-use Rattle.counts.specs.inside.BetterOf.{withPair}
-use Rattle.counts.proofs.BetterLaws.{met-again, passed_over}
+use Rattle.counts.specs.inside.BetterOf.{with_pair}
+use Rattle.counts.proofs.BetterLaws.{met_again, passed_over}
 use Rattle.counts.proofs.choice.better_at.Statement.{statement}
 use Rattle.counts.proofs.choice.better_at.Tie as tie
 
@@ -14,34 +14,34 @@ returns c =
     let start = c.before.before in
     let args = start.args in
     let pairs = pair_at args.parity args.basis args.degree in
-    met-again args.best (withPair pairs args.split) (start.requires.1 ∙ ap pairs (sym c.if1.true)) (sym c.if1.true)
+    met_again args.best (with_pair pairs args.split) (start.requires.1 ∙ ap pairs (sym c.if1.true)) (sym c.if1.true)
 
-fewest-ct-requires : tie.Need-fewest-ct-requires
-fewest-ct-requires c κs = search rules
+fewest_ct_requires : tie.Need-fewest-ct-requires
+fewest_ct_requires c κs = search rules
 
 returns-2 : tie.Need-returns-2
 returns-2 c =
     let bound = c.before.before in
     let args = bound.before.before.before.before.args in
-    passed_over args.best (withPair (pair_at args.parity args.basis args.degree) args.split)
-    (omega (arith, bound.fewest-ct.ensures args.basis, c.if2.true))
+    passed_over args.best (with_pair (pair_at args.parity args.basis args.degree) args.split)
+    (omega (arith, bound.fewest_ct.ensures args.basis, c.if2.true))
 
-estimate-op-counts-requires : tie.Need-estimate-op-counts-requires
-estimate-op-counts-requires c κs = search rules
+estimate_op_counts_requires : tie.Need-estimate-op-counts-requires
+estimate_op_counts_requires c κs = search rules
 
-better-of-requires : tie.Need-better-of-requires
-better-of-requires c κs = search rules
+better_of_requires : tie.Need-better-of-requires
+better_of_requires c κs = search rules
 
-returns-3 : tie.Need-returns-3
-returns-3 c = rw c.before.estimate-op-counts.ensures at c.better-of.ensures
+returns_3 : tie.Need-returns-3
+returns_3 c = rw c.before.estimate_op_counts.ensures at c.better_of.ensures
 
-pub better-at-spec : {M : Type 1} → statement M
-better-at-spec =
+pub better_at_spec : {M : Type 1} → statement M
+better_at_spec =
     tie.close
     (tie.spec
     returns
-    fewest-ct-requires
+    fewest_ct_requires
     returns-2
-    estimate-op-counts-requires
-    better-of-requires
-    returns-3)
+    estimate_op_counts_requires
+    better_of_requires
+    returns_3)

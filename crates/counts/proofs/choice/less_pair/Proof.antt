@@ -17,11 +17,11 @@ returns-2 c =
     let other : args.p.ct ≡ args.q.ct → ⊥ = λ same. omega (arith, c.if2.true) in
     rw (le-ltb _ _ first.if1.false, ne_eqb _ _ other)
 
-returns-3 : tie.Need-returns-3
-returns-3 c =
+returns_3 : tie.Need-returns-3
+returns_3 c =
     let second = c.before.before in
     let first = second.before.before.before in
     rw (le-ltb _ _ first.if1.false, eq-eqb _ _ (le_antisymm second.if2.false first.if1.false))
 
-pub less-pair-spec : {M : Type 1} → statement M
-less-pair-spec = tie.close (tie.spec returns returns-2 returns-3)
+pub less_pair_spec : {M : Type 1} → statement M
+less_pair_spec = tie.close (tie.spec returns returns-2 returns_3)

@@ -4,29 +4,29 @@ use mathlib.Core.Path.{◌≡◌, sym, ap}
 use Prim.Native.Nat.{ℕ, zero, suc}
 use native.Mathlib.Omega.{arith}
 use Rattle.number.specs.inside.Between.{Between}
-use Rattle.counts.specs.MinDepth.{minDepth}
+use Rattle.counts.specs.MinDepth.{min_depth}
 use Rattle.counts.proofs.choice.min_depth.Statement.{statement}
 use Rattle.counts.proofs.choice.min_depth.Tie as tie
 
-case : {bits listed : ℕ} → bits ≡ listed → minDepth listed ≡ minDepth bits
-case is-listed = sym (ap minDepth is-listed)
+case : {bits listed : ℕ} → bits ≡ listed → min_depth listed ≡ min_depth bits
+case is_listed = sym (ap min_depth is_listed)
 
 -- what the last arm knows of the arms before it: the number is none from 1 to n
 abbrev NoneTo : (n bits : ℕ) → Type 0
 NoneTo zero bits = Unit
 NoneTo (suc n) bits = NoneTo n bits × (bits ≡ suc n → ⊥)
 
-none-to : (n bits : ℕ) → NoneTo n bits → Between 1 bits n → ⊥
-none-to zero bits none range = omega arith
-none-to (suc n) bits (none, other) range = none-to n bits none (record { from = range.from; to = omega (arith, other) })
+none_to : (n bits : ℕ) → NoneTo n bits → Between 1 bits n → ⊥
+none_to zero bits none range = omega arith
+none_to (suc n) bits (none, other) range = none_to n bits none (record { from = range.from; to = omega (arith, other) })
 
 -- so no bit length is left for it
-returns-33 : tie.Need-returns-33
-returns-33 c = absurd (none-to 32 c.before.args.bits c.match.rest c.before.requires)
+returns_33 : tie.Need-returns-33
+returns_33 c = absurd (none_to 32 c.before.args.bits c.match.rest c.before.requires)
 
-pub min-depth-spec : {M : Type 1} → statement M
-unfolding minDepth
-min-depth-spec =
+pub min_depth_spec : {M : Type 1} → statement M
+unfolding min_depth
+min_depth_spec =
     tie.close
     (tie.spec
     (λ c. case c.match.keys1)
@@ -61,4 +61,4 @@ min-depth-spec =
     (λ c. case c.match.keys30)
     (λ c. case c.match.keys31)
     (λ c. case c.match.keys32)
-    returns-33)
+    returns_33)

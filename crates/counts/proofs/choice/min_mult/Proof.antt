@@ -4,29 +4,29 @@ use mathlib.Core.Path.{sym}
 use Prim.Native.Nat.{◌<◌}
 use native.Mathlib.Omega.{arith}
 use borrow.Author.Rules.{rules}
-use Rattle.number.specs.Bits.{bitLen}
-use Rattle.number.proofs.Bits.{few-digits, digit-some}
-use Rattle.counts.proofs.MinMultLaws.{mult-low, mult-only}
+use Rattle.number.specs.Bits.{bit_len}
+use Rattle.number.proofs.Bits.{few_digits, digit_some}
+use Rattle.counts.proofs.MinMultLaws.{mult_low, mult_only}
 use Rattle.counts.proofs.choice.min_mult.Statement.{statement}
 use Rattle.counts.proofs.choice.min_mult.Tie as tie
 
-bit-len-requires : tie.Need-bit-len-requires
-bit-len-requires c κs = search rules
+bit_len_requires : tie.Need-bit-len-requires
+bit_len_requires c κs = search rules
 
 returns : tie.Need-returns
 returns c =
     let digits = c.before in
     let args = digits.before.args in
-    sym (mult-low args.parity args.basis args.degree (omega (arith, digits.bit-len.ensures, c.if1.true)))
+    sym (mult_low args.parity args.basis args.degree (omega (arith, digits.bit_len.ensures, c.if1.true)))
 
-best-split-requires : tie.Need-best-split-requires
-best-split-requires c κs =
+best_split_requires : tie.Need-best-split-requires
+best_split_requires c κs =
     let digits = c.before in
     let start = digits.before in
-    let range = few-digits start.args.degree start.requires in
-    let positive = digit-some start.args.degree (omega (arith, digits.bit-len.ensures, c.if1.false)) in (
+    let range = few_digits start.args.degree start.requires in
+    let positive = digit_some start.args.degree (omega (arith, digits.bit_len.ensures, c.if1.false)) in (
       record { from = positive; to = start.requires },
-      record { from = omega (arith, c.if1.false); to = omega (arith, digits.bit-len.ensures) },
+      record { from = omega (arith, c.if1.false); to = omega (arith, digits.bit_len.ensures) },
     )
 
 returns-2 : tie.Need-returns-2
@@ -34,9 +34,9 @@ returns-2 c =
     let test = c.before in
     let digits = test.before in
     let args = digits.before.args in
-    let two_digits : 1 < bitLen args.degree = omega (arith, digits.bit-len.ensures, test.if1.false) in
-    let smallest = rw digits.bit-len.ensures at c.best-split.ensures in
-    mult-only args.parity args.basis args.degree two_digits _ smallest
+    let two_digits : 1 < bit_len args.degree = omega (arith, digits.bit_len.ensures, test.if1.false) in
+    let smallest = rw digits.bit_len.ensures at c.best_split.ensures in
+    mult_only args.parity args.basis args.degree two_digits _ smallest
 
-pub min-mult-spec : {M : Type 1} → statement M
-min-mult-spec = tie.close (tie.spec bit-len-requires returns best-split-requires returns-2)
+pub min_mult_spec : {M : Type 1} → statement M
+min_mult_spec = tie.close (tie.spec bit_len_requires returns best_split_requires returns-2)

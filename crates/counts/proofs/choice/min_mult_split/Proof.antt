@@ -2,21 +2,21 @@
 -- Every degree that passes it is within the limit of the search.
 use borrow.Author.Rules.{rules}
 use borrow.Author.Tests.{lt-ltb, le-ltb}
-use Rattle.number.specs.Refusal.{unlessRefused}
-use Rattle.counts.specs.Calls.{minMultCall}
+use Rattle.number.specs.Refusal.{unless_refused}
+use Rattle.counts.specs.Calls.{min_mult_call}
 use Rattle.counts.proofs.choice.min_mult_split.Statement.{statement}
 use Rattle.counts.proofs.choice.min_mult_split.Tie as tie
 
 returns : tie.Need-returns
-unfolding minMultCall unlessRefused
+unfolding min_mult_call unless_refused
 returns c = rw (lt-ltb _ _ c.if1.true)
 
-min-mult-requires : tie.Need-min-mult-requires
-min-mult-requires c κs = search rules
+min_mult_requires : tie.Need-min-mult-requires
+min_mult_requires c κs = search rules
 
 returns-2 : tie.Need-returns-2
-unfolding minMultCall unlessRefused
-returns-2 c = rw (le-ltb _ _ c.before.if1.false, c.min-mult.ensures)
+unfolding min_mult_call unless_refused
+returns-2 c = rw (le-ltb _ _ c.before.if1.false, c.min_mult.ensures)
 
-pub min-mult-split-spec : {M : Type 1} → statement M
-min-mult-split-spec = tie.close (tie.spec returns min-mult-requires returns-2)
+pub min_mult_split_spec : {M : Type 1} → statement M
+min_mult_split_spec = tie.close (tie.spec returns min_mult_requires returns-2)

@@ -2,54 +2,54 @@
 -- A depth is at least 1, so one less is a number.
 use native.Mathlib.Omega.{arith}
 use borrow.Author.Rules.{rules}
-use Rattle.counts.proofs.DepthLaws.{depth-bounds}
-use Rattle.counts.proofs.ConsumedBits.{before-least, before-five, before-other}
+use Rattle.counts.proofs.DepthLaws.{depth_bounds}
+use Rattle.counts.proofs.ConsumedBits.{before_least, before_five, before_other}
 use Rattle.counts.proofs.consumed.chain_before.Statement.{statement}
 use Rattle.counts.proofs.consumed.chain_before.Tie as tie
 
-depth-from-one-requires : tie.Need-depth-from-one-requires
-depth-from-one-requires c κs = search rules
+depth_from_one_requires : tie.Need-depth-from-one-requires
+depth_from_one_requires c κs = search rules
 
 enum_told : tie.Need-enum-told
 enum_told c = search rules
 
-sub-result : tie.Need-overflow-sub-result
-sub-result c =
+sub_result : tie.Need-overflow-sub-result
+sub_result c =
     let deep = c.before.before in
-    omega (arith, deep.depth-from-one.ensures, depth-bounds deep.before.args.strategy deep.before.args.degree deep.before.requires)
+    omega (arith, deep.depth_from_one.ensures, depth_bounds deep.before.args.strategy deep.before.args.degree deep.before.requires)
 
-enum-told-2 : tie.Need-enum-told-2
-enum-told-2 c = search rules
+enum_told_2 : tie.Need-enum-told-2
+enum_told_2 c = search rules
 
-sub-result-2 : tie.Need-overflow-sub-result-2
-sub-result-2 c =
+sub_result_2 : tie.Need-overflow-sub-result-2
+sub_result_2 c =
     let deep = c.before.before.before in
-    omega (arith, deep.depth-from-one.ensures, depth-bounds deep.before.args.strategy deep.before.args.degree deep.before.requires)
+    omega (arith, deep.depth_from_one.ensures, depth_bounds deep.before.args.strategy deep.before.args.degree deep.before.requires)
 
 returns : tie.Need-returns
 returns c =
     let deep = c.before.before in
     let arm = c.enum_told.given.1 in
-    rw arm (before-least _ (rw arm at deep.depth-from-one.ensures))
+    rw arm (before_least _ (rw arm at deep.depth_from_one.ensures))
 
 returns-2 : tie.Need-returns-2
-returns-2 c = rw c.before.enum-told2.given.1 (before-five _ c.if1.true)
+returns-2 c = rw c.before.enum_told2.given.1 (before_five _ c.if1.true)
 
-returns-3 : tie.Need-returns-3
-returns-3 c =
+returns_3 : tie.Need-returns-3
+returns_3 c =
     let deep = c.before.before.before in
-    let arm = c.before.enum-told2.given.1 in
-    rw arm (before-other _ (rw arm at deep.depth-from-one.ensures) c.if1.false)
+    let arm = c.before.enum_told2.given.1 in
+    rw arm (before_other _ (rw arm at deep.depth_from_one.ensures) c.if1.false)
 
-pub chain-before-spec : {M : Type 1} → statement M
-chain-before-spec =
+pub chain_before_spec : {M : Type 1} → statement M
+chain_before_spec =
     tie.close
     (tie.spec
-    depth-from-one-requires
+    depth_from_one_requires
     enum_told
-    sub-result
-    enum-told-2
-    sub-result-2
+    sub_result
+    enum_told_2
+    sub_result_2
     returns
     returns-2
-    returns-3)
+    returns_3)

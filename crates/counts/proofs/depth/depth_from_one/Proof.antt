@@ -2,60 +2,60 @@
 -- overflow. The test against the threshold is the definition's.
 use native.Mathlib.Omega.{arith}
 use borrow.Author.Rules.{rules}
-use Rattle.number.proofs.Bits.{digits-range}
-use Rattle.counts.proofs.DepthLaws.{depth-least, depth-more, depth_same}
+use Rattle.number.proofs.Bits.{digits_range}
+use Rattle.counts.proofs.DepthLaws.{depth_least, depth_more, depth_same}
 use Rattle.counts.proofs.depth.depth_from_one.Statement.{statement}
 use Rattle.counts.proofs.depth.depth_from_one.Tie as tie
 
-bit-len-requires : tie.Need-bit-len-requires
-bit-len-requires c κs = search rules
+bit_len_requires : tie.Need-bit-len-requires
+bit_len_requires c κs = search rules
 
 enum_told : tie.Need-enum-told
 enum_told c = search rules
 
-enum-told-2 : tie.Need-enum-told-2
-enum-told-2 c = search rules
+enum_told_2 : tie.Need-enum-told-2
+enum_told_2 c = search rules
 
-depth-threshold-requires : tie.Need-depth-threshold-requires
-depth-threshold-requires c κs =
+depth_threshold_requires : tie.Need-depth-threshold-requires
+depth_threshold_requires c κs =
     let digits = c.before.before in
-    rw digits.bit-len.ensures (digits-range digits.before.args.degree digits.before.requires)
+    rw digits.bit_len.ensures (digits_range digits.before.args.degree digits.before.requires)
 
-add-result : tie.Need-overflow-add-result
-add-result c =
+add_result : tie.Need-overflow-add-result
+add_result c =
     let digits = c.before.before.before.before in
-    omega (arith, digits.bit-len.ensures, digits-range digits.before.args.degree digits.before.requires)
+    omega (arith, digits.bit_len.ensures, digits_range digits.before.args.degree digits.before.requires)
 
 returns : tie.Need-returns
 returns c =
     let digits = c.before.before in
-    rw c.enum_told.given.1 (depth-least digits.before.args.degree digits.before.requires.from digits.bit-len.ensures)
+    rw c.enum_told.given.1 (depth_least digits.before.args.degree digits.before.requires.from digits.bit_len.ensures)
 
 returns-2 : tie.Need-returns-2
 returns-2 c =
     let arm = c.before.before in
     let digits = arm.before.before in
-    rw arm.enum-told2.given.1
-    (depth-more digits.before.args.degree digits.before.requires.from digits.bit-len.ensures
-    (rw c.before.depth-threshold.ensures at c.if1.true))
+    rw arm.enum_told2.given.1
+    (depth_more digits.before.args.degree digits.before.requires.from digits.bit_len.ensures
+    (rw c.before.depth_threshold.ensures at c.if1.true))
 
-returns-3 : tie.Need-returns-3
-returns-3 c =
+returns_3 : tie.Need-returns-3
+returns_3 c =
     let arm = c.before.before in
     let digits = arm.before.before in
-    rw arm.enum-told2.given.1
-    (depth_same digits.before.args.degree digits.before.requires.from digits.bit-len.ensures
-    (rw c.before.depth-threshold.ensures at c.if1.false))
+    rw arm.enum_told2.given.1
+    (depth_same digits.before.args.degree digits.before.requires.from digits.bit_len.ensures
+    (rw c.before.depth_threshold.ensures at c.if1.false))
 
-pub depth-from-one-spec : {M : Type 1} → statement M
-depth-from-one-spec =
+pub depth_from_one_spec : {M : Type 1} → statement M
+depth_from_one_spec =
     tie.close
     (tie.spec
-    bit-len-requires
+    bit_len_requires
     enum_told
-    enum-told-2
-    depth-threshold-requires
-    add-result
+    enum_told_2
+    depth_threshold_requires
+    add_result
     returns
     returns-2
-    returns-3)
+    returns_3)

@@ -2,89 +2,89 @@
 -- that are meant, with its heads in numbers and the call's own buffers, and else refusal 43 with the buffers unchanged.
 use mathlib.Core.Path.{ap, ◌∙◌}
 use borrow.Author.Rules.{rules}
-use Rattle.sets.specs.SetCall.{setAnswer, setCoefficientsLeft, setBoundariesLeft, setNumbersLeft}
+use Rattle.sets.specs.SetCall.{set_answer, set_coefficients_left, set_boundaries_left, set_numbers_left}
 use Rattle.sets.specs.declared.member.Members.{Members}
-use Rattle.flat.specs.Unknown.{whenKnown}
-use Rattle.flat.specs.Sets.{flatSetPlanned, noSetPlanned}
-use Rattle.flat.proofs.Known.{unknown, known, when-known}
+use Rattle.flat.specs.Unknown.{when_known}
+use Rattle.flat.specs.Sets.{flat_set_planned, no_set_planned}
+use Rattle.flat.proofs.Known.{unknown, known, when_known_lem}
 use Rattle.exports.proofs.curve_sets.firrozun_plan_set.Statement.{statement}
 use Rattle.exports.proofs.curve_sets.firrozun_plan_set.Tie as tie
 
-knows-members-requires : tie.Need-knows-members-requires
-knows-members-requires c κs = search rules
+knows_members_requires : tie.Need-knows-members-requires
+knows_members_requires c κs = search rules
 
-no-set-requires : tie.Need-no-set-requires
-no-set-requires c κs = search rules
+no_set_requires : tie.Need-no-set-requires
+no_set_requires c κs = search rules
 
 returns : tie.Need-returns
-unfolding whenKnown
+unfolding when_known
 returns c =
     let test = c.before in
-    let unsure = unknown test.if1.true test.before.knows-members.ensures in
+    let unsure = unknown test.if1.true test.before.knows_members.ensures in
     record {
-      answer = rw (unsure, c.no-set.ensures);
+      answer = rw (unsure, c.no_set_lem.ensures);
       coefficients = rw (unsure);
       boundaries = rw (unsure);
       numbers = rw (unsure);
     }
 
-members-of-requires : tie.Need-members-of-requires
-members-of-requires c κs = search rules
+members_of_requires : tie.Need-members-of-requires
+members_of_requires c κs = search rules
 
-plan-set-requires : tie.Need-plan-set-requires
-plan-set-requires c κs = search rules
+plan_set_requires : tie.Need-plan-set-requires
+plan_set_requires c κs = search rules
 
-flat-set-planned-requires : tie.Need-flat-set-planned-requires
-flat-set-planned-requires c κs = search rules
+flat_set_planned_requires : tie.Need-flat-set-planned-requires
+flat_set_planned_requires c κs = search rules
 
 same_length : tie.Need-same-length
 same_length c = search rules
 
-same-length-2 : tie.Need-same-length-2
-same-length-2 c = search rules
+same_length_2 : tie.Need-same-length-2
+same_length_2 c = search rules
 
-same-length-3 : tie.Need-same-length-3
-same-length-3 c = search rules
+same_length_3 : tie.Need-same-length-3
+same_length_3 c = search rules
 
 returns-2 : tie.Need-returns-2
 returns-2 c =
     let called = c.before.before.before.before.before.before in
     let meant = called.before.before.before.before in
     let test = meant.before in
-    let sure = known test.if1.false test.before.knows-members.ensures in
-    let members = meant.members-of.ensures in
+    let sure = known test.if1.false test.before.knows_members.ensures in
+    let members = meant.members_of.ensures in
     let start = test.before.before.before.before in
     let coeffs = start.args.c.now in
     let out = start.args.out.now in
     let bounds = start.args.bounds.now in
     let steps = start.args.steps.now in
     record {
-      answer = c.flat-set-planned.ensures
-          ∙ ap flatSetPlanned
-          (called.plan-set.ensures.answer ∙ ap (λ (handed : Members). setAnswer handed coeffs out bounds steps) members)
-          ∙ when-known _ noSetPlanned sure;
-      coefficients = called.plan-set.ensures.coefficients
-          ∙ ap (λ (handed : Members). setCoefficientsLeft handed coeffs out bounds steps) members
-          ∙ when-known _ out sure;
-      boundaries = called.plan-set.ensures.boundaries
-          ∙ ap (λ (handed : Members). setBoundariesLeft handed coeffs out bounds steps) members
-          ∙ when-known _ bounds sure;
-      numbers = called.plan-set.ensures.numbers
-          ∙ ap (λ (handed : Members). setNumbersLeft handed coeffs out bounds steps) members
-          ∙ when-known _ steps sure;
+      answer = c.flat_set_planned.ensures
+          ∙ ap flat_set_planned
+          (called.plan_set.ensures.answer ∙ ap (λ (handed : Members). set_answer handed coeffs out bounds steps) members)
+          ∙ when_known_lem _ no_set_planned sure;
+      coefficients = called.plan_set.ensures.coefficients
+          ∙ ap (λ (handed : Members). set_coefficients_left handed coeffs out bounds steps) members
+          ∙ when_known_lem _ out sure;
+      boundaries = called.plan_set.ensures.boundaries
+          ∙ ap (λ (handed : Members). set_boundaries_left handed coeffs out bounds steps) members
+          ∙ when_known_lem _ bounds sure;
+      numbers = called.plan_set.ensures.numbers
+          ∙ ap (λ (handed : Members). set_numbers_left handed coeffs out bounds steps) members
+          ∙ when_known_lem _ steps sure;
     }
 
-pub firrozun-plan-set-spec : {M : Type 1} → statement M
-firrozun-plan-set-spec =
+pub firrozun_plan_set_spec : {M : Type 1} → statement M
+firrozun_plan_set_spec =
     tie.close
     (tie.spec
-    knows-members-requires
-    no-set-requires
+    knows_members_requires
+    no_set_requires
     returns
-    members-of-requires
-    plan-set-requires
-    flat-set-planned-requires
+    members_of_requires
+    plan_set_requires
+    flat_set_planned_requires
     same_length
-    same-length-2
-    same-length-3
+    same_length_2
+    same_length_3
     returns-2)

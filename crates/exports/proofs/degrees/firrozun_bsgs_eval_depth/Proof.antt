@@ -1,42 +1,42 @@
 -- `exports::degrees::firrozun_bsgs_eval_depth` meets its contract. With a known strategy it is the call's own answer for it, field by field, and
 -- else refusal 43.
 use borrow.Author.Rules.{rules}
-use Rattle.flat.specs.Unknown.{whenKnown}
+use Rattle.flat.specs.Unknown.{when_known}
 use Rattle.flat.proofs.Known.{unknown, known}
 use Rattle.exports.proofs.degrees.firrozun_bsgs_eval_depth.Statement.{statement}
 use Rattle.exports.proofs.degrees.firrozun_bsgs_eval_depth.Tie as tie
 
-is-strategy-requires : tie.Need-is-strategy-requires
-is-strategy-requires c κs = search rules
+is_strategy_requires : tie.Need-is-strategy-requires
+is_strategy_requires c κs = search rules
 
 returns : tie.Need-returns
-unfolding whenKnown
-returns c = rw (unknown c.if1.true c.before.is-strategy.ensures)
+unfolding when_known
+returns c = rw (unknown c.if1.true c.before.is_strategy.ensures)
 
-strategy-of-requires : tie.Need-strategy-of-requires
-strategy-of-requires c κs = search rules
+strategy_of_requires : tie.Need-strategy-of-requires
+strategy_of_requires c κs = search rules
 
-bsgs-eval-depth-requires : tie.Need-bsgs-eval-depth-requires
-bsgs-eval-depth-requires c κs = search rules
+bsgs_eval_depth_requires : tie.Need-bsgs-eval-depth-requires
+bsgs_eval_depth_requires c κs = search rules
 
-flat-depth-requires : tie.Need-flat-depth-requires
-flat-depth-requires c κs = search rules
+flat_depth_requires : tie.Need-flat-depth-requires
+flat_depth_requires c κs = search rules
 
 returns-2 : tie.Need-returns-2
-unfolding whenKnown
+unfolding when_known
 returns-2 c =
     let called = c.before in
     let chosen = called.before in
     let test = chosen.before in
-    rw (known test.if1.false test.before.is-strategy.ensures, c.flat-depth.ensures, called.bsgs-eval-depth.ensures, chosen.strategy-of.ensures)
+    rw (known test.if1.false test.before.is_strategy.ensures, c.flat_depth.ensures, called.bsgs_eval_depth.ensures, chosen.strategy_of.ensures)
 
-pub firrozun-bsgs-eval-depth-spec : {M : Type 1} → statement M
-firrozun-bsgs-eval-depth-spec =
+pub firrozun_bsgs_eval_depth_spec : {M : Type 1} → statement M
+firrozun_bsgs_eval_depth_spec =
     tie.close
     (tie.spec
-    is-strategy-requires
+    is_strategy_requires
     returns
-    strategy-of-requires
-    bsgs-eval-depth-requires
-    flat-depth-requires
+    strategy_of_requires
+    bsgs_eval_depth_requires
+    flat_depth_requires
     returns-2)

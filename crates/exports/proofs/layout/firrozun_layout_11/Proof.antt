@@ -6,5 +6,5 @@ use Rattle.exports.proofs.layout.firrozun_layout_11.Tie as tie
 returns : tie.Need-returns
 returns c = refl
 
-pub firrozun-layout-11-spec : {M : Type 1} → statement M
-firrozun-layout-11-spec = tie.close (tie.spec returns)
+pub firrozun_layout_11_spec : {M : Type 1} → statement M
+firrozun_layout_11_spec = tie.close (tie.spec returns)

@@ -2,57 +2,57 @@
 -- and the call's own buffers, and else refusal 43 with the buffers unchanged.
 use mathlib.Core.Path.{ap, ◌∙◌}
 use borrow.Author.Rules.{rules}
-use Rattle.plan.specs.PlanCall.{planAnswer, planCoefficients, planBoundaries, planNumbers}
-use Rattle.flat.specs.Unknown.{whenKnown}
-use Rattle.flat.specs.Heads.{flatPlanned, noPlan}
-use Rattle.flat.proofs.Known.{unknown, known, when-known, same-settings}
+use Rattle.plan.specs.PlanCall.{plan_answer, plan_coefficients, plan_boundaries, plan_numbers}
+use Rattle.flat.specs.Unknown.{when_known}
+use Rattle.flat.specs.Heads.{flat_planned, no_plan}
+use Rattle.flat.proofs.Known.{unknown, known, when_known_lem, same_settings}
 use Rattle.exports.proofs.planning.firrozun_plan.Statement.{statement}
 use Rattle.exports.proofs.planning.firrozun_plan.Tie as tie
 
-knows-settings-requires : tie.Need-knows-settings-requires
-knows-settings-requires c κs = search rules
+knows_settings_requires : tie.Need-knows-settings-requires
+knows_settings_requires c κs = search rules
 
-no-plan-requires : tie.Need-no-plan-requires
-no-plan-requires c κs = search rules
+no_plan_requires : tie.Need-no-plan-requires
+no_plan_requires c κs = search rules
 
 returns : tie.Need-returns
-unfolding whenKnown
+unfolding when_known
 returns c =
     let test = c.before in
-    let unsure = unknown test.if1.true test.before.knows-settings.ensures in
+    let unsure = unknown test.if1.true test.before.knows_settings.ensures in
     record {
-      answer = rw (unsure, c.no-plan.ensures);
+      answer = rw (unsure, c.no_plan.ensures);
       coefficients = rw (unsure);
       boundaries = rw (unsure);
       numbers = rw (unsure);
     }
 
-strategy-of-requires : tie.Need-strategy-of-requires
-strategy-of-requires c κs = search rules
+strategy_of_requires : tie.Need-strategy-of-requires
+strategy_of_requires c κs = search rules
 
-parity-of-requires : tie.Need-parity-of-requires
-parity-of-requires c κs = search rules
+parity_of_requires : tie.Need-parity-of-requires
+parity_of_requires c κs = search rules
 
-basis-of-requires : tie.Need-basis-of-requires
-basis-of-requires c κs = search rules
+basis_of_requires : tie.Need-basis-of-requires
+basis_of_requires c κs = search rules
 
-fold-of-requires : tie.Need-fold-of-requires
-fold-of-requires c κs = search rules
+fold_of_requires : tie.Need-fold-of-requires
+fold_of_requires c κs = search rules
 
-plan-requires : tie.Need-plan-requires
-plan-requires c κs = search rules
+plan_requires : tie.Need-plan-requires
+plan_requires c κs = search rules
 
-flat-planned-requires : tie.Need-flat-planned-requires
-flat-planned-requires c κs = search rules
+flat_planned_requires : tie.Need-flat-planned-requires
+flat_planned_requires c κs = search rules
 
 same_length : tie.Need-same-length
 same_length c = search rules
 
-same-length-2 : tie.Need-same-length-2
-same-length-2 c = search rules
+same_length_2 : tie.Need-same-length-2
+same_length_2 c = search rules
 
-same-length-3 : tie.Need-same-length-3
-same-length-3 c = search rules
+same_length_3 : tie.Need-same-length-3
+same_length_3 c = search rules
 
 returns-2 : tie.Need-returns-2
 returns-2 c =
@@ -62,11 +62,11 @@ returns-2 c =
     let told = based.before in
     let chosen = told.before in
     let test = chosen.before in
-    let fold = folded.fold-of.ensures in
-    let basis = based.basis-of.ensures in
-    let parity = told.parity-of.ensures in
-    let strategy = chosen.strategy-of.ensures in
-    let sure = known test.if1.false test.before.knows-settings.ensures in
+    let fold = folded.fold_of.ensures in
+    let basis = based.basis_of.ensures in
+    let parity = told.parity_of.ensures in
+    let strategy = chosen.strategy_of.ensures in
+    let sure = known test.if1.false test.before.knows_settings.ensures in
     let start = test.before.before.before.before in
     let coeffs = start.args.c.now in
     let a = start.args.a in
@@ -75,36 +75,36 @@ returns-2 c =
     let bounds = start.args.bounds.now in
     let steps = start.args.steps.now in
     record {
-      answer = c.flat-planned.ensures
-          ∙ ap flatPlanned
+      answer = c.flat_planned.ensures
+          ∙ ap flat_planned
           (called.plan.ensures.answer
-          ∙ same-settings (λ s p q f. planAnswer s p q f coeffs a b out bounds steps) strategy parity basis fold)
-          ∙ when-known _ noPlan sure;
+          ∙ same_settings (λ s p q f. plan_answer s p q f coeffs a b out bounds steps) strategy parity basis fold)
+          ∙ when_known_lem _ no_plan sure;
       coefficients = called.plan.ensures.coefficients
-          ∙ same-settings (λ s p q f. planCoefficients s p q f coeffs a b out bounds steps) strategy parity basis fold
-          ∙ when-known _ out sure;
+          ∙ same_settings (λ s p q f. plan_coefficients s p q f coeffs a b out bounds steps) strategy parity basis fold
+          ∙ when_known_lem _ out sure;
       boundaries = called.plan.ensures.boundaries
-          ∙ same-settings (λ s p q f. planBoundaries s p q f coeffs a b out bounds steps) strategy parity basis fold
-          ∙ when-known _ bounds sure;
+          ∙ same_settings (λ s p q f. plan_boundaries s p q f coeffs a b out bounds steps) strategy parity basis fold
+          ∙ when_known_lem _ bounds sure;
       numbers = called.plan.ensures.numbers
-          ∙ same-settings (λ s p q f. planNumbers s p q f coeffs a b out bounds steps) strategy parity basis fold
-          ∙ when-known _ steps sure;
+          ∙ same_settings (λ s p q f. plan_numbers s p q f coeffs a b out bounds steps) strategy parity basis fold
+          ∙ when_known_lem _ steps sure;
     }
 
-pub firrozun-plan-spec : {M : Type 1} → statement M
-firrozun-plan-spec =
+pub firrozun_plan_spec : {M : Type 1} → statement M
+firrozun_plan_spec =
     tie.close
     (tie.spec
-    knows-settings-requires
-    no-plan-requires
+    knows_settings_requires
+    no_plan_requires
     returns
-    strategy-of-requires
-    parity-of-requires
-    basis-of-requires
-    fold-of-requires
-    plan-requires
-    flat-planned-requires
+    strategy_of_requires
+    parity_of_requires
+    basis_of_requires
+    fold_of_requires
+    plan_requires
+    flat_planned_requires
     same_length
-    same-length-2
-    same-length-3
+    same_length_2
+    same_length_3
     returns-2)

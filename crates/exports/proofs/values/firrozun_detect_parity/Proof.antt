@@ -3,15 +3,15 @@ use borrow.Author.Rules.{rules}
 use Rattle.exports.proofs.values.firrozun_detect_parity.Statement.{statement}
 use Rattle.exports.proofs.values.firrozun_detect_parity.Tie as tie
 
-detect-parity-requires : tie.Need-detect-parity-requires
-detect-parity-requires c κs = search rules
+detect_parity_requires : tie.Need-detect-parity-requires
+detect_parity_requires c κs = search rules
 
-parity-number-requires : tie.Need-parity-number-requires
-parity-number-requires c κs = search rules
+parity_number_requires : tie.Need-parity-number-requires
+parity_number_requires c κs = search rules
 
 returns : tie.Need-returns
-returns c = rw (c.parity-number.ensures, c.before.detect-parity.ensures)
+returns c = rw (c.parity_number_lem.ensures, c.before.detect_parity.ensures)
 
-pub firrozun-detect-parity-spec : {M : Type 1} → statement M
-firrozun-detect-parity-spec =
-    tie.close (tie.spec detect-parity-requires parity-number-requires returns)
+pub firrozun_detect_parity_spec : {M : Type 1} → statement M
+firrozun_detect_parity_spec =
+    tie.close (tie.spec detect_parity_requires parity_number_requires returns)

@@ -3,15 +3,15 @@ use borrow.Author.Rules.{rules}
 use Rattle.exports.proofs.values.firrozun_detect_parity_f64.Statement.{statement}
 use Rattle.exports.proofs.values.firrozun_detect_parity_f64.Tie as tie
 
-detect-parity-f64-requires : tie.Need-detect-parity-f64-requires
-detect-parity-f64-requires c κs = search rules
+detect_parity_f64_requires : tie.Need-detect-parity-f64-requires
+detect_parity_f64_requires c κs = search rules
 
-parity-number-requires : tie.Need-parity-number-requires
-parity-number-requires c κs = search rules
+parity_number_requires : tie.Need-parity-number-requires
+parity_number_requires c κs = search rules
 
 returns : tie.Need-returns
-returns c = rw (c.parity-number.ensures, c.before.detect-parity-f64.ensures)
+returns c = rw (c.parity_number_lem.ensures, c.before.detect_parity_f64.ensures)
 
-pub firrozun-detect-parity-f64-spec : {M : Type 1} → statement M
-firrozun-detect-parity-f64-spec =
-    tie.close (tie.spec detect-parity-f64-requires parity-number-requires returns)
+pub firrozun_detect_parity_f64_spec : {M : Type 1} → statement M
+firrozun_detect_parity_f64_spec =
+    tie.close (tie.spec detect_parity_f64_requires parity_number_requires returns)

@@ -2,32 +2,32 @@
 -- 0.0, which is +0.
 use borrow.Author.Rules.{rules}
 use Rattle.number.proofs.Literals.{zero_is}
-use Rattle.flat.specs.Unknown.{whenKnown}
+use Rattle.flat.specs.Unknown.{when_known}
 use Rattle.flat.proofs.Known.{unknown, known}
 use Rattle.exports.proofs.values.firrozun_evaluate_coeffs.Statement.{statement}
 use Rattle.exports.proofs.values.firrozun_evaluate_coeffs.Tie as tie
 
-is-basis-requires : tie.Need-is-basis-requires
-is-basis-requires c κs = search rules
+is_basis_requires : tie.Need-is-basis-requires
+is_basis_requires c κs = search rules
 
 returns : tie.Need-returns
-unfolding whenKnown
-returns c = rw (unknown c.if1.true c.before.is-basis.ensures, zero_is)
+unfolding when_known
+returns c = rw (unknown c.if1.true c.before.is_basis.ensures, zero_is)
 
-basis-of-requires : tie.Need-basis-of-requires
-basis-of-requires c κs = search rules
+basis_of_requires : tie.Need-basis-of-requires
+basis_of_requires c κs = search rules
 
-evaluate-coeffs-requires : tie.Need-evaluate-coeffs-requires
-evaluate-coeffs-requires c κs = search rules
+evaluate_coeffs_requires : tie.Need-evaluate-coeffs-requires
+evaluate_coeffs_requires c κs = search rules
 
 returns-2 : tie.Need-returns-2
-unfolding whenKnown
+unfolding when_known
 returns-2 c =
     let based = c.before in
     let test = based.before in
-    rw (known test.if1.false test.before.is-basis.ensures, c.evaluate-coeffs.ensures, based.basis-of.ensures)
+    rw (known test.if1.false test.before.is_basis.ensures, c.evaluate_coeffs.ensures, based.basis_of.ensures)
 
-pub firrozun-evaluate-coeffs-spec : {M : Type 1} → statement M
-firrozun-evaluate-coeffs-spec =
+pub firrozun_evaluate_coeffs_spec : {M : Type 1} → statement M
+firrozun_evaluate_coeffs_spec =
     tie.close
-    (tie.spec is-basis-requires returns basis-of-requires evaluate-coeffs-requires returns-2)
+    (tie.spec is_basis_requires returns basis_of_requires evaluate_coeffs_requires returns-2)

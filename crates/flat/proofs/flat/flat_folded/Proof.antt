@@ -3,14 +3,14 @@ use borrow.Author.Rules.{rules}
 use Rattle.flat.proofs.flat.flat_folded.Statement.{statement}
 use Rattle.flat.proofs.flat.flat_folded.Tie as tie
 
-transform-number-requires : tie.Need-transform-number-requires
-transform-number-requires c κs = search rules
+transform_number_requires : tie.Need-transform-number-requires
+transform_number_requires c κs = search rules
 
-parity-number-requires : tie.Need-parity-number-requires
-parity-number-requires c κs = search rules
+parity_number_requires : tie.Need-parity-number-requires
+parity_number_requires c κs = search rules
 
 returns : tie.Need-returns
-returns c = rw (c.parity-number.ensures, c.before.transform-number.ensures)
+returns c = rw (c.parity_number_lem.ensures, c.before.transform_number_lem.ensures)
 
-pub flat-folded-spec : {M : Type 1} → statement M
-flat-folded-spec = tie.close (tie.spec transform-number-requires parity-number-requires returns)
+pub flat_folded_spec : {M : Type 1} → statement M
+flat_folded_spec = tie.close (tie.spec transform_number_requires parity_number_requires returns)

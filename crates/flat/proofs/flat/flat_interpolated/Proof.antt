@@ -4,11 +4,11 @@ use borrow.Author.Rules.{rules}
 use Rattle.flat.proofs.flat.flat_interpolated.Statement.{statement}
 use Rattle.flat.proofs.flat.flat_interpolated.Tie as tie
 
-parity-number-requires : tie.Need-parity-number-requires
-parity-number-requires c κs = search rules
+parity_number_requires : tie.Need-parity-number-requires
+parity_number_requires c κs = search rules
 
 returns : tie.Need-returns
-returns c = rw c.parity-number.ensures
+returns c = rw c.parity_number_lem.ensures
 
-pub flat-interpolated-spec : {M : Type 1} → statement M
-flat-interpolated-spec = tie.close (tie.spec parity-number-requires returns)
+pub flat_interpolated_spec : {M : Type 1} → statement M
+flat_interpolated_spec = tie.close (tie.spec parity_number_requires returns)

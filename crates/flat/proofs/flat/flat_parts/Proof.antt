@@ -6,5 +6,5 @@ use Rattle.flat.proofs.flat.flat_parts.Tie as tie
 returns : tie.Need-returns
 returns c = refl
 
-pub flat-parts-spec : {M : Type 1} → statement M
-flat-parts-spec = tie.close (tie.spec returns)
+pub flat_parts_spec : {M : Type 1} → statement M
+flat_parts_spec = tie.close (tie.spec returns)

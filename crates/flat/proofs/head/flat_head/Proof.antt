@@ -3,20 +3,20 @@ use borrow.Author.Rules.{rules}
 use Rattle.flat.proofs.head.flat_head.Statement.{statement}
 use Rattle.flat.proofs.head.flat_head.Tie as tie
 
-basis-number-requires : tie.Need-basis-number-requires
-basis-number-requires c κs = search rules
+basis_number_requires : tie.Need-basis-number-requires
+basis_number_requires c κs = search rules
 
-parity-number-requires : tie.Need-parity-number-requires
-parity-number-requires c κs = search rules
+parity_number_requires : tie.Need-parity-number-requires
+parity_number_requires c κs = search rules
 
-strategy-number-requires : tie.Need-strategy-number-requires
-strategy-number-requires c κs = search rules
+strategy_number_requires : tie.Need-strategy-number-requires
+strategy_number_requires c κs = search rules
 
-transform-number-requires : tie.Need-transform-number-requires
-transform-number-requires c κs = search rules
+transform_number_requires : tie.Need-transform-number-requires
+transform_number_requires c κs = search rules
 
-flat-head-interval-requires : tie.Need-flat-head-interval-requires
-flat-head-interval-requires c κs = search rules
+flat_head_interval_requires : tie.Need-flat-head-interval-requires
+flat_head_interval_requires c κs = search rules
 
 returns : tie.Need-returns
 returns c =
@@ -24,20 +24,20 @@ returns c =
     let chosen = numbered.before in
     let told = chosen.before in
     rw (
-      c.flat-head-interval.ensures,
-      numbered.transform-number.ensures,
-      chosen.strategy-number.ensures,
-      told.parity-number.ensures,
-      told.before.basis-number.ensures,
+      c.flat_head_interval.ensures,
+      numbered.transform_number_lem.ensures,
+      chosen.strategy_number_lem.ensures,
+      told.parity_number_lem.ensures,
+      told.before.basis_number_lem.ensures,
     )
 
-pub flat-head-spec : {M : Type 1} → statement M
-flat-head-spec =
+pub flat_head_spec : {M : Type 1} → statement M
+flat_head_spec =
     tie.close
     (tie.spec
-    basis-number-requires
-    parity-number-requires
-    strategy-number-requires
-    transform-number-requires
-    flat-head-interval-requires
+    basis_number_requires
+    parity_number_requires
+    strategy_number_requires
+    transform_number_requires
+    flat_head_interval_requires
     returns)

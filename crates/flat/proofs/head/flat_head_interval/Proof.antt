@@ -6,5 +6,5 @@ use Rattle.flat.proofs.head.flat_head_interval.Tie as tie
 returns : tie.Need-returns
 returns c = refl
 
-pub flat-head-interval-spec : {M : Type 1} → statement M
-flat-head-interval-spec = tie.close (tie.spec returns)
+pub flat_head_interval_spec : {M : Type 1} → statement M
+flat_head_interval_spec = tie.close (tie.spec returns)

@@ -3,11 +3,11 @@ use borrow.Author.Rules.{rules}
 use Rattle.flat.proofs.head.flat_planned.Statement.{statement}
 use Rattle.flat.proofs.head.flat_planned.Tie as tie
 
-flat-head-requires : tie.Need-flat-head-requires
-flat-head-requires c κs = search rules
+flat_head_requires : tie.Need-flat-head-requires
+flat_head_requires c κs = search rules
 
 returns : tie.Need-returns
-returns c = rw c.flat-head.ensures
+returns c = rw c.flat_head.ensures
 
-pub flat-planned-spec : {M : Type 1} → statement M
-flat-planned-spec = tie.close (tie.spec flat-head-requires returns)
+pub flat_planned_spec : {M : Type 1} → statement M
+flat_planned_spec = tie.close (tie.spec flat_head_requires returns)

@@ -6,5 +6,5 @@ use Rattle.flat.proofs.head.no_plan.Tie as tie
 returns : tie.Need-returns
 returns c = rw zero_is
 
-pub no-plan-spec : {M : Type 1} → statement M
-no-plan-spec = tie.close (tie.spec returns)
+pub no_plan_spec : {M : Type 1} → statement M
+no_plan_spec = tie.close (tie.spec returns)

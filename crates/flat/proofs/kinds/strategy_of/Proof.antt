@@ -1,16 +1,16 @@
 -- `flat::kinds::strategy_of` meets its contract. 0 is the first strategy, and every other number the second, as the test found.
 use borrow.Author.Tests.{eq-eqb, ne_eqb}
-use Rattle.flat.specs.Kinds.{strategyNumbered}
+use Rattle.flat.specs.Kinds.{strategy_numbered}
 use Rattle.flat.proofs.kinds.strategy_of.Statement.{statement}
 use Rattle.flat.proofs.kinds.strategy_of.Tie as tie
 
 returns : tie.Need-returns
-unfolding strategyNumbered
+unfolding strategy_numbered
 returns c = rw (eq-eqb c.before.args.n 0 c.if1.true)
 
 returns-2 : tie.Need-returns-2
-unfolding strategyNumbered
+unfolding strategy_numbered
 returns-2 c = rw (ne_eqb c.before.args.n 0 c.if1.false)
 
-pub strategy-of-spec : {M : Type 1} → statement M
-strategy-of-spec = tie.close (tie.spec returns returns-2)
+pub strategy_of_spec : {M : Type 1} → statement M
+strategy_of_spec = tie.close (tie.spec returns returns-2)

@@ -3,11 +3,11 @@ use borrow.Author.Rules.{rules}
 use Rattle.flat.proofs.planned_set.flat_set_planned.Statement.{statement}
 use Rattle.flat.proofs.planned_set.flat_set_planned.Tie as tie
 
-flat-set-requires : tie.Need-flat-set-requires
-flat-set-requires c κs = search rules
+flat_set_requires : tie.Need-flat-set-requires
+flat_set_requires c κs = search rules
 
 returns : tie.Need-returns
-returns c = rw c.flat-set.ensures
+returns c = rw c.flat_set.ensures
 
-pub flat-set-planned-spec : {M : Type 1} → statement M
-flat-set-planned-spec = tie.close (tie.spec flat-set-requires returns)
+pub flat_set_planned_spec : {M : Type 1} → statement M
+flat_set_planned_spec = tie.close (tie.spec flat_set_requires returns)

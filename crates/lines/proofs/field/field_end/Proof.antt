@@ -7,40 +7,40 @@ use borrow.Author.Tests.{eq-eqb, ne_eqb}
 use borrow.Author.Rules.{rules}
 use lib.ListN.{length}
 use Rattle.lines.specs.Fields.{first}
-use Rattle.lines.specs.inside.FieldsFrom.{fieldsFrom}
-use Rattle.lines.proofs.FieldLaws.{tab-at, other_at, end-at}
+use Rattle.lines.specs.inside.FieldsFrom.{fields_from}
+use Rattle.lines.proofs.FieldLaws.{tab_at, other_at, end_at}
 use Rattle.lines.proofs.field.field_end.Statement.{statement}
 use Rattle.lines.proofs.field.field_end.Tie as tie
 
 abbrev invariant-loop : tie.invariant-loop
 invariant-loop line at i₀ i = record {
   within : i ≤ length line;
-  same : i + length (first (fieldsFrom i line)) ≡ at + length (first (fieldsFrom at line));
+  same : i + length (first (fields_from i line)) ≡ at + length (first (fields_from at line));
 }
 
 abbrev decreases-loop : tie.decreases-loop
 decreases-loop line at i₀ i = length line - i
 
-loop-holds : tie.Need-loop-init invariant-loop decreases-loop
-loop-holds c = record { within = search rules; same = refl }
+loop_holds : tie.Need-loop-init invariant-loop decreases-loop
+loop_holds c = record { within = search rules; same = refl }
 
-shared-slice-read-if1 : tie.Need-shared-slice-read-if1 invariant-loop decreases-loop
-shared-slice-read-if1 c = search rules
+shared_slice_read_if1 : tie.Need-shared-slice-read-if1 invariant-loop decreases-loop
+shared_slice_read_if1 c = search rules
 
 returns : tie.Need-returns invariant-loop decreases-loop
 returns c =
     let loop = c.before.before.before.loop in
-    let tab = tab-at c.before.before.before.before.args.line.now loop.i (omega arith) (eq-eqb _ _ c.if1.true) in
+    let tab = tab_at c.before.before.before.before.args.line.now loop.i (omega arith) (eq-eqb _ _ c.if1.true) in
     record { is = omega arith; within = omega arith }
 
-add-i : tie.Need-overflow-add-i invariant-loop decreases-loop
-add-i c = search rules
+add_i : tie.Need-overflow-add-i invariant-loop decreases-loop
+add_i c = search rules
 
-loop-less : tie.Need-loop-smaller invariant-loop decreases-loop
-loop-less c = search rules
+loop_less : tie.Need-loop-smaller invariant-loop decreases-loop
+loop_less c = search rules
 
-loop-again : tie.Need-loop-preserved invariant-loop decreases-loop
-loop-again c =
+loop_again : tie.Need-loop-preserved invariant-loop decreases-loop
+loop_again c =
     let loop = c.before.before.before.loop in
     let other = other_at c.before.before.before.before.args.line.now loop.i (omega arith) (ne_eqb _ _ c.if1.false) in
     record { within = omega arith; same = omega arith }
@@ -48,19 +48,19 @@ loop-again c =
 returns-2 : tie.Need-returns-2 invariant-loop decreases-loop
 returns-2 c =
     let loop = c.before.loop in
-    let ends = end-at c.before.before.args.line.now loop.i loop.invariant.within (omega arith) in
+    let ends = end_at c.before.before.args.line.now loop.i loop.invariant.within (omega arith) in
     record { is = omega arith; within = omega arith }
 
-pub field-end-spec : {M : Type 1} → statement M
-field-end-spec =
+pub field_end_spec : {M : Type 1} → statement M
+field_end_spec =
     tie.close
     (tie.spec
     invariant-loop
     decreases-loop
-    loop-holds
-    shared-slice-read-if1
+    loop_holds
+    shared_slice_read_if1
     returns
-    add-i
-    loop-less
-    loop-again
+    add_i
+    loop_less
+    loop_again
     returns-2)

@@ -1,7 +1,7 @@
 -- `lines::letter::basis_of` meets its contract: the second letter of the table says its basis, and every other byte the first.
 use borrow.Author.Tests.{ne_eqb}
 use lib.Dec.{eqb}
-use Rattle.lines.specs.Bytes.{letterM}
+use Rattle.lines.specs.Bytes.{letter_m}
 use Rattle.lines.proofs.LetterLaws.{either_way}
 use Rattle.lines.proofs.letter.basis_of.Statement.{statement}
 use Rattle.lines.proofs.letter.basis_of.Tie as tie
@@ -10,7 +10,7 @@ returns : tie.Need-returns
 returns c = rw c.if1.true
 
 returns-2 : tie.Need-returns-2
-returns-2 c = rw (ne_eqb _ _ c.if1.false) (either_way (eqb c.before.args.letter letterM) _)
+returns-2 c = rw (ne_eqb _ _ c.if1.false) (either_way (eqb c.before.args.letter letter_m) _)
 
-pub basis-of-spec : {M : Type 1} → statement M
-basis-of-spec = tie.close (tie.spec returns returns-2)
+pub basis_of_spec : {M : Type 1} → statement M
+basis_of_spec = tie.close (tie.spec returns returns-2)

@@ -11,5 +11,5 @@ returns c = rw (eq-eqb _ _ c.if1.true)
 returns-2 : tie.Need-returns-2
 returns-2 c = rw (ne_eqb _ _ c.if1.false) (sym (or-false _))
 
-pub is-basis-spec : {M : Type 1} → statement M
-is-basis-spec = tie.close (tie.spec returns returns-2)
+pub is_basis_spec : {M : Type 1} → statement M
+is_basis_spec = tie.close (tie.spec returns returns-2)

@@ -11,8 +11,8 @@ returns c = rw (eq-eqb _ _ c.if1.true)
 returns-2 : tie.Need-returns-2
 returns-2 c = rw (ne_eqb _ _ c.before.if1.false, eq-eqb _ _ c.if2.true)
 
-returns-3 : tie.Need-returns-3
-returns-3 c = rw (ne_eqb _ _ c.before.if1.false, ne_eqb _ _ c.if2.false) (sym (or-false _))
+returns_3 : tie.Need-returns-3
+returns_3 c = rw (ne_eqb _ _ c.before.if1.false, ne_eqb _ _ c.if2.false) (sym (or-false _))
 
-pub is-parity-spec : {M : Type 1} → statement M
-is-parity-spec = tie.close (tie.spec returns returns-2 returns-3)
+pub is_parity_spec : {M : Type 1} → statement M
+is_parity_spec = tie.close (tie.spec returns returns-2 returns_3)

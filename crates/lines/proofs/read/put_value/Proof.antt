@@ -5,11 +5,11 @@ use lib.Seq.{set_out}
 use Rattle.lines.proofs.read.put_value.Statement.{statement}
 use Rattle.lines.proofs.read.put_value.Tie as tie
 
-mul-value : tie.Need-overflow-mul-value
-mul-value c = search rules
+mul_value : tie.Need-overflow-mul-value
+mul_value c = search rules
 
-slice-set-from-value : tie.Need-slice-set-from-value
-slice-set-from-value c = search rules
+slice_set_from_value : tie.Need-slice-set-from-value
+slice_set_from_value c = search rules
 
 same_length : tie.Need-same-length
 same_length c = search rules
@@ -20,5 +20,5 @@ returns c = search rules
 returns-2 : tie.Need-returns-2
 returns-2 c = sym (set_out _ _ _ c.if1.false)
 
-pub put-value-spec : {M : Type 1} → statement M
-put-value-spec = tie.close (tie.spec mul-value slice-set-from-value same_length returns returns-2)
+pub put_value_spec : {M : Type 1} → statement M
+put_value_spec = tie.close (tie.spec mul_value slice_set_from_value same_length returns returns-2)

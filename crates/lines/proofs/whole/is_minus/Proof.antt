@@ -7,11 +7,11 @@ use Rattle.lines.proofs.whole.is_minus.Tie as tie
 returns : tie.Need-returns
 returns c = no_minus c.before.args.field.now c.if1.true
 
-shared-slice-read-result : tie.Need-shared-slice-read-result
-shared-slice-read-result c = search rules
+shared_slice_read_result : tie.Need-shared-slice-read-result
+shared_slice_read_result c = search rules
 
 returns-2 : tie.Need-returns-2
 returns-2 c = search rules
 
-pub is-minus-spec : {M : Type 1} → statement M
-is-minus-spec = tie.close (tie.spec returns shared-slice-read-result returns-2)
+pub is_minus_spec : {M : Type 1} → statement M
+is_minus_spec = tie.close (tie.spec returns shared_slice_read_result returns-2)

@@ -7,8 +7,8 @@ use native.Mathlib.Omega.{arith}
 use borrow.Author.Rules.{rules}
 use lib.ListN.{length, drop, get_or, length-drop}
 use Rattle.lines.specs.Bytes.{digit0}
-use Rattle.lines.specs.Whole.{areDigits, numberFrom, number_of}
-use Rattle.lines.proofs.WholeLaws.{all_digits, at_most, digit-first, digits-rest, number_at, number-end, digit-bounds, grown, fewer, some-power}
+use Rattle.lines.specs.Whole.{are_digits, number_from, number_of}
+use Rattle.lines.proofs.WholeLaws.{all_digits, at_most, digit_first, digits_rest, number_at, number_end, digit_bounds, grown, fewer, some_power}
 use Rattle.lines.proofs.whole.number_of.Statement.{statement}
 use Rattle.lines.proofs.whole.number_of.Tie as tie
 
@@ -16,30 +16,30 @@ abbrev invariant-loop : tie.invariant-loop
 invariant-loop field from number₀ i₀ number i = record {
   after : from ≤ i;
   within : i ≤ length field;
-  same : numberFrom number (drop i field) ≡ number_of (drop from field);
-  digits : areDigits (drop i field) ≡ true;
+  same : number_from number (drop i field) ≡ number_of (drop from field);
+  digits : are_digits (drop i field) ≡ true;
   small : number < 10 ^ (i - from);
 }
 
 abbrev decreases-loop : tie.decreases-loop
 decreases-loop field from number₀ i₀ number i = length field - i
 
-loop-holds : tie.Need-loop-init invariant-loop decreases-loop
-loop-holds c =
+loop_holds : tie.Need-loop-init invariant-loop decreases-loop
+loop_holds c =
     let args = c.before.args in
     record {
       after = omega arith;
       within = c.before.requires.0;
       same = refl;
       digits = all_digits (drop args.from args.field.now) c.before.requires.1;
-      small = some-power (args.from - args.from);
+      small = some_power (args.from - args.from);
     }
 
-shared-slice-read-b : tie.Need-shared-slice-read-b invariant-loop decreases-loop
-shared-slice-read-b c = search rules
+shared_slice_read_b : tie.Need-shared-slice-read-b invariant-loop decreases-loop
+shared_slice_read_b c = search rules
 
-with-digit-requires : tie.Need-with-digit-requires invariant-loop decreases-loop
-with-digit-requires c κs =
+with_digit_requires : tie.Need-with-digit-requires invariant-loop decreases-loop
+with_digit_requires c κs =
     let start = c.before.before.before.before in
     let loop = c.before.before.loop in
     let field = start.args.field.now in
@@ -47,47 +47,47 @@ with-digit-requires c κs =
     let within : loop.i < length field = omega arith in
     let before : loop.i - start.args.from ≤ 17 = omega (arith, few, length-drop start.args.from field) in (
       fewer (loop.i - start.args.from) loop.number before loop.invariant.small,
-      digit-first field loop.i within loop.invariant.digits,
+      digit_first field loop.i within loop.invariant.digits,
     )
 
-add-i : tie.Need-overflow-add-i invariant-loop decreases-loop
-add-i c = search rules
+add_i : tie.Need-overflow-add-i invariant-loop decreases-loop
+add_i c = search rules
 
-loop-less : tie.Need-loop-smaller invariant-loop decreases-loop
-loop-less c = search rules
+loop_less : tie.Need-loop-smaller invariant-loop decreases-loop
+loop_less c = search rules
 
-loop-again : tie.Need-loop-preserved invariant-loop decreases-loop
-loop-again c =
+loop_again : tie.Need-loop-preserved invariant-loop decreases-loop
+loop_again c =
     let start = c.before.before.before.before.before in
     let loop = c.before.before.before.loop in
     let field = start.args.field.now in
     let within : loop.i < length field = omega arith in
-    let bounds = digit-bounds (get_or field loop.i 0) (digit-first field loop.i within loop.invariant.digits) in
+    let bounds = digit_bounds (get_or field loop.i 0) (digit_first field loop.i within loop.invariant.digits) in
     let digit : get_or field loop.i 0 - digit0 ≤ 9 = omega arith in
     let more : loop.i + 1 - start.args.from ≡ suc (loop.i - start.args.from) = omega arith in
     record {
       after = omega arith;
       within = omega arith;
-      same = rw c.with-digit.ensures (sym (number_at field loop.i loop.number within) ∙ loop.invariant.same);
-      digits = digits-rest field loop.i within loop.invariant.digits;
-      small = rw (c.with-digit.ensures, more) (grown (loop.i - start.args.from) loop.number _ loop.invariant.small digit);
+      same = rw c.with_digit.ensures (sym (number_at field loop.i loop.number within) ∙ loop.invariant.same);
+      digits = digits_rest field loop.i within loop.invariant.digits;
+      small = rw (c.with_digit.ensures, more) (grown (loop.i - start.args.from) loop.number _ loop.invariant.small digit);
     }
 
 returns : tie.Need-returns invariant-loop decreases-loop
 returns c =
     let loop = c.before.loop in
-    sym (sym loop.invariant.same ∙ number-end c.before.before.before.args.field.now loop.i loop.number (omega arith))
+    sym (sym loop.invariant.same ∙ number_end c.before.before.before.args.field.now loop.i loop.number (omega arith))
 
-pub number-of-spec : {M : Type 1} → statement M
-number-of-spec =
+pub number_of_spec : {M : Type 1} → statement M
+number_of_spec =
     tie.close
     (tie.spec
     invariant-loop
     decreases-loop
-    loop-holds
-    shared-slice-read-b
-    with-digit-requires
-    add-i
-    loop-less
-    loop-again
+    loop_holds
+    shared_slice_read_b
+    with_digit_requires
+    add_i
+    loop_less
+    loop_again
     returns)

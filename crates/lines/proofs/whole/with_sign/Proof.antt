@@ -14,14 +14,14 @@ negated : (n : ℕ) → n < 2 ^ 63 → SFits w64 (neg_ℤ (pos n))
 negated zero h = record { sfits = omega arith }
 negated (suc n) h = record { sfits = omega arith }
 
-cast-result : tie.Need-overflow-cast-result
-cast-result c = search rules
+cast_result : tie.Need-overflow-cast-result
+cast_result c = search rules
 
-sub-result : tie.Need-overflow-sub-result
-sub-result c = let h : c.before.args.number < 2 ^ 63 = omega arith in rw (to_z_pos w64 h, +ℤ_idl) (negated _ h)
+sub_result : tie.Need-overflow-sub-result
+sub_result c = let h : c.before.args.number < 2 ^ 63 = omega arith in rw (to_z_pos w64 h, +ℤ_idl) (negated _ h)
 
-cast-result-2 : tie.Need-overflow-cast-result-2
-cast-result-2 c = search rules
+cast_result_2 : tie.Need-overflow-cast-result-2
+cast_result_2 c = search rules
 
 returns : tie.Need-returns
 returns c = let h : c.before.args.number < 2 ^ 63 = omega arith in rw (c.if1.true, to_z_pos w64 h, +ℤ_idl) (to_z-of_z (negated _ h))
@@ -29,5 +29,5 @@ returns c = let h : c.before.args.number < 2 ^ 63 = omega arith in rw (c.if1.tru
 returns-2 : tie.Need-returns-2
 returns-2 c = let h : c.before.args.number < 2 ^ 63 = omega arith in rw (c.if1.false, to_z_pos w64 h)
 
-pub with-sign-spec : {M : Type 1} → statement M
-with-sign-spec = tie.close (tie.spec cast-result sub-result cast-result-2 returns returns-2)
+pub with_sign_spec : {M : Type 1} → statement M
+with_sign_spec = tie.close (tie.spec cast_result sub_result cast_result_2 returns returns-2)

@@ -8,164 +8,164 @@ use borrow.Author.Rules.{rules}
 use borrow.Fn.Kinds.{In}
 use borrow.Fn.PlainCycle.{Measures, is, falls, and}
 use lib.Pow.{pow_pos}
-use Rattle.number.specs.Bits.{topPower}
-use Rattle.number.proofs.Bits.{Top, top-power}
+use Rattle.number.specs.Bits.{top_power}
+use Rattle.number.proofs.Bits.{Top, top_power_lem}
 use Rattle.lists.specs.Tree.{tree_of}
-use Rattle.lists.specs.Arrange.{leavesOf}
-use Rattle.lists.proofs.TreeRule.{Again, leading-again}
-use Rattle.lists.proofs.Arranging.{leaves-most}
-use Rattle.lists.proofs.FullTrees.{low-leaves}
-use Rattle.lists.proofs.Counting.{counted-cut, counted-again, counted-one}
-use Rattle.lists.proofs.count.count_lists.Reads as counter-reads
-use Rattle.lists.proofs.count.count_lists.Kinds as counter-kinds
+use Rattle.lists.specs.Arrange.{leaves_of}
+use Rattle.lists.proofs.TreeRule.{Again, leading_again}
+use Rattle.lists.proofs.Arranging.{leaves_most}
+use Rattle.lists.proofs.FullTrees.{low_leaves}
+use Rattle.lists.proofs.Counting.{counted_cut, counted_again, counted_one}
+use Rattle.lists.proofs.count.count_lists.Reads as counter_reads
+use Rattle.lists.proofs.count.count_lists.Kinds as counter_kinds
 use Rattle.lists.proofs.count.+count_lists_count_slice.Lts-count_lists as counter
-use Rattle.lists.proofs.count.count_slice.Reads as slicer-reads
-use Rattle.lists.proofs.count.count_slice.Kinds as slicer-kinds
+use Rattle.lists.proofs.count.count_slice.Reads as slicer_reads
+use Rattle.lists.proofs.count.count_slice.Kinds as slicer_kinds
 use Rattle.lists.proofs.count.+count_lists_count_slice.Lts-count_slice as slicer
-use Rattle.number.proofs.power_of_two.Reads as power-of-two-reads
-use Rattle.number.proofs.top_power.Reads as top-power-reads
-use Rattle.lists.proofs.count.low_lists.Reads as low-lists-reads
-use Rattle.lists.proofs.count.listed_again.Reads as listed-again-reads
-use Rattle.lists.proofs.count.smaller_split.Reads as smaller-split-reads
+use Rattle.number.proofs.power_of_two.Reads as power_of_two_reads
+use Rattle.number.proofs.top_power.Reads as top_power_reads
+use Rattle.lists.proofs.count.low_lists.Reads as low_lists_reads
+use Rattle.lists.proofs.count.listed_again.Reads as listed_again_reads
+use Rattle.lists.proofs.count.smaller_split.Reads as smaller_split_reads
 use Rattle.lists.proofs.count.+count_lists_count_slice.{statement}
 use Rattle.lists.proofs.count.+count_lists_count_slice.Tie.{close}
 
-abbrev μ-counter : Measures 0 counter-kinds.ps ℕ
+abbrev μ-counter : Measures 0 counter_kinds.ps ℕ
 μ-counter κs a = 2 * (a.1.1.0 * 64 + a.1.1.1.0) + 1
 
-abbrev μ-slicer : Measures 0 slicer-kinds.ps ℕ
+abbrev μ-slicer : Measures 0 slicer_kinds.ps ℕ
 μ-slicer κs a = 2 * (a.1.1.0 * 64 + a.1.1.1.0)
 
-abbrev counter_at : ℕ → In 0 counter-kinds.ps
+abbrev counter_at : ℕ → In 0 counter_kinds.ps
 counter_at t =
-    and 0 counter-kinds.ps (is 0 counter-kinds.ps μ-counter t) counter-reads.Pre
+    and 0 counter_kinds.ps (is 0 counter_kinds.ps μ-counter t) counter_reads.Pre
 
-abbrev counter-below : ℕ → In 0 counter-kinds.ps
-counter-below t =
-    and 0 counter-kinds.ps (falls 0 counter-kinds.ps ◌<◌ μ-counter t) counter-reads.Pre
+abbrev counter_below : ℕ → In 0 counter_kinds.ps
+counter_below t =
+    and 0 counter_kinds.ps (falls 0 counter_kinds.ps ◌<◌ μ-counter t) counter_reads.Pre
 
-abbrev slicer-at : ℕ → In 0 slicer-kinds.ps
-slicer-at t =
-    and 0 slicer-kinds.ps (is 0 slicer-kinds.ps μ-slicer t) slicer-reads.Pre
+abbrev slicer_at : ℕ → In 0 slicer_kinds.ps
+slicer_at t =
+    and 0 slicer_kinds.ps (is 0 slicer_kinds.ps μ-slicer t) slicer_reads.Pre
 
-abbrev slicer-below : ℕ → In 0 slicer-kinds.ps
-slicer-below t =
-    and 0 slicer-kinds.ps (falls 0 slicer-kinds.ps ◌<◌ μ-slicer t) slicer-reads.Pre
+abbrev slicer_below : ℕ → In 0 slicer_kinds.ps
+slicer_below t =
+    and 0 slicer_kinds.ps (falls 0 slicer_kinds.ps ◌<◌ μ-slicer t) slicer_reads.Pre
 
 -- what is handed for the callees
-abbrev counter-calls : ℕ → counter.Claims
-counter-calls t = (
-  power-of-two-reads.Asked,
-  power-of-two-reads.Learnt,
-  slicer-below t,
-  slicer-reads.Post,
-  top-power-reads.Asked,
-  top-power-reads.Learnt,
-  low-lists-reads.Asked,
-  low-lists-reads.Learnt,
-  counter-below t,
-  counter-reads.Post,
+abbrev counter_calls : ℕ → counter.Claims
+counter_calls t = (
+  power_of_two_reads.Asked,
+  power_of_two_reads.Learnt,
+  slicer_below t,
+  slicer_reads.Post,
+  top_power_reads.Asked,
+  top_power_reads.Learnt,
+  low_lists_reads.Asked,
+  low_lists_reads.Learnt,
+  counter_below t,
+  counter_reads.Post,
 )
 
-abbrev slicer-calls : ℕ → slicer.Claims
-slicer-calls t =
-    (listed-again-reads.Asked, listed-again-reads.Learnt, smaller-split-reads.Asked, smaller-split-reads.Learnt, counter-below t, counter-reads.Post)
+abbrev slicer_calls : ℕ → slicer.Claims
+slicer_calls t =
+    (listed_again_reads.Asked, listed_again_reads.Learnt, smaller_split_reads.Asked, smaller_split_reads.Learnt, counter_below t, counter_reads.Post)
 
 module _ (t : ℕ) where
   -- from the base on
-  from-base : (c : counter.Else1 (counter-calls t) (counter_at t) counter-reads.Post)
+  from_base : (c : counter.Else1 (counter_calls t) (counter_at t) counter_reads.Post)
       → 2 ^ c.before.before.args.split ≤ c.before.before.args.degree
-  from-base c = omega arith
+  from_base c = omega arith
 
-  bounds : (c : counter.Else1 (counter-calls t) (counter_at t) counter-reads.Post)
-      → Top c.before.before.args.degree (topPower c.before.before.args.degree)
-  bounds c = top-power c.before.before.args.degree (omega (arith, from-base c, pow_pos c.before.before.args.split))
+  bounds : (c : counter.Else1 (counter_calls t) (counter_at t) counter_reads.Post)
+      → Top c.before.before.args.degree (top_power c.before.before.args.degree)
+  bounds c = top_power_lem c.before.before.args.degree (omega (arith, from_base c, pow_pos c.before.before.args.split))
 
   -- a slice that the test says is listed again
-  again : (c : slicer.After-listed-again (slicer-calls t) (slicer-at t) slicer-reads.Post) → c.listed-again.result ≡ true
+  again : (c : slicer.After-listed-again (slicer_calls t) (slicer_at t) slicer_reads.Post) → c.listed_again_lem.result ≡ true
       → Again c.before.args.whole c.before.args.degree c.before.args.split
   again c told =
-      leading-again c.before.args.leading c.before.args.whole c.before.args.degree c.before.args.split
-      (sym c.listed-again.ensures ∙ told)
+      leading_again c.before.args.leading c.before.args.whole c.before.args.degree c.before.args.split
+      (sym c.listed_again_lem.ensures ∙ told)
 
-  counter-power-of-two-requires : counter.Need-power-of-two-requires (counter-calls t) (counter_at t) counter-reads.Post
-  counter-power-of-two-requires c κs = search rules
+  counter_power_of_two_requires : counter.Need-power-of-two-requires (counter_calls t) (counter_at t) counter_reads.Post
+  counter_power_of_two_requires c κs = search rules
 
-  counter-count-slice-requires : counter.Need-count-slice-requires (counter-calls t) (counter_at t) counter-reads.Post
-  counter-count-slice-requires c κs = search rules
+  counter_count_slice_requires : counter.Need-count-slice-requires (counter_calls t) (counter_at t) counter_reads.Post
+  counter_count_slice_requires c κs = search rules
 
-  counter-returns : counter.Need-returns (counter-calls t) (counter_at t) counter-reads.Post
-  counter-returns c = search rules
+  counter_returns : counter.Need-returns (counter_calls t) (counter_at t) counter_reads.Post
+  counter_returns c = search rules
 
-  counter-top-power-requires : counter.Need-top-power-requires (counter-calls t) (counter_at t) counter-reads.Post
-  counter-top-power-requires c κs =
+  counter_top_power_requires : counter.Need-top-power-requires (counter_calls t) (counter_at t) counter_reads.Post
+  counter_top_power_requires c κs =
       let start = c.before.before in
       omega (arith, pow_pos start.args.split)
 
-  counter-low-lists-requires : counter.Need-low-lists-requires (counter-calls t) (counter_at t) counter-reads.Post
-  counter-low-lists-requires c κs = (from-base c.before, c.before.before.before.requires.1.part_limit)
+  counter_low_lists_requires : counter.Need-low-lists-requires (counter_calls t) (counter_at t) counter_reads.Post
+  counter_low_lists_requires c κs = (from_base c.before, c.before.before.before.requires.1.part_limit)
 
-  counter-sub-count-lists : counter.Need-sub-count-lists (counter-calls t) (counter_at t) counter-reads.Post
-  counter-sub-count-lists c = omega (arith, bounds c.before.before)
+  counter_sub_count_lists : counter.Need-sub-count-lists (counter_calls t) (counter_at t) counter_reads.Post
+  counter_sub_count_lists c = omega (arith, bounds c.before.before)
 
-  counter-count-lists-requires : counter.Need-count-lists-requires (counter-calls t) (counter_at t) counter-reads.Post
-  counter-count-lists-requires c κs =
+  counter_count_lists_requires : counter.Need-count-lists-requires (counter_calls t) (counter_at t) counter_reads.Post
+  counter_count_lists_requires c κs =
       let below = bounds c.before.before in
-      (omega arith, record { positive = omega arith; whole-limit = omega arith; part_limit = omega arith; split-limit = omega arith })
+      (omega arith, record { positive = omega arith; whole_limit = omega arith; part_limit = omega arith; split_limit = omega arith })
 
   -- the lists of the low part
-  low_part : (c : counter.After-count-lists (counter-calls t) (counter_at t) counter-reads.Post)
-      → c.before.low-lists.result
-      ≡ leavesOf (tree_of false c.before.before.before.before.before.args.whole (c.before.before.top-power.result - 1)
+  low_part : (c : counter.After-count-lists (counter_calls t) (counter_at t) counter_reads.Post)
+      → c.before.low_lists.result
+      ≡ leaves_of (tree_of false c.before.before.before.before.before.args.whole (c.before.before.top_power_lem.result - 1)
       c.before.before.before.before.before.args.split)
   low_part c =
       let test = c.before.before.before in
       let start = test.before.before in
-      low-leaves start.args.whole start.args.degree start.args.split (from-base test) c.before.before.top-power.ensures
-      c.before.low-lists.ensures
+      low_leaves start.args.whole start.args.degree start.args.split (from_base test) c.before.before.top_power_lem.ensures
+      c.before.low_lists.ensures
 
-  counter-add-result : counter.Need-add-result (counter-calls t) (counter_at t) counter-reads.Post
-  counter-add-result c =
+  counter_add_result : counter.Need-add-result (counter_calls t) (counter_at t) counter_reads.Post
+  counter_add_result c =
       let test = c.before.before.before in
       let start = test.before.before in
-      let p = c.before.before.top-power.result in
-      let low = leaves-most false start.args.whole (p - 1) start.args.split in
-      let high = leaves-most start.args.leading start.args.whole (start.args.degree - p) start.args.split in
+      let p = c.before.before.top_power_lem.result in
+      let low = leaves_most false start.args.whole (p - 1) start.args.split in
+      let high = leaves_most start.args.leading start.args.whole (start.args.degree - p) start.args.split in
       omega (arith, bounds test, low_part c)
 
-  counter-returns-2 : counter.Need-returns-2 (counter-calls t) (counter_at t) counter-reads.Post
-  counter-returns-2 c =
+  counter_returns_2 : counter.Need-returns-2 (counter_calls t) (counter_at t) counter_reads.Post
+  counter_returns_2 c =
       let test = c.before.before.before in
       let start = test.before.before in
-      counted-cut start.args.leading start.args.whole start.args.degree start.args.split c.before.before.top-power.result
-      (from-base test) c.before.before.top-power.ensures (low_part c) c.count-lists.ensures
+      counted_cut start.args.leading start.args.whole start.args.degree start.args.split c.before.before.top_power_lem.result
+      (from_base test) c.before.before.top_power_lem.ensures (low_part c) c.count_lists.ensures
 
-  slicer-listed-again-requires : slicer.Need-listed-again-requires (slicer-calls t) (slicer-at t) slicer-reads.Post
-  slicer-listed-again-requires c κs = search rules
+  slicer_listed_again_requires : slicer.Need-listed-again-requires (slicer_calls t) (slicer_at t) slicer_reads.Post
+  slicer_listed_again_requires c κs = search rules
 
-  slicer-smaller-split-requires : slicer.Need-smaller-split-requires (slicer-calls t) (slicer-at t) slicer-reads.Post
-  slicer-smaller-split-requires c κs =
+  slicer_smaller_split_requires : slicer.Need-smaller-split-requires (slicer_calls t) (slicer_at t) slicer_reads.Post
+  slicer_smaller_split_requires c κs =
       let facts = again c.before c.if1.true in
       record { from = facts.positive; to = c.before.before.requires.1.0.part_limit }
 
-  slicer-count-lists-requires : slicer.Need-count-lists-requires (slicer-calls t) (slicer-at t) slicer-reads.Post
-  slicer-count-lists-requires c κs =
+  slicer_count_lists_requires : slicer.Need-count-lists-requires (slicer_calls t) (slicer_at t) slicer_reads.Post
+  slicer_count_lists_requires c κs =
       let facts = again c.before.before c.before.if1.true in
-      let is = c.smaller-split.ensures in
-      (omega arith, record { positive = omega arith; whole-limit = omega arith; part_limit = omega arith; split-limit = omega arith })
+      let is = c.smaller_split.ensures in
+      (omega arith, record { positive = omega arith; whole_limit = omega arith; part_limit = omega arith; split_limit = omega arith })
 
-  slicer-returns : slicer.Need-returns (slicer-calls t) (slicer-at t) slicer-reads.Post
-  slicer-returns c =
+  slicer_returns : slicer.Need-returns (slicer_calls t) (slicer_at t) slicer_reads.Post
+  slicer_returns c =
       let test = c.before.before in
       let start = test.before.before in
-      counted-again start.args.leading start.args.whole start.args.degree start.args.split start.requires.1.1
-      (sym test.before.listed-again.ensures ∙ test.if1.true) c.before.smaller-split.ensures c.count-lists.ensures
+      counted_again start.args.leading start.args.whole start.args.degree start.args.split start.requires.1.1
+      (sym test.before.listed_again_lem.ensures ∙ test.if1.true) c.before.smaller_split.ensures c.count_lists.ensures
 
-  slicer-returns-2 : slicer.Need-returns-2 (slicer-calls t) (slicer-at t) slicer-reads.Post
-  slicer-returns-2 c =
+  slicer_returns_2 : slicer.Need-returns-2 (slicer_calls t) (slicer_at t) slicer_reads.Post
+  slicer_returns_2 c =
       let start = c.before.before in
-      counted-one start.args.leading start.args.whole start.args.degree start.args.split start.requires.1.1
-      (sym c.before.listed-again.ensures ∙ c.if1.false)
+      counted_one start.args.leading start.args.whole start.args.degree start.args.split start.requires.1.1
+      (sym c.before.listed_again_lem.ensures ∙ c.if1.false)
 
 pub +count-lists-count-slice-spec : {M : Type 1} → statement M
 +count-lists-count-slice-spec =
@@ -174,10 +174,10 @@ pub +count-lists-count-slice-spec : {M : Type 1} → statement M
     μ-slicer
     (λ t.
     counter.spec
-    (counter-calls t) (counter_at t) counter-reads.Post (counter-power-of-two-requires t) (counter-count-slice-requires t) (counter-returns t)
-    (counter-top-power-requires t) (counter-low-lists-requires t) (counter-sub-count-lists t) (counter-count-lists-requires t) (counter-add-result t)
-    (counter-returns-2 t))
+    (counter_calls t) (counter_at t) counter_reads.Post (counter_power_of_two_requires t) (counter_count_slice_requires t) (counter_returns t)
+    (counter_top_power_requires t) (counter_low_lists_requires t) (counter_sub_count_lists t) (counter_count_lists_requires t) (counter_add_result t)
+    (counter_returns_2 t))
     (λ t.
     slicer.spec
-    (slicer-calls t) (slicer-at t) slicer-reads.Post (slicer-listed-again-requires t) (slicer-smaller-split-requires t)
-    (slicer-count-lists-requires t) (slicer-returns t) (slicer-returns-2 t))
+    (slicer_calls t) (slicer_at t) slicer_reads.Post (slicer_listed_again_requires t) (slicer_smaller_split_requires t)
+    (slicer_count_lists_requires t) (slicer_returns t) (slicer_returns_2 t))

@@ -11,274 +11,274 @@ use borrow.Fn.PlainCycle.{Measures, is, falls, and}
 use lib.Pow.{pow_pos}
 use lib.ListN.{length}
 use Rattle.algebra.specs.Cut.{cut_at}
-use Rattle.number.specs.Numbers.{floatOps}
-use Rattle.number.specs.Tests.{degreeOf}
-use Rattle.lists.specs.Tree.{listedAgain}
-use Rattle.lists.proofs.TreeRule.{Again, leading-again}
+use Rattle.number.specs.Numbers.{float_ops}
+use Rattle.number.specs.Tests.{degree_of}
+use Rattle.lists.specs.Tree.{listed_again}
+use Rattle.lists.proofs.TreeRule.{Again, leading_again}
 use Rattle.lists.proofs.ListerCuts as cuts
 use Rattle.lists.proofs.ListerCuts.{Cutting}
-use Rattle.lists.proofs.float.list_coeffs_f64.Reads as lister-reads
-use Rattle.lists.proofs.float.list_coeffs_f64.Kinds as lister-kinds
+use Rattle.lists.proofs.float.list_coeffs_f64.Reads as lister_reads
+use Rattle.lists.proofs.float.list_coeffs_f64.Kinds as lister_kinds
 use Rattle.lists.proofs.float.+list_coeffs_f64_list_slice_f64.Lts-list_coeffs_f64 as lister
-use Rattle.lists.proofs.float.list_slice_f64.Reads as slicer-reads
-use Rattle.lists.proofs.float.list_slice_f64.Kinds as slicer-kinds
+use Rattle.lists.proofs.float.list_slice_f64.Reads as slicer_reads
+use Rattle.lists.proofs.float.list_slice_f64.Kinds as slicer_kinds
 use Rattle.lists.proofs.float.+list_coeffs_f64_list_slice_f64.Lts-list_slice_f64 as slicer
-use Rattle.number.proofs.power_of_two.Reads as power-of-two-reads
-use Rattle.number.proofs.top_power.Reads as top-power-reads
-use Rattle.lists.proofs.count.listed_again.Reads as listed-again-reads
-use Rattle.lists.proofs.count.smaller_split.Reads as smaller-split-reads
-use Rattle.lists.proofs.float.cut_coeffs_f64.Reads as cut-coeffs-f64-reads
+use Rattle.number.proofs.power_of_two.Reads as power_of_two_reads
+use Rattle.number.proofs.top_power.Reads as top_power_reads
+use Rattle.lists.proofs.count.listed_again.Reads as listed_again_reads
+use Rattle.lists.proofs.count.smaller_split.Reads as smaller_split_reads
+use Rattle.lists.proofs.float.cut_coeffs_f64.Reads as cut_coeffs_f64_reads
 use Rattle.lists.proofs.float.+list_coeffs_f64_list_slice_f64.{statement}
 use Rattle.lists.proofs.float.+list_coeffs_f64_list_slice_f64.Tie.{close}
 
-abbrev μ-lister : Measures 2 lister-kinds.ps ℕ
+abbrev μ-lister : Measures 2 lister_kinds.ps ℕ
 μ-lister κs a = 2 * (length a.1.1.1.1.1.1.0.now * 64 + a.1.1.1.0) + 1
 
-abbrev μ-slicer : Measures 2 slicer-kinds.ps ℕ
+abbrev μ-slicer : Measures 2 slicer_kinds.ps ℕ
 μ-slicer κs a = 2 * (length a.1.1.1.1.1.1.0.now * 64 + a.1.1.1.0)
 
-abbrev lister-at : ℕ → In 2 lister-kinds.ps
-lister-at t =
+abbrev lister_at : ℕ → In 2 lister_kinds.ps
+lister_at t =
     and
     2
-    lister-kinds.ps
-    (is 2 lister-kinds.ps μ-lister t)
-    lister-reads.Pre
+    lister_kinds.ps
+    (is 2 lister_kinds.ps μ-lister t)
+    lister_reads.Pre
 
-abbrev lister-below : ℕ → In 2 lister-kinds.ps
-lister-below t =
+abbrev lister_below : ℕ → In 2 lister_kinds.ps
+lister_below t =
     and
     2
-    lister-kinds.ps
-    (falls 2 lister-kinds.ps ◌<◌ μ-lister t)
-    lister-reads.Pre
+    lister_kinds.ps
+    (falls 2 lister_kinds.ps ◌<◌ μ-lister t)
+    lister_reads.Pre
 
-abbrev slicer-at : ℕ → In 2 slicer-kinds.ps
-slicer-at t =
+abbrev slicer_at : ℕ → In 2 slicer_kinds.ps
+slicer_at t =
     and
     2
-    slicer-kinds.ps
-    (is 2 slicer-kinds.ps μ-slicer t)
-    slicer-reads.Pre
+    slicer_kinds.ps
+    (is 2 slicer_kinds.ps μ-slicer t)
+    slicer_reads.Pre
 
-abbrev slicer-below : ℕ → In 2 slicer-kinds.ps
-slicer-below t =
+abbrev slicer_below : ℕ → In 2 slicer_kinds.ps
+slicer_below t =
     and
     2
-    slicer-kinds.ps
-    (falls 2 slicer-kinds.ps ◌<◌ μ-slicer t)
-    slicer-reads.Pre
+    slicer_kinds.ps
+    (falls 2 slicer_kinds.ps ◌<◌ μ-slicer t)
+    slicer_reads.Pre
 
 -- what is handed for the callees
-abbrev lister-calls : ℕ → lister.Claims
-lister-calls t = (
-  power-of-two-reads.Asked,
-  power-of-two-reads.Learnt,
-  slicer-below t,
-  slicer-reads.Post,
-  top-power-reads.Asked,
-  top-power-reads.Learnt,
-  cut-coeffs-f64-reads.Asked,
-  cut-coeffs-f64-reads.Learnt,
-  lister-below t,
-  lister-reads.Post,
+abbrev lister_calls : ℕ → lister.Claims
+lister_calls t = (
+  power_of_two_reads.Asked,
+  power_of_two_reads.Learnt,
+  slicer_below t,
+  slicer_reads.Post,
+  top_power_reads.Asked,
+  top_power_reads.Learnt,
+  cut_coeffs_f64_reads.Asked,
+  cut_coeffs_f64_reads.Learnt,
+  lister_below t,
+  lister_reads.Post,
 )
 
-abbrev slicer-calls : ℕ → slicer.Claims
-slicer-calls t =
-    (listed-again-reads.Asked, listed-again-reads.Learnt, smaller-split-reads.Asked, smaller-split-reads.Learnt, lister-below t, lister-reads.Post)
+abbrev slicer_calls : ℕ → slicer.Claims
+slicer_calls t =
+    (listed_again_reads.Asked, listed_again_reads.Learnt, smaller_split_reads.Asked, smaller_split_reads.Learnt, lister_below t, lister_reads.Post)
 
 module _ (t : ℕ) where
   -- the cut at which the two parts are listed, before and after it is made
-  abbrev start_of : lister.After-top-power (lister-calls t) (lister-at t) lister-reads.Post
-      → lister.Start (lister-calls t) (lister-at t) lister-reads.Post
+  abbrev start_of : lister.After-top-power (lister_calls t) (lister_at t) lister_reads.Post
+      → lister.Start (lister_calls t) (lister_at t) lister_reads.Post
   start_of top = let test = top.before in test.before.before.before.before
 
-  uncut : (top : lister.After-top-power (lister-calls t) (lister-at t) lister-reads.Post)
+  uncut : (top : lister.After-top-power (lister_calls t) (lister_at t) lister_reads.Post)
       → let args = (start_of top).args in
-      Cutting floatOps args.leading args.basis args.whole args.split args.at args.n args.c.now args.bounds.now
-      top.top-power.result (cut_at floatOps args.basis top.top-power.result args.c.now)
-  uncut top = record { listable = (start_of top).pre.1; from = omega arith; power = top.top-power.ensures; parted = refl }
+      Cutting float_ops args.leading args.basis args.whole args.split args.at args.n args.c.now args.bounds.now
+      top.top_power_lem.result (cut_at float_ops args.basis top.top_power_lem.result args.c.now)
+  uncut top = record { listable = (start_of top).pre.1; from = omega arith; power = top.top_power_lem.ensures; parted = refl }
 
-  cutting : (k : lister.After-cut-coeffs-f64 (lister-calls t) (lister-at t) lister-reads.Post)
+  cutting : (k : lister.After-cut-coeffs-f64 (lister_calls t) (lister_at t) lister_reads.Post)
       → let top = k.before.before in let args = (start_of top).args in
-      Cutting floatOps args.leading args.basis args.whole args.split args.at args.n args.c.now args.bounds.now
-      top.top-power.result k.cut-coeffs-f64.last.1.1.0
+      Cutting float_ops args.leading args.basis args.whole args.split args.at args.n args.c.now args.bounds.now
+      top.top_power_lem.result k.cut_coeffs_f64.last.1.1.0
   cutting k =
       let before = uncut k.before.before in
-      record { listable = before.listable; from = before.from; power = before.power; parted = k.cut-coeffs-f64.ensures }
+      record { listable = before.listable; from = before.from; power = before.power; parted = k.cut_coeffs_f64.ensures }
 
   -- the cut behind the first call, and the first call behind the second one's arguments
-  abbrev cut_of : lister.After-list-coeffs-f64 (lister-calls t) (lister-at t) lister-reads.Post
-      → lister.After-cut-coeffs-f64 (lister-calls t) (lister-at t) lister-reads.Post
+  abbrev cut_of : lister.After-list-coeffs-f64 (lister_calls t) (lister_at t) lister_reads.Post
+      → lister.After-cut-coeffs-f64 (lister_calls t) (lister_at t) lister_reads.Post
   cut_of low = let lent = low.before.before in lent.before.before.before
 
-  abbrev first-call : lister.After-slice-known7 (lister-calls t) (lister-at t) lister-reads.Post
-      → lister.After-list-coeffs-f64 (lister-calls t) (lister-at t) lister-reads.Post
-  first-call known = let bounds = known.before in bounds.before.before.before
+  abbrev first_call : lister.After-slice-known7 (lister_calls t) (lister_at t) lister_reads.Post
+      → lister.After-list-coeffs-f64 (lister_calls t) (lister_at t) lister_reads.Post
+  first_call known = let bounds = known.before in bounds.before.before.before
 
-  lister-power-of-two-requires : lister.Need-power-of-two-requires (lister-calls t) (lister-at t) lister-reads.Post
-  lister-power-of-two-requires c κs = search rules
+  lister_power_of_two_requires : lister.Need-power-of-two-requires (lister_calls t) (lister_at t) lister_reads.Post
+  lister_power_of_two_requires c κs = search rules
 
-  lister-sub-degree : lister.Need-sub-degree (lister-calls t) (lister-at t) lister-reads.Post
-  lister-sub-degree c = search rules
+  lister_sub_degree : lister.Need-sub-degree (lister_calls t) (lister_at t) lister_reads.Post
+  lister_sub_degree c = search rules
 
-  lister-list-slice-f64-requires : lister.Need-list-slice-f64-requires (lister-calls t) (lister-at t) lister-reads.Post
-  lister-list-slice-f64-requires c κs = search rules
+  lister_list_slice_f64_requires : lister.Need-list-slice-f64-requires (lister_calls t) (lister_at t) lister_reads.Post
+  lister_list_slice_f64_requires c κs = search rules
 
-  lister-same-length : lister.Need-same-length (lister-calls t) (lister-at t) lister-reads.Post
-  lister-same-length c = search rules
+  lister_same_length : lister.Need-same-length (lister_calls t) (lister_at t) lister_reads.Post
+  lister_same_length c = search rules
 
-  lister-same-length-2 : lister.Need-same-length-2 (lister-calls t) (lister-at t) lister-reads.Post
-  lister-same-length-2 c = search rules
+  lister_same_length_2 : lister.Need-same-length-2 (lister_calls t) (lister_at t) lister_reads.Post
+  lister_same_length_2 c = search rules
 
-  lister-returns : lister.Need-returns (lister-calls t) (lister-at t) lister-reads.Post
-  lister-returns c = search rules
+  lister_returns : lister.Need-returns (lister_calls t) (lister_at t) lister_reads.Post
+  lister_returns c = search rules
 
-  lister-top-power-requires : lister.Need-top-power-requires (lister-calls t) (lister-at t) lister-reads.Post
-  lister-top-power-requires c κs =
+  lister_top_power_requires : lister.Need-top-power-requires (lister_calls t) (lister_at t) lister_reads.Post
+  lister_top_power_requires c κs =
       let start = c.before.before.before.before in
       omega (arith, pow_pos start.args.split)
 
-  lister-cut-coeffs-f64-requires : lister.Need-cut-coeffs-f64-requires (lister-calls t) (lister-at t) lister-reads.Post
-  lister-cut-coeffs-f64-requires c κs =
+  lister_cut_coeffs_f64_requires : lister.Need-cut-coeffs-f64-requires (lister_calls t) (lister_at t) lister_reads.Post
+  lister_cut_coeffs_f64_requires c κs =
       (cuts.under (uncut c.before), cuts.half (uncut c.before))
 
-  lister-slice-relend-prefix-list-coeffs-f64 : lister.Need-slice-relend-prefix-list-coeffs-f64 (lister-calls t) (lister-at t) lister-reads.Post
-  lister-slice-relend-prefix-list-coeffs-f64 c =
+  lister_slice_relend_prefix_list_coeffs_f64 : lister.Need-slice-relend-prefix-list-coeffs-f64 (lister_calls t) (lister_at t) lister_reads.Post
+  lister_slice_relend_prefix_list_coeffs_f64 c =
       let k = cutting c.before.before in
       omega (arith, cuts.under k, cuts.same_length k)
 
-  lister-slice-aggregate-list-coeffs-f64 : lister.Need-slice-aggregate-list-coeffs-f64 (lister-calls t) (lister-at t) lister-reads.Post
-  lister-slice-aggregate-list-coeffs-f64 c = sym (cuts.low-length (cutting c.before.before.before))
+  lister_slice_aggregate_list_coeffs_f64 : lister.Need-slice-aggregate-list-coeffs-f64 (lister_calls t) (lister_at t) lister_reads.Post
+  lister_slice_aggregate_list_coeffs_f64 c = sym (cuts.low_length (cutting c.before.before.before))
 
-  lister-list-coeffs-f64-requires : lister.Need-list-coeffs-f64-requires (lister-calls t) (lister-at t) lister-reads.Post
-  lister-list-coeffs-f64-requires c κs =
+  lister_list_coeffs_f64_requires : lister.Need-list-coeffs-f64-requires (lister_calls t) (lister_at t) lister_reads.Post
+  lister_list_coeffs_f64_requires c κs =
       let made = c.before.before.before.before in
       let k = cutting made in
-      (omega (arith, cuts.low-length k, cuts.under k, (start_of made.before.before).pre.0), cuts.listable-low k)
+      (omega (arith, cuts.low_length k, cuts.under k, (start_of made.before.before).pre.0), cuts.listable_low k)
 
-  lister-mul-list-coeffs-f64 : lister.Need-mul-list-coeffs-f64 (lister-calls t) (lister-at t) lister-reads.Post
-  lister-mul-list-coeffs-f64 c =
-      let k = cutting (cut_of (first-call c)) in
-      omega (arith, cuts.under k, k.listable.ends-fit)
+  lister_mul_list_coeffs_f64 : lister.Need-mul-list-coeffs-f64 (lister_calls t) (lister_at t) lister_reads.Post
+  lister_mul_list_coeffs_f64 c =
+      let k = cutting (cut_of (first_call c)) in
+      omega (arith, cuts.under k, k.listable.ends_fit)
 
-  lister-sub-list-coeffs-f64 : lister.Need-sub-list-coeffs-f64 (lister-calls t) (lister-at t) lister-reads.Post
-  lister-sub-list-coeffs-f64 c =
-      let low = first-call c in
+  lister_sub_list_coeffs_f64 : lister.Need-sub-list-coeffs-f64 (lister_calls t) (lister_at t) lister_reads.Post
+  lister_sub_list_coeffs_f64 c =
+      let low = first_call c in
       let k = cutting (cut_of low) in
-      omega (arith, cuts.under k, cuts.joined_length k low.list-coeffs-f64.ensures low.list-coeffs-f64.kept.1.1.1.1.1.1.0)
+      omega (arith, cuts.under k, cuts.joined_length k low.list_coeffs_f64.ensures low.list_coeffs_f64.kept.1.1.1.1.1.1.0)
 
-  lister-part-list-coeffs-f64-start : lister.Need-part-list-coeffs-f64-start (lister-calls t) (lister-at t) lister-reads.Post
-  lister-part-list-coeffs-f64-start c =
-      let low = first-call c in
+  lister_part_list_coeffs_f64_start : lister.Need-part-list-coeffs-f64-start (lister_calls t) (lister_at t) lister_reads.Post
+  lister_part_list_coeffs_f64_start c =
+      let low = first_call c in
       let k = cutting (cut_of low) in
-      omega (arith, cuts.under k, cuts.joined_length k low.list-coeffs-f64.ensures low.list-coeffs-f64.kept.1.1.1.1.1.1.0)
+      omega (arith, cuts.under k, cuts.joined_length k low.list_coeffs_f64.ensures low.list_coeffs_f64.kept.1.1.1.1.1.1.0)
 
-  lister-part-list-coeffs-f64-end : lister.Need-part-list-coeffs-f64-end (lister-calls t) (lister-at t) lister-reads.Post
-  lister-part-list-coeffs-f64-end c = search rules
+  lister_part_list_coeffs_f64_end : lister.Need-part-list-coeffs-f64-end (lister_calls t) (lister_at t) lister_reads.Post
+  lister_part_list_coeffs_f64_end c = search rules
 
-  lister-add-list-coeffs-f64 : lister.Need-add-list-coeffs-f64 (lister-calls t) (lister-at t) lister-reads.Post
-  lister-add-list-coeffs-f64 c =
-      let low = first-call c in
+  lister_add_list_coeffs_f64 : lister.Need-add-list-coeffs-f64 (lister_calls t) (lister_at t) lister_reads.Post
+  lister_add_list_coeffs_f64 c =
+      let low = first_call c in
       let k = cutting (cut_of low) in
-      omega (arith, cuts.under k, k.listable.ends-fit)
+      omega (arith, cuts.under k, k.listable.ends_fit)
 
-  lister-list-coeffs-f64-requires-2 : lister.Need-list-coeffs-f64-requires-2 (lister-calls t) (lister-at t) lister-reads.Post
-  lister-list-coeffs-f64-requires-2 c κs =
-      let low = first-call c.before.before in
+  lister_list_coeffs_f64_requires_2 : lister.Need-list-coeffs-f64-requires-2 (lister_calls t) (lister_at t) lister_reads.Post
+  lister_list_coeffs_f64_requires_2 c κs =
+      let low = first_call c.before.before in
       let made = cut_of low in
       let start = start_of made.before.before in
       let k = cutting made in
-      let kept = low.list-coeffs-f64.kept.1.1.1.1.1.1 in
-      let lent = cuts.part-is k low.list-coeffs-f64.ensures kept.0 in (
-        omega (arith, ap length lent, cuts.high-length k, cuts.half k, cuts.under k, cuts.positive k, start.pre.0),
-        cuts.listable-high k low.list-coeffs-f64.ensures kept.0 kept.1.0,
+      let kept = low.list_coeffs_f64.kept.1.1.1.1.1.1 in
+      let lent = cuts.part_is k low.list_coeffs_f64.ensures kept.0 in (
+        omega (arith, ap length lent, cuts.high_length k, cuts.half k, cuts.under k, cuts.positive k, start.pre.0),
+        cuts.listable_high k low.list_coeffs_f64.ensures kept.0 kept.1.0,
       )
 
-  lister-same-length-3 : lister.Need-same-length-3 (lister-calls t) (lister-at t) lister-reads.Post
-  lister-same-length-3 c = search rules
+  lister_same_length_3 : lister.Need-same-length-3 (lister_calls t) (lister_at t) lister_reads.Post
+  lister_same_length_3 c = search rules
 
-  lister-same-length-4 : lister.Need-same-length-4 (lister-calls t) (lister-at t) lister-reads.Post
-  lister-same-length-4 c = search rules
+  lister_same_length_4 : lister.Need-same-length-4 (lister_calls t) (lister_at t) lister_reads.Post
+  lister_same_length_4 c = search rules
 
-  lister-returns-2 : lister.Need-returns-2 (lister-calls t) (lister-at t) lister-reads.Post
-  lister-returns-2 c =
+  lister_returns_2 : lister.Need-returns-2 (lister_calls t) (lister_at t) lister_reads.Post
+  lister_returns_2 c =
       let high = c.before.before.before.before in
-      let low = first-call high.before.before.before in
-      cuts.place-both (cutting (cut_of low)) low.list-coeffs-f64.ensures low.list-coeffs-f64.kept.1.1.1.1.1.1.0 high.list-coeffs-f642.ensures
+      let low = first_call high.before.before.before in
+      cuts.place_both (cutting (cut_of low)) low.list_coeffs_f64.ensures low.list_coeffs_f64.kept.1.1.1.1.1.1.0 high.list_coeffs_f642.ensures
 
   -- a slice that the test says is listed again
-  told-again : (c : slicer.After-listed-again (slicer-calls t) (slicer-at t) slicer-reads.Post) → c.listed-again.result ≡ true
+  told_again : (c : slicer.After-listed-again (slicer_calls t) (slicer_at t) slicer_reads.Post) → c.listed_again_lem.result ≡ true
       → let start = c.before.before.before in
-      (start.args.leading && listedAgain start.args.whole (degreeOf start.args.c.now) start.args.split) ≡ true
-  told-again c told = sym c.listed-again.ensures ∙ told
+      (start.args.leading && listed_again start.args.whole (degree_of start.args.c.now) start.args.split) ≡ true
+  told_again c told = sym c.listed_again_lem.ensures ∙ told
 
-  again : (c : slicer.After-listed-again (slicer-calls t) (slicer-at t) slicer-reads.Post) → c.listed-again.result ≡ true
-      → let start = c.before.before.before in Again start.args.whole (degreeOf start.args.c.now) start.args.split
+  again : (c : slicer.After-listed-again (slicer_calls t) (slicer_at t) slicer_reads.Post) → c.listed_again_lem.result ≡ true
+      → let start = c.before.before.before in Again start.args.whole (degree_of start.args.c.now) start.args.split
   again c told =
       let start = c.before.before.before in
-      leading-again start.args.leading start.args.whole (degreeOf start.args.c.now) start.args.split (told-again c told)
+      leading_again start.args.leading start.args.whole (degree_of start.args.c.now) start.args.split (told_again c told)
 
-  slicer-sub-degree : slicer.Need-sub-degree (slicer-calls t) (slicer-at t) slicer-reads.Post
-  slicer-sub-degree c = search rules
+  slicer_sub_degree : slicer.Need-sub-degree (slicer_calls t) (slicer_at t) slicer_reads.Post
+  slicer_sub_degree c = search rules
 
-  slicer-listed-again-requires : slicer.Need-listed-again-requires (slicer-calls t) (slicer-at t) slicer-reads.Post
-  slicer-listed-again-requires c κs = c.before.before.pre.1.0.ranges
+  slicer_listed_again_requires : slicer.Need-listed-again-requires (slicer_calls t) (slicer_at t) slicer_reads.Post
+  slicer_listed_again_requires c κs = c.before.before.pre.1.0.ranges
 
-  slicer-smaller-split-requires : slicer.Need-smaller-split-requires (slicer-calls t) (slicer-at t) slicer-reads.Post
-  slicer-smaller-split-requires c κs =
+  slicer_smaller_split_requires : slicer.Need-smaller-split-requires (slicer_calls t) (slicer_at t) slicer_reads.Post
+  slicer_smaller_split_requires c κs =
       let start = c.before.before.before.before in
       record { from = (again c.before c.if1.taken).positive; to = start.pre.1.0.ranges.part_limit }
 
-  slicer-list-coeffs-f64-requires : slicer.Need-list-coeffs-f64-requires (slicer-calls t) (slicer-at t) slicer-reads.Post
-  slicer-list-coeffs-f64-requires c κs =
+  slicer_list_coeffs_f64_requires : slicer.Need-list-coeffs-f64-requires (slicer_calls t) (slicer_at t) slicer_reads.Post
+  slicer_list_coeffs_f64_requires c κs =
       let asked = c.before.before in
       let test = asked.before in
       let start = test.before.before.before.before in
-      let smaller = cuts.smaller start.pre.1.0 start.pre.1.1 (told-again asked.before.before asked.before.if1.taken) in (
-        omega (arith, asked.smaller-split.ensures, start.pre.0),
-        rw asked.smaller-split.ensures
-            (cuts.listable-again start.pre.1.0 start.pre.1.1 (told-again asked.before.before asked.before.if1.taken)),
+      let smaller = cuts.smaller start.pre.1.0 start.pre.1.1 (told_again asked.before.before asked.before.if1.taken) in (
+        omega (arith, asked.smaller_split.ensures, start.pre.0),
+        rw asked.smaller_split.ensures
+            (cuts.listable_again start.pre.1.0 start.pre.1.1 (told_again asked.before.before asked.before.if1.taken)),
       )
 
-  slicer-same-length : slicer.Need-same-length (slicer-calls t) (slicer-at t) slicer-reads.Post
-  slicer-same-length c = search rules
+  slicer_same_length : slicer.Need-same-length (slicer_calls t) (slicer_at t) slicer_reads.Post
+  slicer_same_length c = search rules
 
-  slicer-same-length-2 : slicer.Need-same-length-2 (slicer-calls t) (slicer-at t) slicer-reads.Post
-  slicer-same-length-2 c = search rules
+  slicer_same_length_2 : slicer.Need-same-length-2 (slicer_calls t) (slicer_at t) slicer_reads.Post
+  slicer_same_length_2 c = search rules
 
-  slicer-returns : slicer.Need-returns (slicer-calls t) (slicer-at t) slicer-reads.Post
-  slicer-returns c =
+  slicer_returns : slicer.Need-returns (slicer_calls t) (slicer_at t) slicer_reads.Post
+  slicer_returns c =
       let call = c.before.before.before.before in
       let asked = call.before.before.before in
       let test = asked.before in
       let start = test.before.before.before.before in
-      cuts.place-again start.pre.1.0 start.pre.1.1 (told-again asked.before.before asked.before.if1.taken)
-      (rw asked.smaller-split.ensures at call.list-coeffs-f64.ensures)
+      cuts.place_again start.pre.1.0 start.pre.1.1 (told_again asked.before.before asked.before.if1.taken)
+      (rw asked.smaller_split.ensures at call.list_coeffs_f64.ensures)
 
-  slicer-add-bounds : slicer.Need-add-bounds (slicer-calls t) (slicer-at t) slicer-reads.Post
-  slicer-add-bounds c = search rules
+  slicer_add_bounds : slicer.Need-add-bounds (slicer_calls t) (slicer_at t) slicer_reads.Post
+  slicer_add_bounds c = search rules
 
-  slicer-cast-bounds : slicer.Need-cast-bounds (slicer-calls t) (slicer-at t) slicer-reads.Post
-  slicer-cast-bounds c = search rules
+  slicer_cast_bounds : slicer.Need-cast-bounds (slicer_calls t) (slicer_at t) slicer_reads.Post
+  slicer_cast_bounds c = search rules
 
-  slicer-mul-bounds : slicer.Need-mul-bounds (slicer-calls t) (slicer-at t) slicer-reads.Post
-  slicer-mul-bounds c = search rules
+  slicer_mul_bounds : slicer.Need-mul-bounds (slicer_calls t) (slicer_at t) slicer_reads.Post
+  slicer_mul_bounds c = search rules
 
-  slicer-slice-write-bounds : slicer.Need-slice-write-bounds (slicer-calls t) (slicer-at t) slicer-reads.Post
-  slicer-slice-write-bounds c = cuts.room-for-one c.before.before.before.before.pre.1.0
+  slicer_slice_write_bounds : slicer.Need-slice-write-bounds (slicer_calls t) (slicer_at t) slicer_reads.Post
+  slicer_slice_write_bounds c = cuts.room_for_one c.before.before.before.before.pre.1.0
 
-  slicer-add-result : slicer.Need-add-result (slicer-calls t) (slicer-at t) slicer-reads.Post
-  slicer-add-result c = search rules
+  slicer_add_result : slicer.Need-add-result (slicer_calls t) (slicer_at t) slicer_reads.Post
+  slicer_add_result c = search rules
 
-  slicer-same-length-3 : slicer.Need-same-length-3 (slicer-calls t) (slicer-at t) slicer-reads.Post
-  slicer-same-length-3 c = search rules
+  slicer_same_length_3 : slicer.Need-same-length-3 (slicer_calls t) (slicer_at t) slicer_reads.Post
+  slicer_same_length_3 c = search rules
 
-  slicer-returns-2 : slicer.Need-returns-2 (slicer-calls t) (slicer-at t) slicer-reads.Post
-  slicer-returns-2 c =
+  slicer_returns_2 : slicer.Need-returns-2 (slicer_calls t) (slicer_at t) slicer_reads.Post
+  slicer_returns_2 c =
       let start = c.before.before.before.before in
-      cuts.place-slice start.pre.1.0 start.pre.1.1 (sym c.before.listed-again.ensures ∙ c.if1.left)
+      cuts.place_slice start.pre.1.0 start.pre.1.1 (sym c.before.listed_again_lem.ensures ∙ c.if1.left)
 
 pub +list-coeffs-f64-list-slice-f64-spec : {M : Type 1} → statement M
 +list-coeffs-f64-list-slice-f64-spec =
@@ -287,13 +287,13 @@ pub +list-coeffs-f64-list-slice-f64-spec : {M : Type 1} → statement M
     μ-slicer
     (λ t.
     lister.spec
-    (lister-calls t) (lister-at t) lister-reads.Post (lister-power-of-two-requires t) (lister-sub-degree t) (lister-list-slice-f64-requires t)
-    (lister-same-length t) (lister-same-length-2 t) (lister-returns t) (lister-top-power-requires t) (lister-cut-coeffs-f64-requires t)
-    (lister-slice-relend-prefix-list-coeffs-f64 t) (lister-slice-aggregate-list-coeffs-f64 t) (lister-list-coeffs-f64-requires t)
-    (lister-add-list-coeffs-f64 t) (lister-mul-list-coeffs-f64 t) (lister-sub-list-coeffs-f64 t) (lister-part-list-coeffs-f64-start t)
-    (lister-part-list-coeffs-f64-end t) (lister-list-coeffs-f64-requires-2 t) (lister-same-length-3 t) (lister-same-length-4 t) (lister-returns-2 t))
+    (lister_calls t) (lister_at t) lister_reads.Post (lister_power_of_two_requires t) (lister_sub_degree t) (lister_list_slice_f64_requires t)
+    (lister_same_length t) (lister_same_length_2 t) (lister_returns t) (lister_top_power_requires t) (lister_cut_coeffs_f64_requires t)
+    (lister_slice_relend_prefix_list_coeffs_f64 t) (lister_slice_aggregate_list_coeffs_f64 t) (lister_list_coeffs_f64_requires t)
+    (lister_add_list_coeffs_f64 t) (lister_mul_list_coeffs_f64 t) (lister_sub_list_coeffs_f64 t) (lister_part_list_coeffs_f64_start t)
+    (lister_part_list_coeffs_f64_end t) (lister_list_coeffs_f64_requires_2 t) (lister_same_length_3 t) (lister_same_length_4 t) (lister_returns_2 t))
     (λ t.
     slicer.spec
-    (slicer-calls t) (slicer-at t) slicer-reads.Post (slicer-sub-degree t) (slicer-listed-again-requires t) (slicer-smaller-split-requires t)
-    (slicer-list-coeffs-f64-requires t) (slicer-same-length t) (slicer-same-length-2 t) (slicer-returns t) (slicer-add-bounds t)
-    (slicer-cast-bounds t) (slicer-mul-bounds t) (slicer-slice-write-bounds t) (slicer-add-result t) (slicer-same-length-3 t) (slicer-returns-2 t))
+    (slicer_calls t) (slicer_at t) slicer_reads.Post (slicer_sub_degree t) (slicer_listed_again_requires t) (slicer_smaller_split_requires t)
+    (slicer_list_coeffs_f64_requires t) (slicer_same_length t) (slicer_same_length_2 t) (slicer_returns t) (slicer_add_bounds t)
+    (slicer_cast_bounds t) (slicer_mul_bounds t) (slicer_slice_write_bounds t) (slicer_add_result t) (slicer_same_length_3 t) (slicer_returns_2 t))

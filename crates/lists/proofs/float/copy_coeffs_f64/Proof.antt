@@ -6,7 +6,7 @@ use native.Mathlib.Omega.{arith}
 use borrow.Author.Rules.{rules}
 use lib.Ieee.{nan}
 use lib.ListN.{length, length-set}
-use Rattle.algebra.proofs.Filling.{copied, copy_step, copy-end}
+use Rattle.algebra.proofs.Filling.{copied, copy_step, copy_end}
 use Rattle.lists.proofs.float.copy_coeffs_f64.Statement.{statement}
 use Rattle.lists.proofs.float.copy_coeffs_f64.Tie as tie
 
@@ -16,29 +16,29 @@ invariant-loop c out₀ i₀ out i = record { within : i ≤ length c; long : le
 abbrev decreases-loop : tie.decreases-loop
 decreases-loop c out₀ i₀ out i = length c - i
 
-loop-holds : tie.Need-loop-init invariant-loop decreases-loop
-loop-holds c = record { within = omega arith; long = refl; copies = refl }
+loop_holds : tie.Need-loop-init invariant-loop decreases-loop
+loop_holds c = record { within = omega arith; long = refl; copies = refl }
 
-mul-out : tie.Need-overflow-mul-out invariant-loop decreases-loop
-mul-out c = search rules
+mul_out : tie.Need-overflow-mul-out invariant-loop decreases-loop
+mul_out c = search rules
 
-shared-slice-read-out : tie.Need-shared-slice-read-out invariant-loop decreases-loop
-shared-slice-read-out c = search rules
+shared_slice_read_out : tie.Need-shared-slice-read-out invariant-loop decreases-loop
+shared_slice_read_out c = search rules
 
-mul-out-2 : tie.Need-overflow-mul-out-2 invariant-loop decreases-loop
-mul-out-2 c = search rules
+mul_out_2 : tie.Need-overflow-mul-out-2 invariant-loop decreases-loop
+mul_out_2 c = search rules
 
-slice-write-out : tie.Need-slice-write-out invariant-loop decreases-loop
-slice-write-out c = search rules
+slice_write_out : tie.Need-slice-write-out invariant-loop decreases-loop
+slice_write_out c = search rules
 
-add-i : tie.Need-overflow-add-i invariant-loop decreases-loop
-add-i c = search rules
+add_i : tie.Need-overflow-add-i invariant-loop decreases-loop
+add_i c = search rules
 
-loop-less : tie.Need-loop-smaller invariant-loop decreases-loop
-loop-less c = search rules
+loop_less : tie.Need-loop-smaller invariant-loop decreases-loop
+loop_less c = search rules
 
-loop-again : tie.Need-loop-preserved invariant-loop decreases-loop
-loop-again c =
+loop_again : tie.Need-loop-preserved invariant-loop decreases-loop
+loop_again c =
     let loop = c.before.before.loop in
     let start = c.before.before.before in
     let turn = copy_step start.args.c.now start.args.out.now loop.i nan _ (omega arith) start.requires refl in
@@ -51,21 +51,21 @@ returns : tie.Need-returns invariant-loop decreases-loop
 returns c =
     let loop = c.before.loop in
     let start = c.before.before in
-    loop.invariant.copies ∙ copy-end start.args.c.now start.args.out.now loop.i (omega arith) start.requires
+    loop.invariant.copies ∙ copy_end start.args.c.now start.args.out.now loop.i (omega arith) start.requires
 
-pub copy-coeffs-f64-spec : {M : Type 1} → statement M
-copy-coeffs-f64-spec =
+pub copy_coeffs_f64_spec : {M : Type 1} → statement M
+copy_coeffs_f64_spec =
     tie.close
     (tie.spec
     invariant-loop
     decreases-loop
-    loop-holds
-    mul-out
-    shared-slice-read-out
-    mul-out-2
-    slice-write-out
-    add-i
-    loop-less
-    loop-again
+    loop_holds
+    mul_out
+    shared_slice_read_out
+    mul_out_2
+    slice_write_out
+    add_i
+    loop_less
+    loop_again
     same_length
     returns)

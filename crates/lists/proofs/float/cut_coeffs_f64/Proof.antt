@@ -4,24 +4,24 @@ use mathlib.Core.Path.{ap, sym, ◌∙◌}
 use borrow.Author.Rules.{rules}
 use Rattle.algebra.specs.Cut.{cut_at}
 use Rattle.algebra.specs.declared.Basis.{Basis}
-use Rattle.number.specs.Numbers.{floatOps}
+use Rattle.number.specs.Numbers.{float_ops}
 use Rattle.lists.proofs.float.cut_coeffs_f64.Statement.{statement}
 use Rattle.lists.proofs.float.cut_coeffs_f64.Tie as tie
 
 enum_told : tie.Need-enum-told
 enum_told c = search rules
 
-enum-told-2 : tie.Need-enum-told-2
-enum-told-2 c = search rules
+enum_told_2 : tie.Need-enum-told-2
+enum_told_2 c = search rules
 
-factorize-coeffs-chebyshev-f64-requires : tie.Need-factorize-coeffs-chebyshev-f64-requires
-factorize-coeffs-chebyshev-f64-requires c κs = search rules
+factorize_coeffs_chebyshev_f64_requires : tie.Need-factorize-coeffs-chebyshev-f64-requires
+factorize_coeffs_chebyshev_f64_requires c κs = search rules
 
 returns : tie.Need-returns
 unfolding cut_at
 returns c =
     let start = c.before.before.before in
-    sym (ap (λ (b : Basis). cut_at floatOps b start.args.p start.args.c.now) c.enum_told.given.1)
+    sym (ap (λ (b : Basis). cut_at float_ops b start.args.p start.args.c.now) c.enum_told.given.1)
 
 same_length : tie.Need-same-length
 same_length c = search rules
@@ -30,16 +30,16 @@ returns-2 : tie.Need-returns-2
 returns-2 c =
     let arm = c.before.before.before.before in
     let start = arm.before.before.before in
-    c.before.before.factorize-coeffs-chebyshev-f64.ensures
-    ∙ ap (λ (b : Basis). cut_at floatOps b start.args.p start.args.c.now) (sym arm.enum-told2.given.1)
+    c.before.before.factorize_coeffs_chebyshev_f64.ensures
+    ∙ ap (λ (b : Basis). cut_at float_ops b start.args.p start.args.c.now) (sym arm.enum_told2.given.1)
 
-pub cut-coeffs-f64-spec : {M : Type 1} → statement M
-cut-coeffs-f64-spec =
+pub cut_coeffs_f64_spec : {M : Type 1} → statement M
+cut_coeffs_f64_spec =
     tie.close
     (tie.spec
     enum_told
-    enum-told-2
-    factorize-coeffs-chebyshev-f64-requires
+    enum_told_2
+    factorize_coeffs_chebyshev_f64_requires
     returns
     same_length
     returns-2)

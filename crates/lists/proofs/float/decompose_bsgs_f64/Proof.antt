@@ -4,7 +4,7 @@ use mathlib.Core.Path.{◌≡◌, refl, ap, sym}
 use native.Mathlib.Omega.{arith}
 use borrow.Author.Rules.{rules}
 use lib.ListN.{length}
-use Rattle.number.specs.Numbers.{floatNumbers}
+use Rattle.number.specs.Numbers.{float_numbers}
 use Rattle.lists.proofs.ListCall as calls
 use Rattle.lists.proofs.ListCall.{Shaped}
 use Rattle.lists.proofs.float.decompose_bsgs_f64.Statement.{statement}
@@ -12,11 +12,11 @@ use Rattle.lists.proofs.float.decompose_bsgs_f64.Tie as tie
 
 -- the shape is the call's
 shaped : (c : tie.After-shape-for) → let args = c.before.before.before.before.args in
-    Shaped floatNumbers args.strategy args.parity args.basis args.c.now args.out.now args.bounds.now c.shape-for.result
-shaped c = calls.shaped-by refl c.shape-for.ensures
+    Shaped float_numbers args.strategy args.parity args.basis args.c.now args.out.now args.bounds.now c.shape_for.result
+shaped c = calls.shaped_by refl c.shape_for.ensures
 
 -- no refusal
-none : (c : tie.Else1) → c.before.before.before.shape-for.result.answer.refusal ≡ 0
+none : (c : tie.Else1) → c.before.before.before.shape_for.result.answer.refusal ≡ 0
 none c = omega arith
 
 -- the copy, and the test behind it
@@ -29,63 +29,63 @@ tested c = (copied c).before.before
 abbrev shape_of : tie.Else1 → tie.After-shape-for
 shape_of test = test.before.before.before
 
-shape-for-requires : tie.Need-shape-for-requires
-shape-for-requires c κs = search rules
+shape_for_requires : tie.Need-shape-for-requires
+shape_for_requires c κs = search rules
 
 returns : tie.Need-returns
-returns c = calls.call-refused (shaped c.before.before.before) c.if1.true
+returns c = calls.call_refused (shaped c.before.before.before) c.if1.true
 
-copy-coeffs-f64-requires : tie.Need-copy-coeffs-f64-requires
-copy-coeffs-f64-requires c κs = (calls.early (shaped (shape_of c.before)) (none c.before)).holds
+copy_coeffs_f64_requires : tie.Need-copy-coeffs-f64-requires
+copy_coeffs_f64_requires c κs = (calls.early (shaped (shape_of c.before)) (none c.before)).holds
 
-relists-requires : tie.Need-relists-requires
-relists-requires c κs = search rules
+relists_requires : tie.Need-relists-requires
+relists_requires c κs = search rules
 
-sub-list-coeffs-f64 : tie.Need-overflow-sub-list-coeffs-f64
-sub-list-coeffs-f64 c = omega (arith, (calls.early (shaped (shape_of (tested c))) (none (tested c))).degree)
+sub_list_coeffs_f64 : tie.Need-overflow-sub-list-coeffs-f64
+sub_list_coeffs_f64 c = omega (arith, (calls.early (shaped (shape_of (tested c))) (none (tested c))).degree)
 
-slice-relend-prefix-list-coeffs-f64 : tie.Need-slice-relend-prefix-list-coeffs-f64
-slice-relend-prefix-list-coeffs-f64 c =
-    omega (arith, (copied c).copy-coeffs-f64.auto.1.0, (calls.early (shaped (shape_of (tested c))) (none (tested c))).holds)
+slice_relend_prefix_list_coeffs_f64 : tie.Need-slice-relend-prefix-list-coeffs-f64
+slice_relend_prefix_list_coeffs_f64 c =
+    omega (arith, (copied c).copy_coeffs_f64.auto.1.0, (calls.early (shaped (shape_of (tested c))) (none (tested c))).holds)
 
-slice-aggregate-list-coeffs-f64 : tie.Need-slice-aggregate-list-coeffs-f64
-slice-aggregate-list-coeffs-f64 c =
+slice_aggregate_list_coeffs_f64 : tie.Need-slice-aggregate-list-coeffs-f64
+slice_aggregate_list_coeffs_f64 c =
     let asked = c.before in
-    sym (ap length (calls.part-is (shaped (shape_of (tested asked))) (none (tested asked)) (copied asked).copy-coeffs-f64.ensures refl))
+    sym (ap length (calls.part_is (shaped (shape_of (tested asked))) (none (tested asked)) (copied asked).copy_coeffs_f64.ensures refl))
 
-list-coeffs-f64-requires : tie.Need-list-coeffs-f64-requires
-list-coeffs-f64-requires c κs =
+list_coeffs_f64_requires : tie.Need-list-coeffs-f64-requires
+list_coeffs_f64_requires c κs =
     let asked = c.before.before in
     let test = tested asked in
     let shape = shaped (shape_of test) in
-    calls.listable shape (none test) (copied asked).copy-coeffs-f64.ensures asked.relists.ensures
+    calls.listable shape (none test) (copied asked).copy_coeffs_f64.ensures asked.relists.ensures
 
 same_length : tie.Need-same-length
 same_length c = search rules
 
-same-length-2 : tie.Need-same-length-2
-same-length-2 c = search rules
+same_length_2 : tie.Need-same-length-2
+same_length_2 c = search rules
 
 returns-2 : tie.Need-returns-2
 returns-2 c =
     let listed = c.before.before.before.before in
     let asked = listed.before.before.before in
     let test = tested asked in
-    calls.call-listed (shaped (shape_of test)) (none test) (copied asked).copy-coeffs-f64.ensures asked.relists.ensures
-    listed.list-coeffs-f64.auto.1.1.1.1.1.1.0 listed.list-coeffs-f64.ensures
+    calls.call_listed (shaped (shape_of test)) (none test) (copied asked).copy_coeffs_f64.ensures asked.relists.ensures
+    listed.list_coeffs_f64.auto.1.1.1.1.1.1.0 listed.list_coeffs_f64.ensures
 
-pub decompose-bsgs-f64-spec : {M : Type 1} → statement M
-decompose-bsgs-f64-spec =
+pub decompose_bsgs_f64_spec : {M : Type 1} → statement M
+decompose_bsgs_f64_spec =
     tie.close
     (tie.spec
-    shape-for-requires
+    shape_for_requires
     returns
-    copy-coeffs-f64-requires
-    relists-requires
-    sub-list-coeffs-f64
-    slice-relend-prefix-list-coeffs-f64
-    slice-aggregate-list-coeffs-f64
-    list-coeffs-f64-requires
+    copy_coeffs_f64_requires
+    relists_requires
+    sub_list_coeffs_f64
+    slice_relend_prefix_list_coeffs_f64
+    slice_aggregate_list_coeffs_f64
+    list_coeffs_f64_requires
     same_length
-    same-length-2
+    same_length_2
     returns-2)

@@ -10,279 +10,279 @@ use borrow.Fn.Kinds.{In}
 use borrow.Fn.PlainCycle.{Measures, is, falls, and}
 use lib.Pow.{pow_pos}
 use lib.ListN.{length}
-use Rattle.algebra.specs.Operations.{wholeOps}
+use Rattle.algebra.specs.Operations.{whole_ops}
 use Rattle.algebra.specs.Cut.{cut_at}
-use Rattle.number.specs.Tests.{degreeOf}
-use Rattle.lists.specs.Tree.{listedAgain}
-use Rattle.lists.proofs.TreeRule.{Again, leading-again}
-use Rattle.lists.proofs.SumByLength.{sum-by-length-to-52, sum-by-length-low, sum-by-length-high}
+use Rattle.number.specs.Tests.{degree_of}
+use Rattle.lists.specs.Tree.{listed_again}
+use Rattle.lists.proofs.TreeRule.{Again, leading_again}
+use Rattle.lists.proofs.SumByLength.{sum_by_length_to_52, sum_by_length_low, sum_by_length_high}
 use Rattle.lists.proofs.ListerCuts as cuts
 use Rattle.lists.proofs.ListerCuts.{Cutting}
-use Rattle.lists.proofs.whole.list_coeffs.Reads as lister-reads
-use Rattle.lists.proofs.whole.list_coeffs.Kinds as lister-kinds
+use Rattle.lists.proofs.whole.list_coeffs.Reads as lister_reads
+use Rattle.lists.proofs.whole.list_coeffs.Kinds as lister_kinds
 use Rattle.lists.proofs.whole.+list_coeffs_list_slice.Lts-list_coeffs as lister
-use Rattle.lists.proofs.whole.list_slice.Reads as slicer-reads
-use Rattle.lists.proofs.whole.list_slice.Kinds as slicer-kinds
+use Rattle.lists.proofs.whole.list_slice.Reads as slicer_reads
+use Rattle.lists.proofs.whole.list_slice.Kinds as slicer_kinds
 use Rattle.lists.proofs.whole.+list_coeffs_list_slice.Lts-list_slice as slicer
-use Rattle.number.proofs.power_of_two.Reads as power-of-two-reads
-use Rattle.number.proofs.top_power.Reads as top-power-reads
-use Rattle.lists.proofs.count.listed_again.Reads as listed-again-reads
-use Rattle.lists.proofs.count.smaller_split.Reads as smaller-split-reads
-use Rattle.lists.proofs.whole.cut_coeffs.Reads as cut-coeffs-reads
+use Rattle.number.proofs.power_of_two.Reads as power_of_two_reads
+use Rattle.number.proofs.top_power.Reads as top_power_reads
+use Rattle.lists.proofs.count.listed_again.Reads as listed_again_reads
+use Rattle.lists.proofs.count.smaller_split.Reads as smaller_split_reads
+use Rattle.lists.proofs.whole.cut_coeffs.Reads as cut_coeffs_reads
 use Rattle.lists.proofs.whole.+list_coeffs_list_slice.{statement}
 use Rattle.lists.proofs.whole.+list_coeffs_list_slice.Tie.{close}
 
-abbrev μ-lister : Measures 2 lister-kinds.ps ℕ
+abbrev μ-lister : Measures 2 lister_kinds.ps ℕ
 μ-lister κs a = 2 * (length a.1.1.1.1.1.1.0.now * 64 + a.1.1.1.0) + 1
 
-abbrev μ-slicer : Measures 2 slicer-kinds.ps ℕ
+abbrev μ-slicer : Measures 2 slicer_kinds.ps ℕ
 μ-slicer κs a = 2 * (length a.1.1.1.1.1.1.0.now * 64 + a.1.1.1.0)
 
-abbrev lister-at : ℕ → In 2 lister-kinds.ps
-lister-at t =
-    and 2 lister-kinds.ps (is 2 lister-kinds.ps μ-lister t) lister-reads.Pre
+abbrev lister_at : ℕ → In 2 lister_kinds.ps
+lister_at t =
+    and 2 lister_kinds.ps (is 2 lister_kinds.ps μ-lister t) lister_reads.Pre
 
-abbrev lister-below : ℕ → In 2 lister-kinds.ps
-lister-below t =
-    and 2 lister-kinds.ps (falls 2 lister-kinds.ps ◌<◌ μ-lister t) lister-reads.Pre
+abbrev lister_below : ℕ → In 2 lister_kinds.ps
+lister_below t =
+    and 2 lister_kinds.ps (falls 2 lister_kinds.ps ◌<◌ μ-lister t) lister_reads.Pre
 
-abbrev slicer-at : ℕ → In 2 slicer-kinds.ps
-slicer-at t =
-    and 2 slicer-kinds.ps (is 2 slicer-kinds.ps μ-slicer t) slicer-reads.Pre
+abbrev slicer_at : ℕ → In 2 slicer_kinds.ps
+slicer_at t =
+    and 2 slicer_kinds.ps (is 2 slicer_kinds.ps μ-slicer t) slicer_reads.Pre
 
-abbrev slicer-below : ℕ → In 2 slicer-kinds.ps
-slicer-below t =
-    and 2 slicer-kinds.ps (falls 2 slicer-kinds.ps ◌<◌ μ-slicer t) slicer-reads.Pre
+abbrev slicer_below : ℕ → In 2 slicer_kinds.ps
+slicer_below t =
+    and 2 slicer_kinds.ps (falls 2 slicer_kinds.ps ◌<◌ μ-slicer t) slicer_reads.Pre
 
 -- what is handed for the callees
-abbrev lister-calls : ℕ → lister.Claims
-lister-calls t = (
-  power-of-two-reads.Asked,
-  power-of-two-reads.Learnt,
-  slicer-below t,
-  slicer-reads.Post,
-  top-power-reads.Asked,
-  top-power-reads.Learnt,
-  cut-coeffs-reads.Asked,
-  cut-coeffs-reads.Learnt,
-  lister-below t,
-  lister-reads.Post,
+abbrev lister_calls : ℕ → lister.Claims
+lister_calls t = (
+  power_of_two_reads.Asked,
+  power_of_two_reads.Learnt,
+  slicer_below t,
+  slicer_reads.Post,
+  top_power_reads.Asked,
+  top_power_reads.Learnt,
+  cut_coeffs_reads.Asked,
+  cut_coeffs_reads.Learnt,
+  lister_below t,
+  lister_reads.Post,
 )
 
-abbrev slicer-calls : ℕ → slicer.Claims
-slicer-calls t =
-    (listed-again-reads.Asked, listed-again-reads.Learnt, smaller-split-reads.Asked, smaller-split-reads.Learnt, lister-below t, lister-reads.Post)
+abbrev slicer_calls : ℕ → slicer.Claims
+slicer_calls t =
+    (listed_again_reads.Asked, listed_again_reads.Learnt, smaller_split_reads.Asked, smaller_split_reads.Learnt, lister_below t, lister_reads.Post)
 
 module _ (t : ℕ) where
   -- the cut at which the two parts are listed, before and after it is made
-  abbrev start_of : lister.After-top-power (lister-calls t) (lister-at t) lister-reads.Post
-      → lister.Start (lister-calls t) (lister-at t) lister-reads.Post
+  abbrev start_of : lister.After-top-power (lister_calls t) (lister_at t) lister_reads.Post
+      → lister.Start (lister_calls t) (lister_at t) lister_reads.Post
   start_of top = let test = top.before in test.before.before.before
 
-  uncut : (top : lister.After-top-power (lister-calls t) (lister-at t) lister-reads.Post)
+  uncut : (top : lister.After-top-power (lister_calls t) (lister_at t) lister_reads.Post)
       → let args = (start_of top).args in
-      Cutting wholeOps args.leading args.basis args.whole args.split args.at args.n args.c.now args.bounds.now
-      top.top-power.result (cut_at wholeOps args.basis top.top-power.result args.c.now)
-  uncut top = record { listable = (start_of top).pre.1.0; from = omega arith; power = top.top-power.ensures; parted = refl }
+      Cutting whole_ops args.leading args.basis args.whole args.split args.at args.n args.c.now args.bounds.now
+      top.top_power_lem.result (cut_at whole_ops args.basis top.top_power_lem.result args.c.now)
+  uncut top = record { listable = (start_of top).pre.1.0; from = omega arith; power = top.top_power_lem.ensures; parted = refl }
 
-  cutting : (k : lister.After-cut-coeffs (lister-calls t) (lister-at t) lister-reads.Post)
+  cutting : (k : lister.After-cut-coeffs (lister_calls t) (lister_at t) lister_reads.Post)
       → let top = k.before.before in let args = (start_of top).args in
-      Cutting wholeOps args.leading args.basis args.whole args.split args.at args.n args.c.now args.bounds.now
-      top.top-power.result k.cut-coeffs.last.1.1.0
+      Cutting whole_ops args.leading args.basis args.whole args.split args.at args.n args.c.now args.bounds.now
+      top.top_power_lem.result k.cut_coeffs.last.1.1.0
   cutting k =
       let before = uncut k.before.before in
-      record { listable = before.listable; from = before.from; power = before.power; parted = k.cut-coeffs.ensures }
+      record { listable = before.listable; from = before.from; power = before.power; parted = k.cut_coeffs.ensures }
 
   -- the cut behind the first call, and the first call behind the second one's arguments
-  abbrev cut_of : lister.After-list-coeffs (lister-calls t) (lister-at t) lister-reads.Post
-      → lister.After-cut-coeffs (lister-calls t) (lister-at t) lister-reads.Post
+  abbrev cut_of : lister.After-list-coeffs (lister_calls t) (lister_at t) lister_reads.Post
+      → lister.After-cut-coeffs (lister_calls t) (lister_at t) lister_reads.Post
   cut_of low = let lent = low.before.before in lent.before.before
 
-  abbrev first-call : lister.After-slice-known3 (lister-calls t) (lister-at t) lister-reads.Post
-      → lister.After-list-coeffs (lister-calls t) (lister-at t) lister-reads.Post
-  first-call known = known.before.before.before
+  abbrev first_call : lister.After-slice-known3 (lister_calls t) (lister_at t) lister_reads.Post
+      → lister.After-list-coeffs (lister_calls t) (lister_at t) lister_reads.Post
+  first_call known = known.before.before.before
 
-  lister-power-of-two-requires : lister.Need-power-of-two-requires (lister-calls t) (lister-at t) lister-reads.Post
-  lister-power-of-two-requires c κs = search rules
+  lister_power_of_two_requires : lister.Need-power-of-two-requires (lister_calls t) (lister_at t) lister_reads.Post
+  lister_power_of_two_requires c κs = search rules
 
-  lister-sub-degree : lister.Need-sub-degree (lister-calls t) (lister-at t) lister-reads.Post
-  lister-sub-degree c = search rules
+  lister_sub_degree : lister.Need-sub-degree (lister_calls t) (lister_at t) lister_reads.Post
+  lister_sub_degree c = search rules
 
-  lister-list-slice-requires : lister.Need-list-slice-requires (lister-calls t) (lister-at t) lister-reads.Post
-  lister-list-slice-requires c κs =
+  lister_list_slice_requires : lister.Need-list-slice-requires (lister_calls t) (lister_at t) lister_reads.Post
+  lister_list_slice_requires c κs =
       let test = c.before.before in
       let start = test.before.before.before in
       (omega arith, (start.pre.1.0, (start.pre.1.1, omega arith)))
 
-  lister-same-length : lister.Need-same-length (lister-calls t) (lister-at t) lister-reads.Post
-  lister-same-length c = search rules
+  lister_same_length : lister.Need-same-length (lister_calls t) (lister_at t) lister_reads.Post
+  lister_same_length c = search rules
 
-  lister-same-length-2 : lister.Need-same-length-2 (lister-calls t) (lister-at t) lister-reads.Post
-  lister-same-length-2 c = search rules
+  lister_same_length_2 : lister.Need-same-length-2 (lister_calls t) (lister_at t) lister_reads.Post
+  lister_same_length_2 c = search rules
 
-  lister-returns : lister.Need-returns (lister-calls t) (lister-at t) lister-reads.Post
-  lister-returns c = search rules
+  lister_returns : lister.Need-returns (lister_calls t) (lister_at t) lister_reads.Post
+  lister_returns c = search rules
 
-  lister-top-power-requires : lister.Need-top-power-requires (lister-calls t) (lister-at t) lister-reads.Post
-  lister-top-power-requires c κs =
+  lister_top_power_requires : lister.Need-top-power-requires (lister_calls t) (lister_at t) lister_reads.Post
+  lister_top_power_requires c κs =
       let start = c.before.before.before in
       omega (arith, pow_pos start.args.split)
 
-  lister-cut-coeffs-requires : lister.Need-cut-coeffs-requires (lister-calls t) (lister-at t) lister-reads.Post
-  lister-cut-coeffs-requires c κs =
+  lister_cut_coeffs_requires : lister.Need-cut-coeffs-requires (lister_calls t) (lister_at t) lister_reads.Post
+  lister_cut_coeffs_requires c κs =
       let k = uncut c.before in
-      (cuts.under k, (cuts.half k, sum-by-length-to-52 _ (omega (arith, cuts.positive k, cuts.under k)) (start_of c.before).pre.1.1))
+      (cuts.under k, (cuts.half k, sum_by_length_to_52 _ (omega (arith, cuts.positive k, cuts.under k)) (start_of c.before).pre.1.1))
 
-  lister-slice-relend-prefix-list-coeffs : lister.Need-slice-relend-prefix-list-coeffs (lister-calls t) (lister-at t) lister-reads.Post
-  lister-slice-relend-prefix-list-coeffs c =
+  lister_slice_relend_prefix_list_coeffs : lister.Need-slice-relend-prefix-list-coeffs (lister_calls t) (lister_at t) lister_reads.Post
+  lister_slice_relend_prefix_list_coeffs c =
       let k = cutting c.before in
       omega (arith, cuts.under k, cuts.same_length k)
 
-  lister-slice-aggregate-list-coeffs : lister.Need-slice-aggregate-list-coeffs (lister-calls t) (lister-at t) lister-reads.Post
-  lister-slice-aggregate-list-coeffs c = sym (cuts.low-length (cutting c.before.before))
+  lister_slice_aggregate_list_coeffs : lister.Need-slice-aggregate-list-coeffs (lister_calls t) (lister_at t) lister_reads.Post
+  lister_slice_aggregate_list_coeffs c = sym (cuts.low_length (cutting c.before.before))
 
-  lister-list-coeffs-requires : lister.Need-list-coeffs-requires (lister-calls t) (lister-at t) lister-reads.Post
-  lister-list-coeffs-requires c κs =
+  lister_list_coeffs_requires : lister.Need-list-coeffs-requires (lister_calls t) (lister_at t) lister_reads.Post
+  lister_list_coeffs_requires c κs =
       let made = c.before.before.before in
       let top = made.before.before in
       let start = start_of top in
       let k = cutting made in (
-        omega (arith, cuts.low-length k, cuts.under k, start.pre.0),
+        omega (arith, cuts.low_length k, cuts.under k, start.pre.0),
         (
-          cuts.listable-low k,
+          cuts.listable_low k,
           rw k.parted
-              (sum-by-length-low start.args.basis top.top-power.result start.args.c.now (omega (arith, cuts.under k)) start.pre.1.1),
+              (sum_by_length_low start.args.basis top.top_power_lem.result start.args.c.now (omega (arith, cuts.under k)) start.pre.1.1),
         ),
       )
 
-  lister-mul-list-coeffs : lister.Need-mul-list-coeffs (lister-calls t) (lister-at t) lister-reads.Post
-  lister-mul-list-coeffs c =
-      let k = cutting (cut_of (first-call c)) in
-      omega (arith, cuts.under k, k.listable.ends-fit)
+  lister_mul_list_coeffs : lister.Need-mul-list-coeffs (lister_calls t) (lister_at t) lister_reads.Post
+  lister_mul_list_coeffs c =
+      let k = cutting (cut_of (first_call c)) in
+      omega (arith, cuts.under k, k.listable.ends_fit)
 
-  lister-sub-list-coeffs : lister.Need-sub-list-coeffs (lister-calls t) (lister-at t) lister-reads.Post
-  lister-sub-list-coeffs c =
-      let low = first-call c in
+  lister_sub_list_coeffs : lister.Need-sub-list-coeffs (lister_calls t) (lister_at t) lister_reads.Post
+  lister_sub_list_coeffs c =
+      let low = first_call c in
       let k = cutting (cut_of low) in
-      omega (arith, cuts.under k, cuts.joined_length k low.list-coeffs.ensures low.list-coeffs.kept.1.1.1.1.1.1.0)
+      omega (arith, cuts.under k, cuts.joined_length k low.list_coeffs.ensures low.list_coeffs.kept.1.1.1.1.1.1.0)
 
-  lister-part-list-coeffs-start : lister.Need-part-list-coeffs-start (lister-calls t) (lister-at t) lister-reads.Post
-  lister-part-list-coeffs-start c =
-      let low = first-call c in
+  lister_part_list_coeffs_start : lister.Need-part-list-coeffs-start (lister_calls t) (lister_at t) lister_reads.Post
+  lister_part_list_coeffs_start c =
+      let low = first_call c in
       let k = cutting (cut_of low) in
-      omega (arith, cuts.under k, cuts.joined_length k low.list-coeffs.ensures low.list-coeffs.kept.1.1.1.1.1.1.0)
+      omega (arith, cuts.under k, cuts.joined_length k low.list_coeffs.ensures low.list_coeffs.kept.1.1.1.1.1.1.0)
 
-  lister-part-list-coeffs-end : lister.Need-part-list-coeffs-end (lister-calls t) (lister-at t) lister-reads.Post
-  lister-part-list-coeffs-end c = search rules
+  lister_part_list_coeffs_end : lister.Need-part-list-coeffs-end (lister_calls t) (lister_at t) lister_reads.Post
+  lister_part_list_coeffs_end c = search rules
 
-  lister-add-list-coeffs : lister.Need-add-list-coeffs (lister-calls t) (lister-at t) lister-reads.Post
-  lister-add-list-coeffs c =
-      let low = first-call c in
+  lister_add_list_coeffs : lister.Need-add-list-coeffs (lister_calls t) (lister_at t) lister_reads.Post
+  lister_add_list_coeffs c =
+      let low = first_call c in
       let k = cutting (cut_of low) in
-      omega (arith, cuts.under k, k.listable.ends-fit)
+      omega (arith, cuts.under k, k.listable.ends_fit)
 
-  lister-list-coeffs-requires-2 : lister.Need-list-coeffs-requires-2 (lister-calls t) (lister-at t) lister-reads.Post
-  lister-list-coeffs-requires-2 c κs =
-      let low = first-call c.before.before in
+  lister_list_coeffs_requires_2 : lister.Need-list-coeffs-requires-2 (lister_calls t) (lister_at t) lister_reads.Post
+  lister_list_coeffs_requires_2 c κs =
+      let low = first_call c.before.before in
       let made = cut_of low in
       let top = made.before.before in
       let start = start_of top in
       let k = cutting made in
-      let kept = low.list-coeffs.kept.1.1.1.1.1.1 in
-      let lent = cuts.part-is k low.list-coeffs.ensures kept.0 in (
-        omega (arith, ap length lent, cuts.high-length k, cuts.half k, cuts.under k, cuts.positive k, start.pre.0),
+      let kept = low.list_coeffs.kept.1.1.1.1.1.1 in
+      let lent = cuts.part_is k low.list_coeffs.ensures kept.0 in (
+        omega (arith, ap length lent, cuts.high_length k, cuts.half k, cuts.under k, cuts.positive k, start.pre.0),
         (
-          cuts.listable-high k low.list-coeffs.ensures kept.0 kept.1.0,
+          cuts.listable_high k low.list_coeffs.ensures kept.0 kept.1.0,
           rw (lent, k.parted)
-              (sum-by-length-high start.args.basis top.top-power.result start.args.c.now (omega (arith, cuts.under k)) (cuts.half k)
+              (sum_by_length_high start.args.basis top.top_power_lem.result start.args.c.now (omega (arith, cuts.under k)) (cuts.half k)
               start.pre.1.1),
         ),
       )
 
-  lister-same-length-3 : lister.Need-same-length-3 (lister-calls t) (lister-at t) lister-reads.Post
-  lister-same-length-3 c = search rules
+  lister_same_length_3 : lister.Need-same-length-3 (lister_calls t) (lister_at t) lister_reads.Post
+  lister_same_length_3 c = search rules
 
-  lister-same-length-4 : lister.Need-same-length-4 (lister-calls t) (lister-at t) lister-reads.Post
-  lister-same-length-4 c = search rules
+  lister_same_length_4 : lister.Need-same-length-4 (lister_calls t) (lister_at t) lister_reads.Post
+  lister_same_length_4 c = search rules
 
-  lister-returns-2 : lister.Need-returns-2 (lister-calls t) (lister-at t) lister-reads.Post
-  lister-returns-2 c =
+  lister_returns_2 : lister.Need-returns-2 (lister_calls t) (lister_at t) lister_reads.Post
+  lister_returns_2 c =
       let high = c.before.before.before in
-      let low = first-call high.before.before.before in
-      cuts.place-both (cutting (cut_of low)) low.list-coeffs.ensures low.list-coeffs.kept.1.1.1.1.1.1.0 high.list-coeffs2.ensures
+      let low = first_call high.before.before.before in
+      cuts.place_both (cutting (cut_of low)) low.list_coeffs.ensures low.list_coeffs.kept.1.1.1.1.1.1.0 high.list_coeffs2.ensures
 
   -- a slice that the test says is listed again
-  told-again : (c : slicer.After-listed-again (slicer-calls t) (slicer-at t) slicer-reads.Post) → c.listed-again.result ≡ true
+  told_again : (c : slicer.After-listed-again (slicer_calls t) (slicer_at t) slicer_reads.Post) → c.listed_again_lem.result ≡ true
       → let start = c.before.before in
-      (start.args.leading && listedAgain start.args.whole (degreeOf start.args.c.now) start.args.split) ≡ true
-  told-again c told = sym c.listed-again.ensures ∙ told
+      (start.args.leading && listed_again start.args.whole (degree_of start.args.c.now) start.args.split) ≡ true
+  told_again c told = sym c.listed_again_lem.ensures ∙ told
 
-  again : (c : slicer.After-listed-again (slicer-calls t) (slicer-at t) slicer-reads.Post) → c.listed-again.result ≡ true
-      → let start = c.before.before in Again start.args.whole (degreeOf start.args.c.now) start.args.split
+  again : (c : slicer.After-listed-again (slicer_calls t) (slicer_at t) slicer_reads.Post) → c.listed_again_lem.result ≡ true
+      → let start = c.before.before in Again start.args.whole (degree_of start.args.c.now) start.args.split
   again c told =
       let start = c.before.before in
-      leading-again start.args.leading start.args.whole (degreeOf start.args.c.now) start.args.split (told-again c told)
+      leading_again start.args.leading start.args.whole (degree_of start.args.c.now) start.args.split (told_again c told)
 
-  slicer-sub-degree : slicer.Need-sub-degree (slicer-calls t) (slicer-at t) slicer-reads.Post
-  slicer-sub-degree c = search rules
+  slicer_sub_degree : slicer.Need-sub-degree (slicer_calls t) (slicer_at t) slicer_reads.Post
+  slicer_sub_degree c = search rules
 
-  slicer-listed-again-requires : slicer.Need-listed-again-requires (slicer-calls t) (slicer-at t) slicer-reads.Post
-  slicer-listed-again-requires c κs = c.before.pre.1.0.ranges
+  slicer_listed_again_requires : slicer.Need-listed-again-requires (slicer_calls t) (slicer_at t) slicer_reads.Post
+  slicer_listed_again_requires c κs = c.before.pre.1.0.ranges
 
-  slicer-smaller-split-requires : slicer.Need-smaller-split-requires (slicer-calls t) (slicer-at t) slicer-reads.Post
-  slicer-smaller-split-requires c κs =
+  slicer_smaller_split_requires : slicer.Need-smaller-split-requires (slicer_calls t) (slicer_at t) slicer_reads.Post
+  slicer_smaller_split_requires c κs =
       let start = c.before.before.before in
       record { from = (again c.before c.if1.taken).positive; to = start.pre.1.0.ranges.part_limit }
 
-  slicer-list-coeffs-requires : slicer.Need-list-coeffs-requires (slicer-calls t) (slicer-at t) slicer-reads.Post
-  slicer-list-coeffs-requires c κs =
+  slicer_list_coeffs_requires : slicer.Need-list-coeffs-requires (slicer_calls t) (slicer_at t) slicer_reads.Post
+  slicer_list_coeffs_requires c κs =
       let asked = c.before.before in
       let start = asked.before.before.before.before in
-      let smaller = cuts.smaller start.pre.1.0 start.pre.1.1.1 (told-again asked.before.before asked.before.if1.taken) in (
-        omega (arith, asked.smaller-split.ensures, start.pre.0),
+      let smaller = cuts.smaller start.pre.1.0 start.pre.1.1.1 (told_again asked.before.before asked.before.if1.taken) in (
+        omega (arith, asked.smaller_split.ensures, start.pre.0),
         (
-          rw asked.smaller-split.ensures
-              (cuts.listable-again start.pre.1.0 start.pre.1.1.1 (told-again asked.before.before asked.before.if1.taken)),
+          rw asked.smaller_split.ensures
+              (cuts.listable_again start.pre.1.0 start.pre.1.1.1 (told_again asked.before.before asked.before.if1.taken)),
           start.pre.1.1.0,
         ),
       )
 
-  slicer-same-length : slicer.Need-same-length (slicer-calls t) (slicer-at t) slicer-reads.Post
-  slicer-same-length c = search rules
+  slicer_same_length : slicer.Need-same-length (slicer_calls t) (slicer_at t) slicer_reads.Post
+  slicer_same_length c = search rules
 
-  slicer-same-length-2 : slicer.Need-same-length-2 (slicer-calls t) (slicer-at t) slicer-reads.Post
-  slicer-same-length-2 c = search rules
+  slicer_same_length_2 : slicer.Need-same-length-2 (slicer_calls t) (slicer_at t) slicer_reads.Post
+  slicer_same_length_2 c = search rules
 
-  slicer-returns : slicer.Need-returns (slicer-calls t) (slicer-at t) slicer-reads.Post
-  slicer-returns c =
+  slicer_returns : slicer.Need-returns (slicer_calls t) (slicer_at t) slicer_reads.Post
+  slicer_returns c =
       let call = c.before.before.before in
       let asked = call.before.before.before in
       let start = asked.before.before.before.before in
-      cuts.place-again start.pre.1.0 start.pre.1.1.1 (told-again asked.before.before asked.before.if1.taken)
-      (rw asked.smaller-split.ensures at call.list-coeffs.ensures)
+      cuts.place_again start.pre.1.0 start.pre.1.1.1 (told_again asked.before.before asked.before.if1.taken)
+      (rw asked.smaller_split.ensures at call.list_coeffs.ensures)
 
-  slicer-add-bounds : slicer.Need-add-bounds (slicer-calls t) (slicer-at t) slicer-reads.Post
-  slicer-add-bounds c = search rules
+  slicer_add_bounds : slicer.Need-add-bounds (slicer_calls t) (slicer_at t) slicer_reads.Post
+  slicer_add_bounds c = search rules
 
-  slicer-cast-bounds : slicer.Need-cast-bounds (slicer-calls t) (slicer-at t) slicer-reads.Post
-  slicer-cast-bounds c = search rules
+  slicer_cast_bounds : slicer.Need-cast-bounds (slicer_calls t) (slicer_at t) slicer_reads.Post
+  slicer_cast_bounds c = search rules
 
-  slicer-mul-bounds : slicer.Need-mul-bounds (slicer-calls t) (slicer-at t) slicer-reads.Post
-  slicer-mul-bounds c = search rules
+  slicer_mul_bounds : slicer.Need-mul-bounds (slicer_calls t) (slicer_at t) slicer_reads.Post
+  slicer_mul_bounds c = search rules
 
-  slicer-slice-write-bounds : slicer.Need-slice-write-bounds (slicer-calls t) (slicer-at t) slicer-reads.Post
-  slicer-slice-write-bounds c = cuts.room-for-one c.before.before.before.pre.1.0
+  slicer_slice_write_bounds : slicer.Need-slice-write-bounds (slicer_calls t) (slicer_at t) slicer_reads.Post
+  slicer_slice_write_bounds c = cuts.room_for_one c.before.before.before.pre.1.0
 
-  slicer-add-result : slicer.Need-add-result (slicer-calls t) (slicer-at t) slicer-reads.Post
-  slicer-add-result c = search rules
+  slicer_add_result : slicer.Need-add-result (slicer_calls t) (slicer_at t) slicer_reads.Post
+  slicer_add_result c = search rules
 
-  slicer-same-length-3 : slicer.Need-same-length-3 (slicer-calls t) (slicer-at t) slicer-reads.Post
-  slicer-same-length-3 c = search rules
+  slicer_same_length_3 : slicer.Need-same-length-3 (slicer_calls t) (slicer_at t) slicer_reads.Post
+  slicer_same_length_3 c = search rules
 
-  slicer-returns-2 : slicer.Need-returns-2 (slicer-calls t) (slicer-at t) slicer-reads.Post
-  slicer-returns-2 c =
+  slicer_returns_2 : slicer.Need-returns-2 (slicer_calls t) (slicer_at t) slicer_reads.Post
+  slicer_returns_2 c =
       let start = c.before.before.before in
-      cuts.place-slice start.pre.1.0 start.pre.1.1.1 (sym c.before.listed-again.ensures ∙ c.if1.left)
+      cuts.place_slice start.pre.1.0 start.pre.1.1.1 (sym c.before.listed_again_lem.ensures ∙ c.if1.left)
 
 pub +list-coeffs-list-slice-spec : {M : Type 1} → statement M
 +list-coeffs-list-slice-spec =
@@ -291,13 +291,13 @@ pub +list-coeffs-list-slice-spec : {M : Type 1} → statement M
     μ-slicer
     (λ t.
     lister.spec
-    (lister-calls t) (lister-at t) lister-reads.Post (lister-power-of-two-requires t) (lister-sub-degree t) (lister-list-slice-requires t)
-    (lister-same-length t) (lister-same-length-2 t) (lister-returns t) (lister-top-power-requires t) (lister-cut-coeffs-requires t)
-    (lister-slice-relend-prefix-list-coeffs t) (lister-slice-aggregate-list-coeffs t) (lister-list-coeffs-requires t) (lister-add-list-coeffs t)
-    (lister-mul-list-coeffs t) (lister-sub-list-coeffs t) (lister-part-list-coeffs-start t) (lister-part-list-coeffs-end t)
-    (lister-list-coeffs-requires-2 t) (lister-same-length-3 t) (lister-same-length-4 t) (lister-returns-2 t))
+    (lister_calls t) (lister_at t) lister_reads.Post (lister_power_of_two_requires t) (lister_sub_degree t) (lister_list_slice_requires t)
+    (lister_same_length t) (lister_same_length_2 t) (lister_returns t) (lister_top_power_requires t) (lister_cut_coeffs_requires t)
+    (lister_slice_relend_prefix_list_coeffs t) (lister_slice_aggregate_list_coeffs t) (lister_list_coeffs_requires t) (lister_add_list_coeffs t)
+    (lister_mul_list_coeffs t) (lister_sub_list_coeffs t) (lister_part_list_coeffs_start t) (lister_part_list_coeffs_end t)
+    (lister_list_coeffs_requires_2 t) (lister_same_length_3 t) (lister_same_length_4 t) (lister_returns_2 t))
     (λ t.
     slicer.spec
-    (slicer-calls t) (slicer-at t) slicer-reads.Post (slicer-sub-degree t) (slicer-listed-again-requires t) (slicer-smaller-split-requires t)
-    (slicer-list-coeffs-requires t) (slicer-same-length t) (slicer-same-length-2 t) (slicer-returns t) (slicer-add-bounds t) (slicer-cast-bounds t)
-    (slicer-mul-bounds t) (slicer-slice-write-bounds t) (slicer-add-result t) (slicer-same-length-3 t) (slicer-returns-2 t))
+    (slicer_calls t) (slicer_at t) slicer_reads.Post (slicer_sub_degree t) (slicer_listed_again_requires t) (slicer_smaller_split_requires t)
+    (slicer_list_coeffs_requires t) (slicer_same_length t) (slicer_same_length_2 t) (slicer_returns t) (slicer_add_bounds t) (slicer_cast_bounds t)
+    (slicer_mul_bounds t) (slicer_slice_write_bounds t) (slicer_add_result t) (slicer_same_length_3 t) (slicer_returns_2 t))

@@ -6,14 +6,14 @@ use lib.Pow.{pow_pos}
 use Rattle.needed.proofs.marks.greatest_target.Statement.{statement}
 use Rattle.needed.proofs.marks.greatest_target.Tie as tie
 
-top-power-requires : tie.Need-top-power-requires
-top-power-requires c κs = omega arith
+top_power_requires : tie.Need-top-power-requires
+top_power_requires c κs = omega arith
 
-baby-limit-requires : tie.Need-baby-limit-requires
-baby-limit-requires c κs = search rules
+baby_limit_requires : tie.Need-baby-limit-requires
+baby_limit_requires c κs = search rules
 
-sub-below : tie.Need-overflow-sub-below
-sub-below c = omega (arith, c.baby-limit.ensures, pow_pos c.before.before.args.split)
+sub_below : tie.Need-overflow-sub-below
+sub_below c = omega (arith, c.baby_limit.ensures, pow_pos c.before.before.args.split)
 
 returns : tie.Need-returns
 returns c = omega arith
@@ -21,6 +21,6 @@ returns c = omega arith
 returns-2 : tie.Need-returns-2
 returns-2 c = omega arith
 
-pub greatest-target-spec : {M : Type 1} → statement M
-greatest-target-spec =
-    tie.close (tie.spec top-power-requires baby-limit-requires sub-below returns returns-2)
+pub greatest_target_spec : {M : Type 1} → statement M
+greatest_target_spec =
+    tie.close (tie.spec top_power_requires baby_limit_requires sub_below returns returns-2)

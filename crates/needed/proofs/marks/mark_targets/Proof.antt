@@ -7,59 +7,59 @@ use Prim.Native.Nat.{◌+◌, ◌-◌, ◌≤◌, ◌<◌}
 use native.Mathlib.Omega.{arith}
 use borrow.Author.Rules.{rules}
 use lib.ListN.{set}
-use Rattle.number.specs.Limits.{countLimit}
-use Rattle.needed.specs.NeededList.{isTarget}
+use Rattle.number.specs.Limits.{count_limit}
+use Rattle.needed.specs.NeededList.{is_target}
 use Rattle.needed.proofs.PlaceLaws.{filled, fill_start, fill_step, fill_end}
 use Rattle.needed.proofs.marks.mark_targets.Statement.{statement}
 use Rattle.needed.proofs.marks.mark_targets.Tie as tie
 
 abbrev invariant-loop : tie.invariant-loop
-invariant-loop parity top limit last marks₀ n₀ marks n = (n ≤ last + 1) × (marks ≡ filled (isTarget parity top limit) countLimit n)
+invariant-loop parity top limit last marks₀ n₀ marks n = (n ≤ last + 1) × (marks ≡ filled (is_target parity top limit) count_limit n)
 
 abbrev decreases-loop : tie.decreases-loop
 decreases-loop parity top limit last marks₀ n₀ marks n = last + 1 - n
 
-loop-holds : tie.Need-loop-init invariant-loop decreases-loop
-loop-holds c = (omega arith, c.requires.1 ∙ fill_start _ countLimit)
+loop_holds : tie.Need-loop-init invariant-loop decreases-loop
+loop_holds c = (omega arith, c.requires.1 ∙ fill_start _ count_limit)
 
-is-target-requires : tie.Need-is-target-requires invariant-loop decreases-loop
-is-target-requires c κs = search rules
+is_target_requires : tie.Need-is-target-requires invariant-loop decreases-loop
+is_target_requires c κs = search rules
 
-element-write-marks : tie.Need-element-write-marks invariant-loop decreases-loop
-element-write-marks c = search rules
+element_write_marks : tie.Need-element-write-marks invariant-loop decreases-loop
+element_write_marks c = search rules
 
-add-n : tie.Need-overflow-add-n invariant-loop decreases-loop
-add-n c = search rules
+add_n : tie.Need-overflow-add-n invariant-loop decreases-loop
+add_n c = search rules
 
-loop-less : tie.Need-loop-smaller invariant-loop decreases-loop
-loop-less c = search rules
+loop_less : tie.Need-loop-smaller invariant-loop decreases-loop
+loop_less c = search rules
 
-loop-again : tie.Need-loop-preserved invariant-loop decreases-loop
-loop-again c =
+loop_again : tie.Need-loop-preserved invariant-loop decreases-loop
+loop_again c =
     let loop = c.before.before.loop in
     let start = c.before.before.before in
-    let test = isTarget start.args.parity start.args.top start.args.limit in
-    let inside : loop.n < countLimit = omega (arith, c.before.loop-test.true, start.requires.0) in
-    let step = fill_step test countLimit loop.n inside c.is-target.ensures in
-    (omega arith, ap (λ (marks : List Bool). set marks loop.n c.is-target.result) loop.invariant.1 ∙ step)
+    let test = is_target start.args.parity start.args.top start.args.limit in
+    let inside : loop.n < count_limit = omega (arith, c.before.loop-test.true, start.requires.0) in
+    let step = fill_step test count_limit loop.n inside c.is_target_lem.ensures in
+    (omega arith, ap (λ (marks : List Bool). set marks loop.n c.is_target_lem.result) loop.invariant.1 ∙ step)
 
 returns : tie.Need-returns invariant-loop decreases-loop
 returns c =
     let start = c.before.before in
-    let test = isTarget start.args.parity start.args.top start.args.limit in
+    let test = is_target start.args.parity start.args.top start.args.limit in
     let end : c.before.loop.n ≡ start.args.last + 1 = omega arith in
-    c.before.loop.invariant.1 ∙ ap (filled test countLimit) end ∙ fill_end test countLimit (start.args.last + 1)
+    c.before.loop.invariant.1 ∙ ap (filled test count_limit) end ∙ fill_end test count_limit (start.args.last + 1)
 
-pub mark-targets-spec : {M : Type 1} → statement M
-mark-targets-spec =
+pub mark_targets_spec : {M : Type 1} → statement M
+mark_targets_spec =
     tie.close
     (tie.spec
     invariant-loop
     decreases-loop
-    loop-holds
-    is-target-requires
-    element-write-marks
-    add-n
-    loop-less
-    loop-again
+    loop_holds
+    is_target_requires
+    element_write_marks
+    add_n
+    loop_less
+    loop_again
     returns)

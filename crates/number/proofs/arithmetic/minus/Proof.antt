@@ -7,11 +7,11 @@ use Rattle.algebra.proofs.Fits.{asked, given, fits_sub}
 use Rattle.number.proofs.arithmetic.minus.Statement.{statement}
 use Rattle.number.proofs.arithmetic.minus.Tie as tie
 
-sub-result : tie.Need-overflow-sub-result
-sub-result c = asked w64 ◌-ℤ◌ c.ranges.x c.ranges.y (fits_sub c.args.x c.args.y (omega arith))
+sub_result : tie.Need-overflow-sub-result
+sub_result c = asked w64 ◌-ℤ◌ c.ranges.x c.ranges.y (fits_sub c.args.x c.args.y (omega arith))
 
 returns : tie.Need-returns
 returns c = given w64 ◌-ℤ◌ c.ranges.x c.ranges.y (fits_sub c.args.x c.args.y (omega arith))
 
-pub minus-spec : {M : Type 1} → statement M
-minus-spec = tie.close (tie.spec sub-result returns)
+pub minus_spec : {M : Type 1} → statement M
+minus_spec = tie.close (tie.spec sub_result returns)

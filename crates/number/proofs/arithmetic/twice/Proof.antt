@@ -3,15 +3,15 @@
 use native.Mathlib.Omega.{arith}
 use lib.IntN.{pos, ◌*ℤ◌}
 use mir.Syntax.{w64}
-use Rattle.algebra.proofs.Fits.{asked, given, fits-abs, fits-double}
+use Rattle.algebra.proofs.Fits.{asked, given, fits_abs, fits_double}
 use Rattle.number.proofs.arithmetic.twice.Statement.{statement}
 use Rattle.number.proofs.arithmetic.twice.Tie as tie
 
-mul-result : tie.Need-overflow-mul-result
-mul-result c = asked w64 ◌*ℤ◌ (fits-abs (pos 2) (omega arith)) c.ranges.x (fits-double c.args.x (omega arith))
+mul_result : tie.Need-overflow-mul-result
+mul_result c = asked w64 ◌*ℤ◌ (fits_abs (pos 2) (omega arith)) c.ranges.x (fits_double c.args.x (omega arith))
 
 returns : tie.Need-returns
-returns c = given w64 ◌*ℤ◌ (fits-abs (pos 2) (omega arith)) c.ranges.x (fits-double c.args.x (omega arith))
+returns c = given w64 ◌*ℤ◌ (fits_abs (pos 2) (omega arith)) c.ranges.x (fits_double c.args.x (omega arith))
 
 pub twice_spec : {M : Type 1} → statement M
-twice_spec = tie.close (tie.spec mul-result returns)
+twice_spec = tie.close (tie.spec mul_result returns)

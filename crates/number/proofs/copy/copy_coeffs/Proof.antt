@@ -6,7 +6,7 @@ use native.Mathlib.Omega.{arith}
 use borrow.Author.Rules.{rules}
 use lib.IntN.{pos}
 use lib.ListN.{length, length-set}
-use Rattle.algebra.proofs.Filling.{copied, copy_step, copy-end}
+use Rattle.algebra.proofs.Filling.{copied, copy_step, copy_end}
 use Rattle.number.proofs.Signed.{back}
 use Rattle.number.proofs.copy.copy_coeffs.Statement.{statement}
 use Rattle.number.proofs.copy.copy_coeffs.Tie as tie
@@ -17,29 +17,29 @@ invariant-loop c out₀ i₀ out i = record { within : i ≤ length c; long : le
 abbrev decreases-loop : tie.decreases-loop
 decreases-loop c out₀ i₀ out i = length c - i
 
-loop-holds : tie.Need-loop-init invariant-loop decreases-loop
-loop-holds c = record { within = omega arith; long = refl; copies = refl }
+loop_holds : tie.Need-loop-init invariant-loop decreases-loop
+loop_holds c = record { within = omega arith; long = refl; copies = refl }
 
-mul-out : tie.Need-overflow-mul-out invariant-loop decreases-loop
-mul-out c = search rules
+mul_out : tie.Need-overflow-mul-out invariant-loop decreases-loop
+mul_out c = search rules
 
-shared-slice-copy-out-out : tie.Need-shared-slice-copy-out-out invariant-loop decreases-loop
-shared-slice-copy-out-out c = search rules
+shared_slice_copy_out_out : tie.Need-shared-slice-copy-out-out invariant-loop decreases-loop
+shared_slice_copy_out_out c = search rules
 
-mul-t8 : tie.Need-overflow-mul-t8 invariant-loop decreases-loop
-mul-t8 c = search rules
+mul_t8 : tie.Need-overflow-mul-t8 invariant-loop decreases-loop
+mul_t8 c = search rules
 
-slice-set-from-out : tie.Need-slice-set-from-out invariant-loop decreases-loop
-slice-set-from-out c = search rules
+slice_set_from_out : tie.Need-slice-set-from-out invariant-loop decreases-loop
+slice_set_from_out c = search rules
 
-add-i : tie.Need-overflow-add-i invariant-loop decreases-loop
-add-i c = search rules
+add_i : tie.Need-overflow-add-i invariant-loop decreases-loop
+add_i c = search rules
 
-loop-less : tie.Need-loop-smaller invariant-loop decreases-loop
-loop-less c = search rules
+loop_less : tie.Need-loop-smaller invariant-loop decreases-loop
+loop_less c = search rules
 
-loop-again : tie.Need-loop-preserved invariant-loop decreases-loop
-loop-again c =
+loop_again : tie.Need-loop-preserved invariant-loop decreases-loop
+loop_again c =
     let loop = c.before.before.loop in
     let start = c.before.before.before in
     let turn = copy_step start.args.c.now start.args.out.now loop.i (pos 0) _ (omega arith) start.requires (back c.out.given refl) in
@@ -52,21 +52,21 @@ returns : tie.Need-returns invariant-loop decreases-loop
 returns c =
     let loop = c.before.loop in
     let start = c.before.before in
-    loop.invariant.copies ∙ copy-end start.args.c.now start.args.out.now loop.i (omega arith) start.requires
+    loop.invariant.copies ∙ copy_end start.args.c.now start.args.out.now loop.i (omega arith) start.requires
 
-pub copy-coeffs-spec : {M : Type 1} → statement M
-copy-coeffs-spec =
+pub copy_coeffs_spec : {M : Type 1} → statement M
+copy_coeffs_spec =
     tie.close
     (tie.spec
     invariant-loop
     decreases-loop
-    loop-holds
-    mul-out
-    shared-slice-copy-out-out
-    mul-t8
-    slice-set-from-out
-    add-i
-    loop-less
-    loop-again
+    loop_holds
+    mul_out
+    shared_slice_copy_out_out
+    mul_t8
+    slice_set_from_out
+    add_i
+    loop_less
+    loop_again
     same_length
     returns)

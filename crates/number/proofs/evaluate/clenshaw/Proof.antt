@@ -5,16 +5,16 @@ use mathlib.Core.Path.{◌≡◌, sym, ap, ◌∙◌}
 use Prim.Native.Nat.{ℕ, ◌≤◌}
 use lib.ListN.{length, get_or, drop}
 use lib.Ieee.{nan}
-use Rattle.number.specs.Numbers.{floatOps}
-use Rattle.number.specs.Evaluate.{clenshawPair, lastTerm}
-use Rattle.number.proofs.Literals.{zero_is, one-is}
-use Rattle.number.proofs.EvaluateLoops.{pair-start, pair_step, clenshaw-none, clenshaw-one, clenshaw-more}
+use Rattle.number.specs.Numbers.{float_ops}
+use Rattle.number.specs.Evaluate.{clenshaw_pair, last_term}
+use Rattle.number.proofs.Literals.{zero_is, one_is}
+use Rattle.number.proofs.EvaluateLoops.{pair_start, pair_step, clenshaw_none, clenshaw_one, clenshaw_more}
 use Rattle.number.proofs.evaluate.clenshaw.Statement.{statement}
 use Rattle.number.proofs.evaluate.clenshaw.Tie as tie
 
 abbrev invariant-loop : tie.invariant-loop
 invariant-loop coeffs x n two b2₀ b1₀ i₀ b2 b1 i =
-    (1 ≤ i) × (i ≤ length coeffs) × (record { b1 = b1; b2 = b2 } ≡ clenshawPair floatOps x (drop i coeffs))
+    (1 ≤ i) × (i ≤ length coeffs) × (record { b1 = b1; b2 = b2 } ≡ clenshaw_pair float_ops x (drop i coeffs))
 
 abbrev decreases-loop : tie.decreases-loop
 decreases-loop coeffs x n two b2₀ b1₀ i₀ b2 b1 i = i
@@ -22,66 +22,66 @@ decreases-loop coeffs x n two b2₀ b1₀ i₀ b2 b1 i = i
 returns : tie.Need-returns invariant-loop decreases-loop
 returns c =
     let args = c.before.args in
-    zero_is ∙ sym (clenshaw-none floatOps args.x nan args.coeffs.now (search rules))
+    zero_is ∙ sym (clenshaw_none float_ops args.x nan args.coeffs.now (search rules))
 
-shared-slice-read-result : tie.Need-shared-slice-read-result invariant-loop decreases-loop
-shared-slice-read-result c = search rules
+shared_slice_read_result : tie.Need-shared-slice-read-result invariant-loop decreases-loop
+shared_slice_read_result c = search rules
 
 returns-2 : tie.Need-returns-2 invariant-loop decreases-loop
 returns-2 c =
     let args = c.before.before.before.args in
-    sym (clenshaw-one floatOps args.x nan args.coeffs.now (search rules))
+    sym (clenshaw_one float_ops args.x nan args.coeffs.now (search rules))
 
-loop-holds : tie.Need-loop-init invariant-loop decreases-loop
-loop-holds c =
+loop_holds : tie.Need-loop-init invariant-loop decreases-loop
+loop_holds c =
     let args = c.before.before.args in
-    (search rules, search rules, rw zero_is (sym (pair-start floatOps args.x args.coeffs.now)))
+    (search rules, search rules, rw zero_is (sym (pair_start float_ops args.x args.coeffs.now)))
 
-sub-i : tie.Need-overflow-sub-i invariant-loop decreases-loop
-sub-i c = search rules
+sub_i : tie.Need-overflow-sub-i invariant-loop decreases-loop
+sub_i c = search rules
 
 mul_next : tie.Need-overflow-mul-next invariant-loop decreases-loop
 mul_next c = search rules
 
-shared-slice-read-next : tie.Need-shared-slice-read-next invariant-loop decreases-loop
-shared-slice-read-next c = search rules
+shared_slice_read_next : tie.Need-shared-slice-read-next invariant-loop decreases-loop
+shared_slice_read_next c = search rules
 
-loop-less : tie.Need-loop-smaller invariant-loop decreases-loop
-loop-less c = search rules
+loop_less : tie.Need-loop-smaller invariant-loop decreases-loop
+loop_less c = search rules
 
-loop-again : tie.Need-loop-preserved invariant-loop decreases-loop
-loop-again c =
+loop_again : tie.Need-loop-preserved invariant-loop decreases-loop
+loop_again c =
     let turn = c.before.before in
     let args = turn.before.before.before.args in
     let coeffs = args.coeffs.now in
-    (search rules, search rules, rw one-is (pair_step floatOps args.x coeffs turn.loop.i nan (search rules) (search rules) turn.loop.invariant.2))
+    (search rules, search rules, rw one_is (pair_step float_ops args.x coeffs turn.loop.i nan (search rules) (search rules) turn.loop.invariant.2))
 
-shared-slice-read-result-2 : tie.Need-shared-slice-read-result-2 invariant-loop decreases-loop
-shared-slice-read-result-2 c = search rules
+shared_slice_read_result_2 : tie.Need-shared-slice-read-result-2 invariant-loop decreases-loop
+shared_slice_read_result_2 c = search rules
 
-returns-3 : tie.Need-returns-3 invariant-loop decreases-loop
-returns-3 c =
+returns_3 : tie.Need-returns-3 invariant-loop decreases-loop
+returns_3 c =
     let turn = c.before.before in
     let args = turn.before.before.before.args in
     let coeffs = args.coeffs.now in
     let end : turn.loop.i ≡ 1 = search rules in
-    let pair = turn.loop.invariant.2 ∙ ap (λ (i : ℕ). clenshawPair floatOps args.x (drop i coeffs)) end in
-    ap (lastTerm floatOps args.x (get_or coeffs 0 nan)) pair ∙ sym (clenshaw-more floatOps args.x nan coeffs (search rules))
+    let pair = turn.loop.invariant.2 ∙ ap (λ (i : ℕ). clenshaw_pair float_ops args.x (drop i coeffs)) end in
+    ap (last_term float_ops args.x (get_or coeffs 0 nan)) pair ∙ sym (clenshaw_more float_ops args.x nan coeffs (search rules))
 
-pub clenshaw-spec : {M : Type 1} → statement M
-clenshaw-spec =
+pub clenshaw_spec : {M : Type 1} → statement M
+clenshaw_spec =
     tie.close
     (tie.spec
     invariant-loop
     decreases-loop
     returns
-    shared-slice-read-result
+    shared_slice_read_result
     returns-2
-    loop-holds
-    sub-i
+    loop_holds
+    sub_i
     mul_next
-    shared-slice-read-next
-    loop-less
-    loop-again
-    shared-slice-read-result-2
-    returns-3)
+    shared_slice_read_next
+    loop_less
+    loop_again
+    shared_slice_read_result_2
+    returns_3)

@@ -5,64 +5,64 @@ use native.Mathlib.Omega.{arith}
 use borrow.Author.Rules.{rules}
 use lib.ListN.{length-set}
 use lib.IntN.{pos}
-use Rattle.algebra.specs.Operations.{wholeOps}
-use Rattle.number.proofs.Pair.{one-stored, less-made, double-made}
+use Rattle.algebra.specs.Operations.{whole_ops}
+use Rattle.number.proofs.Pair.{one_stored, less_made, double_made}
 use Rattle.number.proofs.factor.cut_one.Statement.{statement}
 use Rattle.number.proofs.factor.cut_one.Tie as tie
 
-mul-x : tie.Need-overflow-mul-x
-mul-x c = search rules
+mul_x : tie.Need-overflow-mul-x
+mul_x c = search rules
 
-slice-copy-out-x : tie.Need-slice-copy-out-x
-slice-copy-out-x c = search rules
+slice_copy_out_x : tie.Need-slice-copy-out-x
+slice_copy_out_x c = search rules
 
-mul-y : tie.Need-overflow-mul-y
-mul-y c = search rules
+mul_y : tie.Need-overflow-mul-y
+mul_y c = search rules
 
-slice-copy-out-y : tie.Need-slice-copy-out-y
-slice-copy-out-y c = search rules
+slice_copy_out_y : tie.Need-slice-copy-out-y
+slice_copy_out_y c = search rules
 
-minus-requires : tie.Need-minus-requires
-minus-requires c κs = search rules
+minus_requires : tie.Need-minus-requires
+minus_requires c κs = search rules
 
-mul-c : tie.Need-overflow-mul-c
-mul-c c = search rules
+mul_c : tie.Need-overflow-mul-c
+mul_c c = search rules
 
-slice-set-from-c : tie.Need-slice-set-from-c
-slice-set-from-c c = search rules
+slice_set_from_c : tie.Need-slice-set-from-c
+slice_set_from_c c = search rules
 
-twice-requires : tie.Need-twice-requires
-twice-requires c κs = search rules
+twice_requires : tie.Need-twice-requires
+twice_requires c κs = search rules
 
-mul-t6 : tie.Need-overflow-mul-t6
-mul-t6 c = search rules
+mul_t6 : tie.Need-overflow-mul-t6
+mul_t6 c = search rules
 
-slice-set-from-c-2 : tie.Need-slice-set-from-c-2
-slice-set-from-c-2 c = simp length-set (omega arith)
+slice_set_from_c_2 : tie.Need-slice-set-from-c-2
+slice_set_from_c_2 c = simp length-set (omega arith)
 
 same_length : tie.Need-same-length
 same_length c = search rules
 
 returns : tie.Need-returns
 returns c =
-    let minus-call = c.before.minus in
+    let minus_call = c.before.minus in
     let start = c.before.before.before.before in
     let small = start.requires.1.1 in
-    one-stored wholeOps (pos 0) _ _ _ _ _ (less-made small minus-call.type-inv minus-call.ensures) (double-made small refl c.twice.type-inv c.twice.ensures)
+    one_stored whole_ops (pos 0) _ _ _ _ _ (less_made small minus_call.type_inv minus_call.ensures) (double_made small refl c.twice.type_inv c.twice.ensures)
 
-pub cut-one-spec : {M : Type 1} → statement M
-cut-one-spec =
+pub cut_one_spec : {M : Type 1} → statement M
+cut_one_spec =
     tie.close
     (tie.spec
-    mul-x
-    slice-copy-out-x
-    mul-y
-    slice-copy-out-y
-    minus-requires
-    mul-c
-    slice-set-from-c
-    twice-requires
-    mul-t6
-    slice-set-from-c-2
+    mul_x
+    slice_copy_out_x
+    mul_y
+    slice_copy_out_y
+    minus_requires
+    mul_c
+    slice_set_from_c
+    twice_requires
+    mul_t6
+    slice_set_from_c_2
     same_length
     returns)

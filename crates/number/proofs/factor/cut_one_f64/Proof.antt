@@ -4,35 +4,35 @@ use native.Mathlib.Omega.{arith}
 use borrow.Author.Rules.{rules}
 use lib.ListN.{length-set}
 use lib.Ieee.{nan}
-use Rattle.number.specs.Numbers.{floatOps}
-use Rattle.number.proofs.Pair.{one-stored}
-use Rattle.number.proofs.Literals.{one-is}
+use Rattle.number.specs.Numbers.{float_ops}
+use Rattle.number.proofs.Pair.{one_stored}
+use Rattle.number.proofs.Literals.{one_is}
 use Rattle.number.proofs.factor.cut_one_f64.Statement.{statement}
 use Rattle.number.proofs.factor.cut_one_f64.Tie as tie
 
-mul-x : tie.Need-overflow-mul-x
-mul-x c = search rules
+mul_x : tie.Need-overflow-mul-x
+mul_x c = search rules
 
-slice-read-x : tie.Need-slice-read-x
-slice-read-x c = search rules
+slice_read_x : tie.Need-slice-read-x
+slice_read_x c = search rules
 
-mul-y : tie.Need-overflow-mul-y
-mul-y c = search rules
+mul_y : tie.Need-overflow-mul-y
+mul_y c = search rules
 
-slice-read-y : tie.Need-slice-read-y
-slice-read-y c = search rules
+slice_read_y : tie.Need-slice-read-y
+slice_read_y c = search rules
 
-mul-c : tie.Need-overflow-mul-c
-mul-c c = search rules
+mul_c : tie.Need-overflow-mul-c
+mul_c c = search rules
 
-slice-write-c : tie.Need-slice-write-c
-slice-write-c c = search rules
+slice_write_c : tie.Need-slice-write-c
+slice_write_c c = search rules
 
-mul-c-2 : tie.Need-overflow-mul-c-2
-mul-c-2 c = search rules
+mul_c_2 : tie.Need-overflow-mul-c-2
+mul_c_2 c = search rules
 
-slice-write-c-2 : tie.Need-slice-write-c-2
-slice-write-c-2 c = simp length-set (omega arith)
+slice_write_c_2 : tie.Need-slice-write-c-2
+slice_write_c_2 c = simp length-set (omega arith)
 
 same_length : tie.Need-same-length
 same_length c = simp length-set refl
@@ -40,19 +40,19 @@ same_length c = simp length-set refl
 returns : tie.Need-returns
 returns c =
     let args = c.before.before.args in
-    rw one-is (one-stored floatOps nan args.c.now args.low args.high _ _ refl refl)
+    rw one_is (one_stored float_ops nan args.c.now args.low args.high _ _ refl refl)
 
-pub cut-one-f64-spec : {M : Type 1} → statement M
-cut-one-f64-spec =
+pub cut_one_f64_spec : {M : Type 1} → statement M
+cut_one_f64_spec =
     tie.close
     (tie.spec
-    mul-x
-    slice-read-x
-    mul-y
-    slice-read-y
-    mul-c
-    slice-write-c
-    mul-c-2
-    slice-write-c-2
+    mul_x
+    slice_read_x
+    mul_y
+    slice_read_y
+    mul_c
+    slice_write_c
+    mul_c_2
+    slice_write_c_2
     same_length
     returns)

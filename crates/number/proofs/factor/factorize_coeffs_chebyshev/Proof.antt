@@ -7,39 +7,39 @@ use native.Mathlib.Omega.{arith}
 use borrow.Author.Rules.{rules}
 use lib.ListN.{length}
 use lib.IntN.{pos}
-use Rattle.algebra.specs.Operations.{wholeOps}
-use Rattle.number.proofs.Cutting.{cut_to, cut-none, cut_all, turn_one, turn_two, pair_small}
+use Rattle.algebra.specs.Operations.{whole_ops}
+use Rattle.number.proofs.Cutting.{cut_to, cut_none, cut_all, turn_one, turn_two, pair_small}
 use Rattle.number.proofs.factor.factorize_coeffs_chebyshev.Statement.{statement}
 use Rattle.number.proofs.factor.factorize_coeffs_chebyshev.Tie as tie
 
 abbrev invariant-loop : tie.invariant-loop
-invariant-loop c₀ p j₀ c j = record { started : 0 < j; within : j + p ≤ length c₀; long : length c ≡ length c₀; before : c ≡ cut_to wholeOps p c₀ (pos 0) (j - 1) }
+invariant-loop c₀ p j₀ c j = record { started : 0 < j; within : j + p ≤ length c₀; long : length c ≡ length c₀; before : c ≡ cut_to whole_ops p c₀ (pos 0) (j - 1) }
 
 abbrev decreases-loop : tie.decreases-loop
 decreases-loop c₀ p j₀ c j = length c₀ - j
 
-loop-holds : tie.Need-loop-init invariant-loop decreases-loop
-loop-holds c = record {
+loop_holds : tie.Need-loop-init invariant-loop decreases-loop
+loop_holds c = record {
   started = search rules;
   within = search rules;
   long = search rules;
-  before = sym (cut-none wholeOps c.args.p c.args.c.now (pos 0) c.requires.0);
+  before = sym (cut_none whole_ops c.args.p c.args.c.now (pos 0) c.requires.0);
 }
 
-add-loop : tie.Need-overflow-add-loop invariant-loop decreases-loop
-add-loop c = search rules
+add_loop : tie.Need-overflow-add-loop invariant-loop decreases-loop
+add_loop c = search rules
 
-sub-loop : tie.Need-overflow-sub-loop invariant-loop decreases-loop
-sub-loop c = search rules
+sub_loop : tie.Need-overflow-sub-loop invariant-loop decreases-loop
+sub_loop c = search rules
 
-sub-cut-two : tie.Need-overflow-sub-cut-two invariant-loop decreases-loop
-sub-cut-two c = search rules
+sub_cut_two : tie.Need-overflow-sub-cut-two invariant-loop decreases-loop
+sub_cut_two c = search rules
 
-add-cut-two : tie.Need-overflow-add-cut-two invariant-loop decreases-loop
-add-cut-two c = search rules
+add_cut_two : tie.Need-overflow-add-cut-two invariant-loop decreases-loop
+add_cut_two c = search rules
 
-cut-two-requires : tie.Need-cut-two-requires invariant-loop decreases-loop
-cut-two-requires c κs =
+cut_two_requires : tie.Need-cut-two-requires invariant-loop decreases-loop
+cut_two_requires c κs =
     let turn = c.before.before in
     let start = turn.before in
     let inv = turn.loop.invariant in
@@ -50,15 +50,15 @@ cut-two-requires c κs =
     let second = small (j + 1) (p - j - 1) (p + j + 1) (omega arith) (omega arith) (omega arith) (omega arith) in
     (omega arith, (omega arith, (omega arith, (first, second))))
 
-add-j : tie.Need-overflow-add-j invariant-loop decreases-loop
-add-j c = search rules
+add_j : tie.Need-overflow-add-j invariant-loop decreases-loop
+add_j c = search rules
 
-loop-less : tie.Need-loop-smaller invariant-loop decreases-loop
-loop-less c = search rules
+loop_less : tie.Need-loop-smaller invariant-loop decreases-loop
+loop_less c = search rules
 
-loop-again : tie.Need-loop-preserved invariant-loop decreases-loop
-loop-again c =
-    let call = c.before.cut-two in
+loop_again : tie.Need-loop-preserved invariant-loop decreases-loop
+loop_again c =
+    let call = c.before.cut_two in
     let turn = c.before.before.before.before in
     let start = turn.before in
     let inv = turn.loop.invariant in
@@ -66,20 +66,20 @@ loop-again c =
       started = omega arith;
       within = omega arith;
       long = call.auto.0 ∙ inv.long;
-      before = call.ensures ∙ turn_two wholeOps (pos 0) _ _ _ _ start.requires.0 start.requires.1.0 inv.started inv.before (omega arith);
+      before = call.ensures ∙ turn_two whole_ops (pos 0) _ _ _ _ start.requires.0 start.requires.1.0 inv.started inv.before (omega arith);
     }
 
-sub-if1 : tie.Need-overflow-sub-if1 invariant-loop decreases-loop
-sub-if1 c = search rules
+sub_if1 : tie.Need-overflow-sub-if1 invariant-loop decreases-loop
+sub_if1 c = search rules
 
-sub-cut-one : tie.Need-overflow-sub-cut-one invariant-loop decreases-loop
-sub-cut-one c = search rules
+sub_cut_one : tie.Need-overflow-sub-cut-one invariant-loop decreases-loop
+sub_cut_one c = search rules
 
-add-cut-one : tie.Need-overflow-add-cut-one invariant-loop decreases-loop
-add-cut-one c = search rules
+add_cut_one : tie.Need-overflow-add-cut-one invariant-loop decreases-loop
+add_cut_one c = search rules
 
-cut-one-requires : tie.Need-cut-one-requires invariant-loop decreases-loop
-cut-one-requires c κs =
+cut_one_requires : tie.Need-cut-one-requires invariant-loop decreases-loop
+cut_one_requires c κs =
     let end = c.before.before.before in
     let start = end.before in
     let inv = end.loop.invariant in
@@ -91,43 +91,43 @@ same_length c = search rules
 
 returns : tie.Need-returns invariant-loop decreases-loop
 returns c =
-    let call = c.before.cut-one in
+    let call = c.before.cut_one in
     let end = c.before.before.before.before.before in
     let start = end.before in
     let inv = end.loop.invariant in
     call.ensures
-    ∙ turn_one wholeOps (pos 0) _ _ _ _ start.requires.0 start.requires.1.0 inv.started inv.before (omega arith)
-    ∙ cut_all wholeOps start.args.p start.args.c.now (pos 0) start.requires.0 end.loop.j (omega arith)
+    ∙ turn_one whole_ops (pos 0) _ _ _ _ start.requires.0 start.requires.1.0 inv.started inv.before (omega arith)
+    ∙ cut_all whole_ops start.args.p start.args.c.now (pos 0) start.requires.0 end.loop.j (omega arith)
 
-same-length-2 : tie.Need-same-length-2 invariant-loop decreases-loop
-same-length-2 c = search rules
+same_length_2 : tie.Need-same-length-2 invariant-loop decreases-loop
+same_length_2 c = search rules
 
 returns-2 : tie.Need-returns-2 invariant-loop decreases-loop
 returns-2 c =
     let end = c.before.before in
     let start = end.before in
-    end.loop.invariant.before ∙ cut_all wholeOps start.args.p start.args.c.now (pos 0) start.requires.0 (end.loop.j - 1) (omega arith)
+    end.loop.invariant.before ∙ cut_all whole_ops start.args.p start.args.c.now (pos 0) start.requires.0 (end.loop.j - 1) (omega arith)
 
-pub factorize-coeffs-chebyshev-spec : {M : Type 1} → statement M
-factorize-coeffs-chebyshev-spec =
+pub factorize_coeffs_chebyshev_spec : {M : Type 1} → statement M
+factorize_coeffs_chebyshev_spec =
     tie.close
     (tie.spec
     invariant-loop
     decreases-loop
-    loop-holds
-    add-loop
-    sub-loop
-    sub-cut-two
-    add-cut-two
-    cut-two-requires
-    add-j
-    loop-less
-    loop-again
-    sub-if1
-    sub-cut-one
-    add-cut-one
-    cut-one-requires
+    loop_holds
+    add_loop
+    sub_loop
+    sub_cut_two
+    add_cut_two
+    cut_two_requires
+    add_j
+    loop_less
+    loop_again
+    sub_if1
+    sub_cut_one
+    add_cut_one
+    cut_one_requires
     same_length
     returns
-    same-length-2
+    same_length_2
     returns-2)

@@ -4,80 +4,80 @@ use mathlib.Core.Path.{ap, sym, ◌∙◌}
 use mathlib.Core.Bool.{true≢false}
 use borrow.Author.Rules.{rules}
 use Rattle.algebra.specs.Fold.{fold}
-use Rattle.number.specs.Tests.{isFull}
-use Rattle.number.proofs.FoldCall.{even-room, odd-room}
+use Rattle.number.specs.Tests.{is_full}
+use Rattle.number.proofs.FoldCall.{even_room, odd_room}
 use Rattle.number.proofs.fold_f64.fold_into_f64.Statement.{statement}
 use Rattle.number.proofs.fold_f64.fold_into_f64.Tie as tie
 
 enum_told : tie.Need-enum-told
 enum_told c = search rules
 
-enum-told-2 : tie.Need-enum-told-2
-enum-told-2 c = search rules
+enum_told_2 : tie.Need-enum-told-2
+enum_told_2 c = search rules
 
-copy-second-f64-requires : tie.Need-copy-second-f64-requires
-copy-second-f64-requires c κs = let e = c.before in even-room (rw e.enum-told2.given.1 at e.before.before.before.before.requires)
+copy_second_f64_requires : tie.Need-copy-second-f64-requires
+copy_second_f64_requires c κs = let e = c.before in even_room (rw e.enum_told2.given.1 at e.before.before.before.before.requires)
 
-enum-told-3 : tie.Need-enum-told-3
-enum-told-3 c = search rules
+enum_told_3 : tie.Need-enum-told-3
+enum_told_3 c = search rules
 
-enum-told-4 : tie.Need-enum-told-4
-enum-told-4 c = search rules
+enum_told_4 : tie.Need-enum-told-4
+enum_told_4 c = search rules
 
-copy-second-f64-requires-2 : tie.Need-copy-second-f64-requires-2
-copy-second-f64-requires-2 c κs = let o = c.before.before.before in odd-room (rw o.enum-told3.given.1 at o.before.before.before.before.requires)
+copy_second_f64_requires_2 : tie.Need-copy-second-f64-requires-2
+copy_second_f64_requires_2 c κs = let o = c.before.before.before in odd_room (rw o.enum_told3.given.1 at o.before.before.before.before.requires)
 
-enum-told-5 : tie.Need-enum-told-5
-enum-told-5 c = search rules
+enum_told_5 : tie.Need-enum-told-5
+enum_told_5 c = search rules
 
-fold-odd-f64-requires : tie.Need-fold-odd-f64-requires
-fold-odd-f64-requires c κs = let o = c.before.before.before in rw o.enum-told3.given.1 at o.before.before.before.before.requires
+fold_odd_f64_requires : tie.Need-fold-odd-f64-requires
+fold_odd_f64_requires c κs = let o = c.before.before.before in rw o.enum_told3.given.1 at o.before.before.before.before.requires
 
 returns : tie.Need-returns
-returns c = absurd (true≢false (ap isFull (sym c.enum_told.given.1) ∙ c.before.before.before.before.requires.not_full))
+returns c = absurd (true≢false (ap is_full (sym c.enum_told.given.1) ∙ c.before.before.before.before.requires.not_full))
 
 same_length : tie.Need-same-length
 same_length c = search rules
 
 returns-2 : tie.Need-returns-2
 unfolding fold
-returns-2 c = let p = c.before.before in rw p.before.before.enum-told2.given.1 p.copy-second-f64.ensures
+returns-2 c = let p = c.before.before in rw p.before.before.enum_told2.given.1 p.copy_second_f64.ensures
 
-same-length-2 : tie.Need-same-length-2
-same-length-2 c = search rules
+same_length_2 : tie.Need-same-length-2
+same_length_2 c = search rules
 
-returns-3 : tie.Need-returns-3
+returns_3 : tie.Need-returns-3
 unfolding fold
-returns-3 c =
+returns_3 c =
     let p = c.before.before in
     let e = p.before.before in
-    rw (e.before.before.enum-told3.given.1, e.enum-told4.given.1) p.copy-second-f642.ensures
+    rw (e.before.before.enum_told3.given.1, e.enum_told4.given.1) p.copy_second_f642.ensures
 
-same-length-3 : tie.Need-same-length-3
-same-length-3 c = search rules
+same_length_3 : tie.Need-same-length-3
+same_length_3 c = search rules
 
-returns-4 : tie.Need-returns-4
-returns-4 c =
+returns_4 : tie.Need-returns-4
+returns_4 c =
     let p = c.before.before in
     let e = p.before.before in
-    rw (e.before.before.enum-told3.given.1, e.enum-told5.given.1) p.fold-odd-f64.ensures
+    rw (e.before.before.enum_told3.given.1, e.enum_told5.given.1) p.fold_odd_f64.ensures
 
-pub fold-into-f64-spec : {M : Type 1} → statement M
-fold-into-f64-spec =
+pub fold_into_f64_spec : {M : Type 1} → statement M
+fold_into_f64_spec =
     tie.close
     (tie.spec
     enum_told
-    enum-told-2
-    copy-second-f64-requires
-    enum-told-3
-    enum-told-4
-    copy-second-f64-requires-2
-    enum-told-5
-    fold-odd-f64-requires
+    enum_told_2
+    copy_second_f64_requires
+    enum_told_3
+    enum_told_4
+    copy_second_f64_requires_2
+    enum_told_5
+    fold_odd_f64_requires
     returns
     same_length
     returns-2
-    same-length-2
-    returns-3
-    same-length-3
-    returns-4)
+    same_length_2
+    returns_3
+    same_length_3
+    returns_4)

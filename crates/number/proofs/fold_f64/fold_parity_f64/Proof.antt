@@ -8,9 +8,9 @@ use borrow.Author.Rules.{rules}
 use lib.Seq.{sets}
 use lib.Ieee.{Float}
 use Rattle.algebra.specs.Fold.{fold}
-use Rattle.number.specs.Numbers.{floatNumbers}
+use Rattle.number.specs.Numbers.{float_numbers}
 use Rattle.number.specs.FoldCall.{FoldCall}
-use Rattle.number.specs.inside.Folding.{Foldable, answerBy}
+use Rattle.number.specs.inside.Folding.{Foldable, answer_by}
 use Rattle.number.specs.declared.fold.Folded.{Folded}
 use Rattle.number.proofs.FoldCall as call
 use Rattle.number.proofs.fold_f64.fold_parity_f64.Statement.{statement}
@@ -18,56 +18,56 @@ use Rattle.number.proofs.fold_f64.fold_parity_f64.Tie as tie
 
 -- where the tests have been made
 module _ (k : tie.After-fold-refusal) where
-  abbrev parity-told : tie.After-has-parity-f64
-  parity-told = k.before
+  abbrev parity_told : tie.After-has-parity-f64
+  parity_told = k.before
 
   abbrev counted : tie.After-fold-count
-  counted = parity-told.before
+  counted = parity_told.before
 
   abbrev start : tie.Start
   start = counted.before.before.before
 
-  foldable : k.fold-refusal.result ≡ 0 → Foldable start.args.parity start.args.c.now start.args.out.now
-  foldable = call.foldable floatNumbers start.args.parity start.args.basis start.args.c.now start.args.out.now
-      counted.fold-count.ensures parity-told.has-parity-f64.ensures refl k.fold-refusal.ensures
+  foldable : k.fold_refusal.result ≡ 0 → Foldable start.args.parity start.args.c.now start.args.out.now
+  foldable = call.foldable float_numbers start.args.parity start.args.basis start.args.c.now start.args.out.now
+      counted.fold_count.ensures parity_told.has_parity_f64.ensures refl k.fold_refusal.ensures
 
-  fold-refused : {r : Folded} → 0 < k.fold-refusal.result
-      → r ≡ answerBy k.fold-refusal.result start.args.parity start.args.basis counted.fold-count.result
-      → FoldCall floatNumbers start.args.parity start.args.basis start.args.c.now start.args.out.now r start.args.out.now
-  fold-refused = call.fold-refused floatNumbers start.args.parity start.args.basis start.args.c.now start.args.out.now
-      counted.fold-count.ensures parity-told.has-parity-f64.ensures refl k.fold-refusal.ensures
+  fold_refused : {r : Folded} → 0 < k.fold_refusal.result
+      → r ≡ answer_by k.fold_refusal.result start.args.parity start.args.basis counted.fold_count.result
+      → FoldCall float_numbers start.args.parity start.args.basis start.args.c.now start.args.out.now r start.args.out.now
+  fold_refused = call.fold_refused float_numbers start.args.parity start.args.basis start.args.c.now start.args.out.now
+      counted.fold_count.ensures parity_told.has_parity_f64.ensures refl k.fold_refusal.ensures
 
-  fold_done : {r : Folded} {left : List Float} → k.fold-refusal.result ≡ 0
-      → r ≡ answerBy 0 start.args.parity start.args.basis counted.fold-count.result
-      → left ≡ sets start.args.out.now 0 (fold floatNumbers.ops start.args.parity start.args.basis start.args.c.now)
-      → FoldCall floatNumbers start.args.parity start.args.basis start.args.c.now start.args.out.now r left
-  fold_done = call.fold_done floatNumbers start.args.parity start.args.basis start.args.c.now start.args.out.now
-      counted.fold-count.ensures parity-told.has-parity-f64.ensures refl k.fold-refusal.ensures
+  fold_done : {r : Folded} {left : List Float} → k.fold_refusal.result ≡ 0
+      → r ≡ answer_by 0 start.args.parity start.args.basis counted.fold_count.result
+      → left ≡ sets start.args.out.now 0 (fold float_numbers.ops start.args.parity start.args.basis start.args.c.now)
+      → FoldCall float_numbers start.args.parity start.args.basis start.args.c.now start.args.out.now r left
+  fold_done = call.fold_done float_numbers start.args.parity start.args.basis start.args.c.now start.args.out.now
+      counted.fold_count.ensures parity_told.has_parity_f64.ensures refl k.fold_refusal.ensures
 
 -- no refusal
-none : (c : tie.Else1) → c.before.fold-refusal.result ≡ 0
+none : (c : tie.Else1) → c.before.fold_refusal.result ≡ 0
 none c = omega arith
 
-fold-count-requires : tie.Need-fold-count-requires
-fold-count-requires c κs = search rules
+fold_count_requires : tie.Need-fold-count-requires
+fold_count_requires c κs = search rules
 
-has-parity-f64-requires : tie.Need-has-parity-f64-requires
-has-parity-f64-requires c κs = search rules
+has_parity_f64_requires : tie.Need-has-parity-f64-requires
+has_parity_f64_requires c κs = search rules
 
-fold-refusal-requires : tie.Need-fold-refusal-requires
-fold-refusal-requires c κs = search rules
+fold_refusal_requires : tie.Need-fold-refusal-requires
+fold_refusal_requires c κs = search rules
 
-fold-answer-requires : tie.Need-fold-answer-requires
-fold-answer-requires c κs = search rules
+fold_answer_requires : tie.Need-fold-answer-requires
+fold_answer_requires c κs = search rules
 
 returns : tie.Need-returns
-returns c = let test = c.before in fold-refused test.before test.if1.true c.fold-answer.ensures
+returns c = let test = c.before in fold_refused test.before test.if1.true c.fold_answer.ensures
 
-fold-into-f64-requires : tie.Need-fold-into-f64-requires
-fold-into-f64-requires c κs = foldable c.before.before (none c.before)
+fold_into_f64_requires : tie.Need-fold-into-f64-requires
+fold_into_f64_requires c κs = foldable c.before.before (none c.before)
 
-fold-answer-requires-2 : tie.Need-fold-answer-requires-2
-fold-answer-requires-2 c κs = search rules
+fold_answer_requires_2 : tie.Need-fold-answer-requires-2
+fold_answer_requires_2 c κs = search rules
 
 same_length : tie.Need-same-length
 same_length c = search rules
@@ -76,18 +76,18 @@ returns-2 : tie.Need-returns-2
 returns-2 c =
     let written = c.before.before.before in
     let test = written.before.before in
-    fold_done test.before (none test) c.fold-answer2.ensures written.fold-into-f64.ensures
+    fold_done test.before (none test) c.fold_answer2.ensures written.fold_into_f64.ensures
 
-pub fold-parity-f64-spec : {M : Type 1} → statement M
-fold-parity-f64-spec =
+pub fold_parity_f64_spec : {M : Type 1} → statement M
+fold_parity_f64_spec =
     tie.close
     (tie.spec
-    fold-count-requires
-    has-parity-f64-requires
-    fold-refusal-requires
-    fold-answer-requires
+    fold_count_requires
+    has_parity_f64_requires
+    fold_refusal_requires
+    fold_answer_requires
     returns
-    fold-into-f64-requires
-    fold-answer-requires-2
+    fold_into_f64_requires
+    fold_answer_requires_2
     same_length
     returns-2)

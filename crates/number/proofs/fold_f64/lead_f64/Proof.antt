@@ -2,17 +2,17 @@
 -- the same numbers, being exact on small whole numbers.
 use mathlib.Core.Path.{ap, sym, ◌∙◌}
 use Rattle.number.specs.Exact.{num}
-use Rattle.number.proofs.Literals.{one-is, two_is}
+use Rattle.number.proofs.Literals.{one_is, two_is}
 use Rattle.number.proofs.Exact.{exact}
-use Rattle.number.proofs.Rows.{coeff-num, lead-first, lead-later}
+use Rattle.number.proofs.Rows.{coeff_num, lead_first, lead_later}
 use Rattle.number.proofs.fold_f64.lead_f64.Statement.{statement}
 use Rattle.number.proofs.fold_f64.lead_f64.Tie as tie
 
 returns : tie.Need-returns
-returns c = let i = c.before.args.i in one-is ∙ exact.one-is ∙ sym (coeff-num i i ∙ ap num (lead-first i c.if1.true))
+returns c = let i = c.before.args.i in one_is ∙ exact.one_is ∙ sym (coeff_num i i ∙ ap num (lead_first i c.if1.true))
 
 returns-2 : tie.Need-returns-2
-returns-2 c = let i = c.before.args.i in two_is ∙ sym (coeff-num i i ∙ ap num (lead-later i c.if1.false))
+returns-2 c = let i = c.before.args.i in two_is ∙ sym (coeff_num i i ∙ ap num (lead_later i c.if1.false))
 
-pub lead-f64-spec : {M : Type 1} → statement M
-lead-f64-spec = tie.close (tie.spec returns returns-2)
+pub lead_f64_spec : {M : Type 1} → statement M
+lead_f64_spec = tie.close (tie.spec returns returns-2)

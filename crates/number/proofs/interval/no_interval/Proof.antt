@@ -6,5 +6,5 @@ use Rattle.number.proofs.interval.no_interval.Tie as tie
 returns : tie.Need-returns
 returns c = rw zero_is
 
-pub no-interval-spec : {M : Type 1} → statement M
-no-interval-spec = tie.close (tie.spec returns)
+pub no_interval_spec : {M : Type 1} → statement M
+no_interval_spec = tie.close (tie.spec returns)

@@ -10,7 +10,7 @@ use mir.Syntax.{w64}
 use mir.Val.{to_z, of_z}
 use mir.Facts.{to_z-of_z}
 use Rattle.number.proofs.Signed.{nonnegative}
-use Rattle.number.proofs.SignLaws.{under, next_fits, taken-fits, size_less, under-small, size_is}
+use Rattle.number.proofs.SignLaws.{under, next_fits, taken_fits, size_less, under_small, size_is}
 use Rattle.number.proofs.magnitude.magnitude_of.Statement.{statement}
 use Rattle.number.proofs.magnitude.magnitude_of.Tie as tie
 use Rattle.number.proofs.magnitude.magnitude_of.Reads as reads
@@ -26,22 +26,22 @@ opposite : (k : lts.Then1 reads.Pre reads.Post) → let x = k.before.args.x in
 opposite k = size_less k.before.args.x k.before.ranges.x (below k)
 
 small : (k : lts.Then1 reads.Pre reads.Post) → under k.before.args.x < 2 ^ 63
-small k = under-small k.before.args.x k.before.ranges.x (below k)
+small k = under_small k.before.args.x k.before.ranges.x (below k)
 
-add-result : tie.Need-overflow-add-result
-add-result c = next_fits c.before.args.x c.before.ranges.x (below c)
+add_result : tie.Need-overflow-add-result
+add_result c = next_fits c.before.args.x c.before.ranges.x (below c)
 
-sub-result : tie.Need-overflow-sub-result
-sub-result c = taken-fits c.before.args.x c.before.ranges.x (below c)
+sub_result : tie.Need-overflow-sub-result
+sub_result c = taken_fits c.before.args.x c.before.ranges.x (below c)
 
-cast-result : tie.Need-overflow-cast-result
-cast-result c = rw (opposite c) (tt, record { fits = omega (arith, small c) })
+cast_result : tie.Need-overflow-cast-result
+cast_result c = rw (opposite c) (tt, record { fits = omega (arith, small c) })
 
-add-result-2 : tie.Need-overflow-add-result-2
-add-result-2 c = rw (opposite c) (record { fits = omega (arith, small c) })
+add_result_2 : tie.Need-overflow-add-result-2
+add_result_2 c = rw (opposite c) (record { fits = omega (arith, small c) })
 
-cast-result-2 : tie.Need-overflow-cast-result-2
-cast-result-2 c =
+cast_result_2 : tie.Need-overflow-cast-result-2
+cast_result_2 c =
     let x = c.before.args.x in
     let read : to_z w64 (of_z w64 x) ≡ x = to_z-of_z c.before.ranges.x in
     rw read (nonnegative read c.if1.false, record { fits = omega (arith, nat_abs-le x c.before.ranges.x.sfits) })
@@ -52,7 +52,7 @@ returns c = rw (opposite c) (size_is c.before.args.x (below c))
 returns-2 : tie.Need-returns-2
 returns-2 c = ap nat_abs (to_z-of_z c.before.ranges.x)
 
-pub magnitude-of-spec : {M : Type 1} → statement M
-magnitude-of-spec =
+pub magnitude_of_spec : {M : Type 1} → statement M
+magnitude_of_spec =
     tie.close
-    (tie.spec add-result sub-result cast-result add-result-2 cast-result-2 returns returns-2)
+    (tie.spec add_result sub_result cast_result add_result_2 cast_result_2 returns returns-2)

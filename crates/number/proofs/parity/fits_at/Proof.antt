@@ -5,17 +5,17 @@ use Rattle.number.proofs.Signed.{zero_bits}
 use Rattle.number.proofs.parity.fits_at.Statement.{statement}
 use Rattle.number.proofs.parity.fits_at.Tie as tie
 
-is-allowed-requires : tie.Need-is-allowed-requires
-is-allowed-requires c κs = search rules
+is_allowed_requires : tie.Need-is-allowed-requires
+is_allowed_requires c κs = search rules
 
 returns : tie.Need-returns
-returns c = let allowed = sym c.before.is-allowed.ensures ∙ c.if1.true in rw allowed
+returns c = let allowed = sym c.before.is_allowed.ensures ∙ c.if1.true in rw allowed
 
 returns-2 : tie.Need-returns-2
 returns-2 c =
     let start = c.before.before in
-    let not-allowed = sym c.before.is-allowed.ensures ∙ c.if1.false in
-    rw not-allowed (zero_bits start.args.x start.ranges.x)
+    let not_allowed = sym c.before.is_allowed.ensures ∙ c.if1.false in
+    rw not_allowed (zero_bits start.args.x start.ranges.x)
 
-pub fits-at-spec : {M : Type 1} → statement M
-fits-at-spec = tie.close (tie.spec is-allowed-requires returns returns-2)
+pub fits_at_spec : {M : Type 1} → statement M
+fits_at_spec = tie.close (tie.spec is_allowed_requires returns returns-2)

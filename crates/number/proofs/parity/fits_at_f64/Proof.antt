@@ -6,16 +6,16 @@ use Rattle.number.proofs.Literals.{zero_is}
 use Rattle.number.proofs.parity.fits_at_f64.Statement.{statement}
 use Rattle.number.proofs.parity.fits_at_f64.Tie as tie
 
-is-allowed-requires : tie.Need-is-allowed-requires
-is-allowed-requires c κs = search rules
+is_allowed_requires : tie.Need-is-allowed-requires
+is_allowed_requires c κs = search rules
 
 returns : tie.Need-returns
-returns c = let allowed = sym c.before.is-allowed.ensures ∙ c.if1.true in rw allowed
+returns c = let allowed = sym c.before.is_allowed.ensures ∙ c.if1.true in rw allowed
 
 returns-2 : tie.Need-returns-2
 returns-2 c =
-    let not-allowed = sym c.before.is-allowed.ensures ∙ c.if1.false in
-    rw not-allowed (ap (eq c.before.before.args.x) zero_is)
+    let not_allowed = sym c.before.is_allowed.ensures ∙ c.if1.false in
+    rw not_allowed (ap (eq c.before.before.args.x) zero_is)
 
-pub fits-at-f64-spec : {M : Type 1} → statement M
-fits-at-f64-spec = tie.close (tie.spec is-allowed-requires returns returns-2)
+pub fits_at_f64_spec : {M : Type 1} → statement M
+fits_at_f64_spec = tie.close (tie.spec is_allowed_requires returns returns-2)

@@ -8,8 +8,8 @@ use borrow.Author.Rules.{rules}
 use Rattle.number.proofs.powers.power_of_two.Statement.{statement}
 use Rattle.number.proofs.powers.power_of_two.Tie as tie
 
-shl-result : tie.Need-overflow-shl-result
-shl-result c = search rules
+shl_result : tie.Need-overflow-shl-result
+shl_result c = search rules
 
 returns : tie.Need-returns
 returns c =
@@ -18,5 +18,5 @@ returns c =
     let fits : 1 * 2 ^ k < 2 ^ 64 = omega arith in
     mod-eq_of_lt fits ∙ one-mul _
 
-pub power-of-two-spec : {M : Type 1} → statement M
-power-of-two-spec = tie.close (tie.spec shl-result returns)
+pub power_of_two_spec : {M : Type 1} → statement M
+power_of_two_spec = tie.close (tie.spec shl_result returns)

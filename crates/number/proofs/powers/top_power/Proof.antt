@@ -3,25 +3,25 @@ use mathlib.Core.Path.{ap, ◌∙◌}
 use Prim.Native.Nat.{ℕ, ◌-◌, ◌^◌}
 use native.Mathlib.Omega.{arith}
 use borrow.Author.Rules.{rules}
-use Rattle.number.specs.Bits.{topPower}
-use Rattle.number.proofs.Bits.{some-digit, len-max}
+use Rattle.number.specs.Bits.{top_power}
+use Rattle.number.proofs.Bits.{some_digit, len_max}
 use Rattle.number.proofs.powers.top_power.Statement.{statement}
 use Rattle.number.proofs.powers.top_power.Tie as tie
 
-bit-len-requires : tie.Need-bit-len-requires
-bit-len-requires c κs = search rules
+bit_len_requires : tie.Need-bit-len-requires
+bit_len_requires c κs = search rules
 
-sub-power-of-two : tie.Need-overflow-sub-power-of-two
-sub-power-of-two c = omega (arith, c.bit-len.ensures, some-digit c.before.args.n c.before.requires)
+sub_power_of_two : tie.Need-overflow-sub-power-of-two
+sub_power_of_two c = omega (arith, c.bit_len.ensures, some_digit c.before.args.n c.before.requires)
 
-power-of-two-requires : tie.Need-power-of-two-requires
-power-of-two-requires c κs =
+power_of_two_requires : tie.Need-power-of-two-requires
+power_of_two_requires c κs =
     let n = c.before.args.n in
-    omega (arith, c.bit-len.ensures, len-max n 64 c.before.ranges.n.fits, some-digit n c.before.requires)
+    omega (arith, c.bit_len.ensures, len_max n 64 c.before.ranges.n.fits, some_digit n c.before.requires)
 
 returns : tie.Need-returns
-unfolding topPower
-returns c = c.power-of-two.ensures ∙ ap (λ (digits : ℕ). 2 ^ (digits - 1)) c.before.bit-len.ensures
+unfolding top_power
+returns c = c.power_of_two.ensures ∙ ap (λ (digits : ℕ). 2 ^ (digits - 1)) c.before.bit_len.ensures
 
-pub top-power-spec : {M : Type 1} → statement M
-top-power-spec = tie.close (tie.spec bit-len-requires sub-power-of-two power-of-two-requires returns)
+pub top_power_spec : {M : Type 1} → statement M
+top_power_spec = tie.close (tie.spec bit_len_requires sub_power_of_two power_of_two_requires returns)

@@ -3,8 +3,8 @@ use native.Mathlib.Omega.{arith}
 use Rattle.number.proofs.split.distance.Statement.{statement}
 use Rattle.number.proofs.split.distance.Tie as tie
 
-sub-result : tie.Need-overflow-sub-result
-sub-result c = omega arith
+sub_result : tie.Need-overflow-sub-result
+sub_result c = omega arith
 
 returns : tie.Need-returns
 returns c = omega arith
@@ -12,5 +12,5 @@ returns c = omega arith
 returns-2 : tie.Need-returns-2
 returns-2 c = omega arith
 
-pub distance-spec : {M : Type 1} → statement M
-distance-spec = tie.close (tie.spec sub-result returns returns-2)
+pub distance_spec : {M : Type 1} → statement M
+distance_spec = tie.close (tie.spec sub_result returns returns-2)

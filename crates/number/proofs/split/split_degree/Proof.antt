@@ -6,57 +6,57 @@ use mathlib.Core.Logic.{⊎_elim}
 use native.Mathlib.Omega.{arith}
 use borrow.Author.Rules.{rules}
 use borrow.Author.Tests.{ltb-true, ltb-false}
-use Rattle.number.proofs.Bits.{power_below}
-use Rattle.number.proofs.SplitParts.{split-accepted, split_below, split-above, parts-doubled, parts-other}
+use Rattle.number.proofs.Bits.{power_below_lem}
+use Rattle.number.proofs.SplitParts.{split_accepted, split_below, split_above, parts_doubled, parts_other}
 use Rattle.number.proofs.split.split_degree.Statement.{statement}
 use Rattle.number.proofs.split.split_degree.Tie as tie
 
-no-parts-requires : tie.Need-no-parts-requires
-no-parts-requires c κs = search rules
+no_parts_requires : tie.Need-no-parts-requires
+no_parts_requires c κs = search rules
 
 returns : tie.Need-returns
 returns c =
     let refused = c.before in
     let n = refused.before.args.n in
-    c.no-parts.ensures
-    ∙ ⊎_elim (λ low. sym (split_below n (omega arith))) (λ high. sym (split-above n (omega (arith, ltb-true)))) refused.if1.branch
+    c.no_parts.ensures
+    ∙ ⊎_elim (λ low. sym (split_below n (omega arith))) (λ high. sym (split_above n (omega (arith, ltb-true)))) refused.if1.branch
 
-power-below-requires : tie.Need-power-below-requires
-power-below-requires c κs = search rules
+power_below_requires : tie.Need-power-below-requires
+power_below_requires c κs = search rules
 
-add-if3 : tie.Need-overflow-add-if3
-add-if3 c =
+add_if3 : tie.Need-overflow-add-if3
+add_if3 c =
     let n = c.before.before.before.args.n in
-    omega (arith, power_below n (omega arith), ltb-false)
+    omega (arith, power_below_lem n (omega arith), ltb-false)
 
 returns-2 : tie.Need-returns-2
 returns-2 c =
     let n = c.before.before.before.before.args.n in
-    let p-is = c.before.power_below.ensures in
-    let accepted = split-accepted n (omega arith) (omega (arith, ltb-false)) in
-    sym (accepted ∙ parts-doubled n (omega arith))
+    let p_is = c.before.power_below_lem.ensures in
+    let accepted = split_accepted n (omega arith) (omega (arith, ltb-false)) in
+    sym (accepted ∙ parts_doubled n (omega arith))
 
-sub-a : tie.Need-overflow-sub-a
-sub-a c = omega (arith, power_below c.before.before.before.before.args.n (omega arith))
+sub_a : tie.Need-overflow-sub-a
+sub_a c = omega (arith, power_below_lem c.before.before.before.before.args.n (omega arith))
 
-add-b : tie.Need-overflow-add-b
-add-b c = omega (arith, ltb-false)
+add_b : tie.Need-overflow-add-b
+add_b c = omega (arith, ltb-false)
 
-sub-b : tie.Need-overflow-sub-b
-sub-b c = omega (arith, power_below c.before.before.before.before.args.n (omega arith))
+sub_b : tie.Need-overflow-sub-b
+sub_b c = omega (arith, power_below_lem c.before.before.before.before.args.n (omega arith))
 
 distance-requires : tie.Need-distance-requires
 distance-requires c κs = search rules
 
-returns-3 : tie.Need-returns-3
-returns-3 c =
+returns_3 : tie.Need-returns-3
+returns_3 c =
     let other = c.before in
     let n = other.before.before.before.before.args.n in
-    let p-is = other.before.power_below.ensures in
-    let accepted = split-accepted n (omega arith) (omega (arith, ltb-false)) in
-    rw (c.distance.ensures, p-is) (sym (accepted ∙ parts-other n (omega arith) (λ doubled. other.if3.false (omega arith))))
+    let p_is = other.before.power_below_lem.ensures in
+    let accepted = split_accepted n (omega arith) (omega (arith, ltb-false)) in
+    rw (c.distance.ensures, p_is) (sym (accepted ∙ parts_other n (omega arith) (λ doubled. other.if3.false (omega arith))))
 
-pub split-degree-spec : {M : Type 1} → statement M
-split-degree-spec =
+pub split_degree_spec : {M : Type 1} → statement M
+split_degree_spec =
     tie.close
-    (tie.spec no-parts-requires returns power-below-requires add-if3 returns-2 sub-a add-b sub-b distance-requires returns-3)
+    (tie.spec no_parts_requires returns power_below_requires add_if3 returns-2 sub_a add_b sub_b distance-requires returns_3)

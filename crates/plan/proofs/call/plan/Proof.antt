@@ -5,8 +5,8 @@ use borrow.Author.Rules.{rules}
 use borrow.Author.Tests.{not-true, not-false}
 use Rattle.number.specs.Interval.{Ordered}
 use Rattle.plan.specs.PlanCall.{Accepted}
-use Rattle.plan.proofs.PlanTests.{settings-accepted}
-use Rattle.plan.proofs.CallAnswers.{OutlinePlanned, outline-planned, refused-input, refused-interval, refused-buffers, plan-fits, planned-call}
+use Rattle.plan.proofs.PlanTests.{settings_accepted}
+use Rattle.plan.proofs.CallAnswers.{OutlinePlanned, outline_planned, refused_input, refused_interval, refused_buffers, plan_fits, planned_call}
 use Rattle.plan.proofs.call.plan.Statement.{statement}
 use Rattle.plan.proofs.call.plan.Tie as tie
 
@@ -14,7 +14,7 @@ use Rattle.plan.proofs.call.plan.Tie as tie
 accepted : (c : tie.Else1) →
     let start = c.before.before.before.before in
     Accepted start.args.fold start.args.parity start.args.c.now
-accepted c = omega (arith, c.before.input-refusal.ensures, c.if1.false)
+accepted c = omega (arith, c.before.input_refusal.ensures, c.if1.false)
 
 -- nor that of the interval
 ordered : (c : tie.Else2) →
@@ -25,66 +25,66 @@ ordered c = not-false _ c.if2.false
 -- so the outline is that of what is planned
 outlined : (c : tie.After-planned-outline) →
     let start = c.before.before.before.before.before.before.before in
-    OutlinePlanned start.args.strategy start.args.parity start.args.basis start.args.fold start.args.c.now c.planned-outline.result
+    OutlinePlanned start.args.strategy start.args.parity start.args.basis start.args.fold start.args.c.now c.planned_outline.result
 outlined c =
     let degree = c.before in
     let test = degree.before.before in
     let start = test.before.before.before.before in
-    outline-planned start.args.strategy start.args.parity start.args.basis start.args.fold start.args.c.now
-    (accepted test) degree.degree-of.ensures c.planned-outline.ensures
+    outline_planned start.args.strategy start.args.parity start.args.basis start.args.fold start.args.c.now
+    (accepted test) degree.degree_of.ensures c.planned_outline.ensures
 
-input-refusal-requires : tie.Need-input-refusal-requires
-input-refusal-requires c κs = search rules
+input_refusal_requires : tie.Need-input-refusal-requires
+input_refusal_requires c κs = search rules
 
-refused-requires : tie.Need-refused-requires
-refused-requires c κs = search rules
+refused_requires : tie.Need-refused-requires
+refused_requires c κs = search rules
 
 returns : tie.Need-returns
 returns c =
     let tests = c.before.before in
     let start = tests.before.before.before in
-    refused-input start.args.strategy start.args.parity start.args.basis start.args.fold start.args.c.now start.args.a
-    start.args.b start.args.out.now start.args.bounds.now start.args.steps.now tests.input-refusal.ensures
+    refused_input start.args.strategy start.args.parity start.args.basis start.args.fold start.args.c.now start.args.a
+    start.args.b start.args.out.now start.args.bounds.now start.args.steps.now tests.input_refusal.ensures
     c.before.if1.true c.refused.ensures
 
-refused-requires-2 : tie.Need-refused-requires-2
-refused-requires-2 c κs = search rules
+refused_requires_2 : tie.Need-refused-requires-2
+refused_requires_2 c κs = search rules
 
 returns-2 : tie.Need-returns-2
 returns-2 c =
     let interval = c.before in
     let test = interval.before in
     let start = test.before.before.before.before in
-    refused-interval start.args.strategy start.args.parity start.args.basis start.args.fold start.args.c.now start.args.a
+    refused_interval start.args.strategy start.args.parity start.args.basis start.args.fold start.args.c.now start.args.a
     start.args.b start.args.out.now start.args.bounds.now start.args.steps.now (accepted test) (not-true _ interval.if2.true)
     c.refused2.ensures
 
-degree-of-requires : tie.Need-degree-of-requires
-degree-of-requires c κs = search rules
+degree_of_requires : tie.Need-degree-of-requires
+degree_of_requires c κs = search rules
 
-planned-outline-requires : tie.Need-planned-outline-requires
-planned-outline-requires c κs =
+planned_outline_requires : tie.Need-planned-outline-requires
+planned_outline_requires c κs =
     let test = c.before.before in
     let start = test.before.before.before.before in
-    rw c.degree-of.ensures (settings-accepted start.args.fold start.args.parity start.args.c.now (accepted test))
+    rw c.degree_of.ensures (settings_accepted start.args.fold start.args.parity start.args.c.now (accepted test))
 
-change-of-basis-requires : tie.Need-change-of-basis-requires
-change-of-basis-requires c κs = search rules
+change_of_basis_requires : tie.Need-change-of-basis-requires
+change_of_basis_requires c κs = search rules
 
-sub-head-of : tie.Need-overflow-sub-head-of
-sub-head-of c = omega (arith, (outlined c.before).degrees.from)
+sub_head_of : tie.Need-overflow-sub-head-of
+sub_head_of c = omega (arith, (outlined c.before).degrees.from)
 
-head-of-requires : tie.Need-head-of-requires
-head-of-requires c κs = ((outlined c.before).degrees, (outlined c.before).outline-is)
+head_of_requires : tie.Need-head-of-requires
+head_of_requires c κs = ((outlined c.before).degrees, (outlined c.before).outline_is)
 
-buffer-refusal-requires : tie.Need-buffer-refusal-requires
-buffer-refusal-requires c κs = search rules
+buffer_refusal_requires : tie.Need-buffer-refusal-requires
+buffer_refusal_requires c κs = search rules
 
-refused-requires-3 : tie.Need-refused-requires-3
-refused-requires-3 c κs = search rules
+refused_requires_3 : tie.Need-refused-requires-3
+refused_requires_3 c κs = search rules
 
-returns-3 : tie.Need-returns-3
-returns-3 c =
+returns_3 : tie.Need-returns-3
+returns_3 c =
     let buffers = c.before.before in
     let head = buffers.before in
     let pair = head.before in
@@ -92,13 +92,13 @@ returns-3 c =
     let interval = outline.before.before in
     let test = interval.before in
     let start = test.before.before.before.before in
-    refused-buffers start.args.strategy start.args.parity start.args.basis start.args.fold start.args.c.now start.args.a
+    refused_buffers start.args.strategy start.args.parity start.args.basis start.args.fold start.args.c.now start.args.a
     start.args.b start.args.out.now start.args.bounds.now start.args.steps.now (accepted test) (ordered interval)
-    (outlined outline).count-is pair.change-of-basis.ensures head.head_of.ensures buffers.buffer-refusal.ensures c.before.if3.true
+    (outlined outline).count_is pair.change_of_basis.ensures head.head_of.ensures buffers.buffer_refusal.ensures c.before.if3.true
     c.refused3.ensures
 
-fill-requires : tie.Need-fill-requires
-fill-requires c κs =
+fill_requires : tie.Need-fill-requires
+fill_requires c κs =
     let tests = c.before.before.before in
     let buffers = tests.before in
     let head = buffers.before in
@@ -107,22 +107,22 @@ fill-requires c κs =
     let interval = outline.before.before in
     let test = interval.before in
     let start = test.before.before.before.before in
-    plan-fits start.args.strategy start.args.parity start.args.basis start.args.fold start.args.c.now start.args.a
+    plan_fits start.args.strategy start.args.parity start.args.basis start.args.fold start.args.c.now start.args.a
     start.args.b start.args.out.now start.args.bounds.now start.args.steps.now (accepted test) (ordered interval)
-    (outlined outline).count-is pair.change-of-basis.ensures head.head_of.ensures buffers.buffer-refusal.ensures
-    (omega (arith, tests.if3.false)) (outlined outline).outline-is
+    (outlined outline).count_is pair.change_of_basis.ensures head.head_of.ensures buffers.buffer_refusal.ensures
+    (omega (arith, tests.if3.false)) (outlined outline).outline_is
 
 same_length : tie.Need-same-length
 same_length c = search rules
 
-same-length-2 : tie.Need-same-length-2
-same-length-2 c = search rules
+same_length_2 : tie.Need-same-length-2
+same_length_2 c = search rules
 
-same-length-3 : tie.Need-same-length-3
-same-length-3 c = search rules
+same_length_3 : tie.Need-same-length-3
+same_length_3 c = search rules
 
-returns-4 : tie.Need-returns-4
-returns-4 c =
+returns_4 : tie.Need-returns-4
+returns_4 c =
     let filled = c.before.before.before.before.before in
     let tests = filled.before.before.before.before in
     let buffers = tests.before in
@@ -132,30 +132,30 @@ returns-4 c =
     let interval = outline.before.before in
     let test = interval.before in
     let start = test.before.before.before.before in
-    planned-call start.args.strategy start.args.parity start.args.basis start.args.fold start.args.c.now start.args.a
+    planned_call start.args.strategy start.args.parity start.args.basis start.args.fold start.args.c.now start.args.a
     start.args.b start.args.out.now start.args.bounds.now start.args.steps.now (accepted test) (ordered interval)
-    (outlined outline).count-is pair.change-of-basis.ensures head.head_of.ensures buffers.buffer-refusal.ensures
+    (outlined outline).count_is pair.change_of_basis.ensures head.head_of.ensures buffers.buffer_refusal.ensures
     (omega (arith, tests.if3.false)) filled.fill.ensures
 
-pub plan-spec : {M : Type 1} → statement M
-plan-spec =
+pub plan_spec : {M : Type 1} → statement M
+plan_spec =
     tie.close
     (tie.spec
-    input-refusal-requires
-    refused-requires
+    input_refusal_requires
+    refused_requires
     returns
-    refused-requires-2
+    refused_requires_2
     returns-2
-    degree-of-requires
-    planned-outline-requires
-    change-of-basis-requires
-    sub-head-of
-    head-of-requires
-    buffer-refusal-requires
-    refused-requires-3
-    returns-3
-    fill-requires
+    degree_of_requires
+    planned_outline_requires
+    change_of_basis_requires
+    sub_head_of
+    head_of_requires
+    buffer_refusal_requires
+    refused_requires_3
+    returns_3
+    fill_requires
     same_length
-    same-length-2
-    same-length-3
-    returns-4)
+    same_length_2
+    same_length_3
+    returns_4)

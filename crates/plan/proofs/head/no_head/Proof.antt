@@ -3,11 +3,11 @@ use borrow.Author.Rules.{rules}
 use Rattle.plan.proofs.head.no_head.Statement.{statement}
 use Rattle.plan.proofs.head.no_head.Tie as tie
 
-no-interval-requires : tie.Need-no-interval-requires
-no-interval-requires c κs = search rules
+no_interval_requires : tie.Need-no-interval-requires
+no_interval_requires c κs = search rules
 
 returns : tie.Need-returns
-returns c = rw c.no-interval.ensures
+returns c = rw c.no_interval.ensures
 
-pub no-head-spec : {M : Type 1} → statement M
-no-head-spec = tie.close (tie.spec no-interval-requires returns)
+pub no_head_spec : {M : Type 1} → statement M
+no_head_spec = tie.close (tie.spec no_interval_requires returns)

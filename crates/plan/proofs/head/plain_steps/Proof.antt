@@ -9,8 +9,8 @@ returns c = rw (not-true c.before.args.plain c.if1.true)
 returns-2 : tie.Need-returns-2
 returns-2 c = rw (not-false c.before.before.args.plain c.before.if1.false, le-leb 2 c.before.before.args.lists c.if2.true)
 
-returns-3 : tie.Need-returns-3
-returns-3 c = rw (not-false c.before.before.args.plain c.before.if1.false, lt-leb 2 c.before.before.args.lists c.if2.false)
+returns_3 : tie.Need-returns-3
+returns_3 c = rw (not-false c.before.before.args.plain c.before.if1.false, lt-leb 2 c.before.before.args.lists c.if2.false)
 
-pub plain-steps-spec : {M : Type 1} → statement M
-plain-steps-spec = tie.close (tie.spec returns returns-2 returns-3)
+pub plain_steps_spec : {M : Type 1} → statement M
+plain_steps_spec = tie.close (tie.spec returns returns-2 returns_3)

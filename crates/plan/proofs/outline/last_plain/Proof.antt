@@ -6,5 +6,5 @@ use Rattle.plan.proofs.outline.last_plain.Tie as tie
 returns : tie.Need-returns
 returns c = refl
 
-pub last-plain-spec : {M : Type 1} → statement M
-last-plain-spec = tie.close (tie.spec returns)
+pub last_plain_spec : {M : Type 1} → statement M
+last_plain_spec = tie.close (tie.spec returns)

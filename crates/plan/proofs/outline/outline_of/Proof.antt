@@ -1,44 +1,44 @@
 -- `plan::outline::outline_of` meets its contract, number by number; the chosen split is from 1 to 12, as each counter asks.
 use native.Mathlib.Omega.{arith}
 use borrow.Author.Rules.{rules}
-use Rattle.plan.proofs.HeadCounts.{planned-at, ranges-at, outline-is, counts-range}
+use Rattle.plan.proofs.HeadCounts.{planned_at, ranges_at, outline_is, counts_range}
 use Rattle.plan.proofs.outline.outline_of.Statement.{statement}
 use Rattle.plan.proofs.outline.outline_of.Tie as tie
 
-split-for-strategy-requires : tie.Need-split-for-strategy-requires
-split-for-strategy-requires c κs = search rules
+split_for_strategy_requires : tie.Need-split-for-strategy-requires
+split_for_strategy_requires c κs = search rules
 
-relists-requires : tie.Need-relists-requires
-relists-requires c κs = search rules
+relists_requires : tie.Need-relists-requires
+relists_requires c κs = search rules
 
-total-lists-requires : tie.Need-total-lists-requires
-total-lists-requires c κs =
+total_lists_requires : tie.Need-total-lists-requires
+total_lists_requires c κs =
     let start = c.before.before in
-    ranges-at start.args.strategy start.args.parity start.args.basis start.args.degree start.requires
-    c.before.split-for-strategy.ensures
+    ranges_at start.args.strategy start.args.parity start.args.basis start.args.degree start.requires
+    c.before.split_for_strategy.ensures
 
-count-needed-requires : tie.Need-count-needed-requires
-count-needed-requires c κs =
+count_needed_requires : tie.Need-count-needed-requires
+count_needed_requires c κs =
     let split = c.before.before in
     let start = split.before in
-    planned-at start.args.strategy start.args.parity start.args.basis start.args.degree start.requires
-    split.split-for-strategy.ensures
+    planned_at start.args.strategy start.args.parity start.args.basis start.args.degree start.requires
+    split.split_for_strategy.ensures
 
-last-plain-requires : tie.Need-last-plain-requires
-last-plain-requires c κs = search rules
+last_plain_requires : tie.Need-last-plain-requires
+last_plain_requires c κs = search rules
 
-count-steps-requires : tie.Need-count-steps-requires
-count-steps-requires c κs =
+count_steps_requires : tie.Need-count-steps-requires
+count_steps_requires c κs =
     let powers = c.before in
     let totals = powers.before in
     let leads = totals.before in
     let split = leads.before in
     let start = split.before in
-    counts-range start.args.strategy start.args.parity start.args.basis start.args.degree start.requires leads.relists.result
-    split.split-for-strategy.result totals.total-lists.ensures powers.count-needed.ensures
+    counts_range start.args.strategy start.args.parity start.args.basis start.args.degree start.requires leads.relists.result
+    split.split_for_strategy.result totals.total_lists.ensures powers.count_needed.ensures
 
-add-t11 : tie.Need-overflow-add-t11
-add-t11 c = omega (arith, c.before.before.before.before.before.before.requires.to)
+add_t11 : tie.Need-overflow-add-t11
+add_t11 c = omega (arith, c.before.before.before.before.before.before.requires.to)
 
 returns : tie.Need-returns
 returns c =
@@ -48,19 +48,19 @@ returns c =
     let leads = totals.before in
     let split = leads.before in
     let start = split.before in
-    outline-is start.args.strategy start.args.parity start.args.basis start.args.degree start.requires
-    split.split-for-strategy.ensures leads.relists.ensures totals.total-lists.ensures powers.count-needed.ensures
-    plain.last-plain.ensures c.count-steps.ensures
+    outline_is start.args.strategy start.args.parity start.args.basis start.args.degree start.requires
+    split.split_for_strategy.ensures leads.relists.ensures totals.total_lists.ensures powers.count_needed.ensures
+    plain.last_plain.ensures c.count_steps.ensures
 
-pub outline-of-spec : {M : Type 1} → statement M
-outline-of-spec =
+pub outline_of_spec : {M : Type 1} → statement M
+outline_of_spec =
     tie.close
     (tie.spec
-    split-for-strategy-requires
-    relists-requires
-    total-lists-requires
-    count-needed-requires
-    last-plain-requires
-    count-steps-requires
-    add-t11
+    split_for_strategy_requires
+    relists_requires
+    total_lists_requires
+    count_needed_requires
+    last_plain_requires
+    count_steps_requires
+    add_t11
     returns)

@@ -10,54 +10,54 @@ use Rattle.plan.proofs.step.put_step.Tie as tie
 mul_at : tie.Need-overflow-mul-at
 mul_at c = search rules
 
-narrow-requires : tie.Need-narrow-requires
-narrow-requires c κs = search rules
+narrow_requires : tie.Need-narrow-requires
+narrow_requires c κs = search rules
 
-mul-steps : tie.Need-overflow-mul-steps
-mul-steps c = search rules
+mul_steps : tie.Need-overflow-mul-steps
+mul_steps c = search rules
 
-slice-write-steps : tie.Need-slice-write-steps
-slice-write-steps c = search rules
+slice_write_steps : tie.Need-slice-write-steps
+slice_write_steps c = search rules
 
-narrow-requires-2 : tie.Need-narrow-requires-2
-narrow-requires-2 c κs = search rules
+narrow_requires_2 : tie.Need-narrow-requires-2
+narrow_requires_2 c κs = search rules
 
-add-steps : tie.Need-overflow-add-steps
-add-steps c = search rules
+add_steps : tie.Need-overflow-add-steps
+add_steps c = search rules
 
-mul-steps-2 : tie.Need-overflow-mul-steps-2
-mul-steps-2 c = search rules
+mul_steps_2 : tie.Need-overflow-mul-steps-2
+mul_steps_2 c = search rules
 
-slice-write-steps-2 : tie.Need-slice-write-steps-2
-slice-write-steps-2 c = simp length-set (omega (arith, c.before.before.before.requires.places))
+slice_write_steps_2 : tie.Need-slice-write-steps-2
+slice_write_steps_2 c = simp length-set (omega (arith, c.before.before.before.requires.places))
 
-narrow-requires-3 : tie.Need-narrow-requires-3
-narrow-requires-3 c κs = search rules
+narrow_requires_3 : tie.Need-narrow-requires-3
+narrow_requires_3 c κs = search rules
 
-add-steps-2 : tie.Need-overflow-add-steps-2
-add-steps-2 c = search rules
+add_steps_2 : tie.Need-overflow-add-steps-2
+add_steps_2 c = search rules
 
-mul-steps-3 : tie.Need-overflow-mul-steps-3
-mul-steps-3 c = search rules
+mul_steps_3 : tie.Need-overflow-mul-steps-3
+mul_steps_3 c = search rules
 
-slice-write-steps-3 : tie.Need-slice-write-steps-3
-slice-write-steps-3 c =
+slice_write_steps_3 : tie.Need-slice-write-steps-3
+slice_write_steps_3 c =
     let entry = c.before.before.before.before in
     simp length-set (omega (arith, entry.requires.places))
 
-narrow-requires-4 : tie.Need-narrow-requires-4
-narrow-requires-4 c κs = search rules
+narrow_requires_4 : tie.Need-narrow-requires-4
+narrow_requires_4 c κs = search rules
 
-add-steps-3 : tie.Need-overflow-add-steps-3
-add-steps-3 c = search rules
+add_steps_3 : tie.Need-overflow-add-steps-3
+add_steps_3 c = search rules
 
-mul-steps-4 : tie.Need-overflow-mul-steps-4
-mul-steps-4 c = search rules
+mul_steps_4 : tie.Need-overflow-mul-steps-4
+mul_steps_4 c = search rules
 
-slice-write-steps-4 : tie.Need-slice-write-steps-4
-slice-write-steps-4 c =
-    let at-slice-known = c.before.before.before.before in
-    let entry = at-slice-known.before in
+slice_write_steps_4 : tie.Need-slice-write-steps-4
+slice_write_steps_4 c =
+    let at_slice_known = c.before.before.before.before in
+    let entry = at_slice_known.before in
     simp length-set (omega (arith, entry.requires.places))
 
 same_length : tie.Need-same-length
@@ -65,31 +65,31 @@ same_length c = search rules
 
 returns : tie.Need-returns
 returns c =
-    let at-narrow2 = c.before.before in
-    let at-narrow = at-narrow2.before in
-    let entry = at-narrow.before.before in
+    let at_narrow2 = c.before.before in
+    let at_narrow = at_narrow2.before in
+    let entry = at_narrow.before.before in
     put_four entry.args.steps.now (4 * entry.args.i) entry.args.kind entry.args.x entry.args.y entry.args.z
-    at-narrow.narrow.ensures at-narrow2.narrow2.ensures c.before.narrow3.ensures c.narrow4.ensures
+    at_narrow.narrow.ensures at_narrow2.narrow2.ensures c.before.narrow3.ensures c.narrow4.ensures
 
-pub put-step-spec : {M : Type 1} → statement M
-put-step-spec =
+pub put_step_spec : {M : Type 1} → statement M
+put_step_spec =
     tie.close
     (tie.spec
     mul_at
-    narrow-requires
-    mul-steps
-    slice-write-steps
-    narrow-requires-2
-    add-steps
-    mul-steps-2
-    slice-write-steps-2
-    narrow-requires-3
-    add-steps-2
-    mul-steps-3
-    slice-write-steps-3
-    narrow-requires-4
-    add-steps-3
-    mul-steps-4
-    slice-write-steps-4
+    narrow_requires
+    mul_steps
+    slice_write_steps
+    narrow_requires_2
+    add_steps
+    mul_steps_2
+    slice_write_steps_2
+    narrow_requires_3
+    add_steps_2
+    mul_steps_3
+    slice_write_steps_3
+    narrow_requires_4
+    add_steps_3
+    mul_steps_4
+    slice_write_steps_4
     same_length
     returns)

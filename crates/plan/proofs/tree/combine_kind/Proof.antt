@@ -9,8 +9,8 @@ returns c = rw (not-true c.before.args.plain c.if1.true)
 returns-2 : tie.Need-returns-2
 returns-2 c = rw (not-false c.before.before.args.plain c.before.if1.false, eq-eqb c.before.before.args.lists 1 c.if2.true)
 
-returns-3 : tie.Need-returns-3
-returns-3 c = rw (not-false c.before.before.args.plain c.before.if1.false, ne_eqb c.before.before.args.lists 1 c.if2.false)
+returns_3 : tie.Need-returns-3
+returns_3 c = rw (not-false c.before.before.args.plain c.before.if1.false, ne_eqb c.before.before.args.lists 1 c.if2.false)
 
-pub combine-kind-spec : {M : Type 1} → statement M
-combine-kind-spec = tie.close (tie.spec returns returns-2 returns-3)
+pub combine_kind_spec : {M : Type 1} → statement M
+combine_kind_spec = tie.close (tie.spec returns returns-2 returns_3)

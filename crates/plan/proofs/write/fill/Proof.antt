@@ -1,37 +1,37 @@
 -- `plan::write::fill` meets its contract: the lists are written, and then the steps.
 use borrow.Author.Rules.{rules}
-use Rattle.plan.proofs.FilledBuffers.{lists-fit, steps-fit, numbers-are}
+use Rattle.plan.proofs.FilledBuffers.{lists_fit, steps_fit, numbers_are}
 use Rattle.plan.proofs.write.fill.Statement.{statement}
 use Rattle.plan.proofs.write.fill.Tie as tie
 
-write-lists-requires : tie.Need-write-lists-requires
-write-lists-requires c κs = lists-fit c.before.before.before.before.requires
+write_lists_requires : tie.Need-write-lists-requires
+write_lists_requires c κs = lists_fit c.before.before.before.before.requires
 
-relists-requires : tie.Need-relists-requires
-relists-requires c κs = search rules
+relists_requires : tie.Need-relists-requires
+relists_requires c κs = search rules
 
-planned-parity-requires : tie.Need-planned-parity-requires
-planned-parity-requires c κs = search rules
+planned_parity_requires : tie.Need-planned-parity-requires
+planned_parity_requires c κs = search rules
 
-sub-write-steps : tie.Need-overflow-sub-write-steps
-sub-write-steps c = search rules
+sub_write_steps : tie.Need-overflow-sub-write-steps
+sub_write_steps c = search rules
 
-write-steps-requires : tie.Need-write-steps-requires
-write-steps-requires c κs =
+write_steps_requires : tie.Need-write-steps-requires
+write_steps_requires c κs =
     let parity = c.before in
     let leads = parity.before in
     let listed = leads.before.before.before.before in
     let start = listed.before.before.before.before.before in
-    steps-fit start.requires leads.relists.ensures parity.planned-parity.ensures
+    steps_fit start.requires leads.relists.ensures parity.planned_parity.ensures
 
 same_length : tie.Need-same-length
 same_length c = search rules
 
-same-length-2 : tie.Need-same-length-2
-same-length-2 c = search rules
+same_length_2 : tie.Need-same-length-2
+same_length_2 c = search rules
 
-same-length-3 : tie.Need-same-length-3
-same-length-3 c = search rules
+same_length_3 : tie.Need-same-length-3
+same_length_3 c = search rules
 
 returns : tie.Need-returns
 returns c =
@@ -41,21 +41,21 @@ returns c =
     let listed = leads.before.before.before.before in
     let start = listed.before.before.before.before.before in
     record {
-      coefficients = listed.write-lists.ensures.coefficients;
-      boundaries = listed.write-lists.ensures.boundaries;
-      numbers = numbers-are start.requires leads.relists.ensures parity.planned-parity.ensures written.write-steps.ensures;
+      coefficients = listed.write_lists.ensures.coefficients;
+      boundaries = listed.write_lists.ensures.boundaries;
+      numbers = numbers_are start.requires leads.relists.ensures parity.planned_parity.ensures written.write_steps.ensures;
     }
 
 pub fill_spec : {M : Type 1} → statement M
 fill_spec =
     tie.close
     (tie.spec
-    write-lists-requires
-    relists-requires
-    planned-parity-requires
-    sub-write-steps
-    write-steps-requires
+    write_lists_requires
+    relists_requires
+    planned_parity_requires
+    sub_write_steps
+    write_steps_requires
     same_length
-    same-length-2
-    same-length-3
+    same_length_2
+    same_length_3
     returns)

@@ -6,11 +6,11 @@ use Prim.Native.Nat.{ℕ, suc, ◌≤◌, ◌<◌, ◌^◌}
 use native.Mathlib.Omega.{arith}
 use borrow.Author.Rules.{rules}
 use lib.ListN.{length}
-use Rattle.counts.specs.Choice.{splitFor}
-use Rattle.counts.proofs.ChoiceLaws.{split-range}
-use Rattle.lists.specs.Tree.{tree_of, relists, planTree}
-use Rattle.lists.specs.Arrange.{endsOf}
-use Rattle.rebuild.specs.inside.Matching.{matchFrom}
+use Rattle.counts.specs.Choice.{split_for}
+use Rattle.counts.proofs.ChoiceLaws.{split_range}
+use Rattle.lists.specs.Tree.{tree_of, relists, plan_tree}
+use Rattle.lists.specs.Arrange.{ends_of}
+use Rattle.rebuild.specs.inside.Matching.{match_from}
 use Rattle.rebuild.proofs.EndsSteps as steps
 use Rattle.rebuild.proofs.RebuildTests as tests
 use Rattle.rebuild.proofs.call.matches_settings.Statement.{statement}
@@ -27,53 +27,53 @@ same_base c = c.before.before
 abbrev ends : tie.Start → List ℕ
 ends c =
     let asked = c.args in
-    endsOf (planTree asked.strategy asked.parity asked.basis asked.degree) 0 (suc asked.degree)
+    ends_of (plan_tree asked.strategy asked.parity asked.basis asked.degree) 0 (suc asked.degree)
 
 -- the split is small
 small : (c : tie.Start) → c.args.split ≤ 12
 small c =
     let asked = c.args in
-    omega (arith, c.requires.1, (split-range asked.strategy asked.parity asked.basis asked.degree c.requires.0).to)
+    omega (arith, c.requires.1, (split_range asked.strategy asked.parity asked.basis asked.degree c.requires.0).to)
 
 -- the base is that of the settings
-base-is : (c : tie.Else1) → let asked = (start c).args in
-    asked.base ≡ 2 ^ splitFor asked.strategy asked.parity asked.basis asked.degree
-base-is c = c.if1.false ∙ c.before.power-of-two.ensures ∙ ap (2 ^◌) (start c).requires.1
+base_is : (c : tie.Else1) → let asked = (start c).args in
+    asked.base ≡ 2 ^ split_for asked.strategy asked.parity asked.basis asked.degree
+base_is c = c.if1.false ∙ c.before.power_of_two.ensures ∙ ap (2 ^◌) (start c).requires.1
 
 -- the boundaries are looked for by the plan tree, and there are some
 match_is : (c : tie.After-match-ends) → let first = start (same_base c) in
-    c.match-ends.result ≡ matchFrom (ends first) first.args.bounds.now 0
+    c.match_ends.result ≡ match_from (ends first) first.args.bounds.now 0
 match_is c =
     let first = start (same_base c) in
     let degree = first.args.degree in
-    c.match-ends.ensures
-    ∙ ap₂ (λ leading split. matchFrom (endsOf (tree_of leading degree degree split) 0 (suc degree)) first.args.bounds.now 0) c.before.relists.ensures
+    c.match_ends.ensures
+    ∙ ap₂ (λ leading split. match_from (ends_of (tree_of leading degree degree split) 0 (suc degree)) first.args.bounds.now 0) c.before.relists.ensures
     first.pre.1
 
-some-ends : (c : tie.Start) → 0 < length (ends c)
-some-ends c =
+some_ends : (c : tie.Start) → 0 < length (ends c)
+some_ends c =
     let asked = c.args in
-    steps.some-ends (relists asked.strategy) asked.degree asked.degree
-    (splitFor asked.strategy asked.parity asked.basis asked.degree) 0
+    steps.some_ends (relists asked.strategy) asked.degree asked.degree
+    (split_for asked.strategy asked.parity asked.basis asked.degree) 0
 
-power-of-two-requires : tie.Need-power-of-two-requires
-power-of-two-requires c κs = omega (arith, small c.before)
+power_of_two_requires : tie.Need-power-of-two-requires
+power_of_two_requires c κs = omega (arith, small c.before)
 
 returns : tie.Need-returns
 returns c =
     let first = c.before.before.before in
     let asked = first.args in
-    tests.other-base asked.strategy asked.parity asked.basis asked.degree asked.base asked.lists.now asked.bounds.now
-    (λ same. c.if1.true (same ∙ ap (2 ^◌) (sym first.requires.1) ∙ sym c.before.power-of-two.ensures))
+    tests.other_base asked.strategy asked.parity asked.basis asked.degree asked.base asked.lists.now asked.bounds.now
+    (λ same. c.if1.true (same ∙ ap (2 ^◌) (sym first.requires.1) ∙ sym c.before.power_of_two.ensures))
 
-relists-requires : tie.Need-relists-requires
-relists-requires c κs = search rules
+relists_requires : tie.Need-relists-requires
+relists_requires c κs = search rules
 
-match-ends-requires : tie.Need-match-ends-requires
-match-ends-requires c κs =
+match_ends_requires : tie.Need-match-ends-requires
+match_ends_requires c κs =
     let first = start c.before in
     let degrees = first.pre.0 in (
-      record { positive = degrees.from; whole-limit = degrees.to; part_limit = degrees.to; split-limit = small first },
+      record { positive = degrees.from; whole_limit = degrees.to; part_limit = degrees.to; split_limit = small first },
       omega (arith, degrees.to),
     )
 
@@ -82,24 +82,24 @@ returns-2 c =
     let matched = c.before in
     let first = start (same_base matched) in
     let asked = first.args in
-    tests.other-ends asked.strategy asked.parity asked.basis asked.degree asked.base asked.lists.now asked.bounds.now
-    (base-is (same_base matched)) (steps.front-other _ _ (some-ends first) (match_is matched) c.if2.true)
+    tests.other_ends asked.strategy asked.parity asked.basis asked.degree asked.base asked.lists.now asked.bounds.now
+    (base_is (same_base matched)) (steps.front_other _ _ (some_ends first) (match_is matched) c.if2.true)
 
-returns-3 : tie.Need-returns-3
-returns-3 c =
+returns_3 : tie.Need-returns-3
+returns_3 c =
     let matched = c.before in
     let first = start (same_base matched) in
     let asked = first.args in
-    tests.by-places asked.strategy asked.parity asked.basis asked.degree asked.base asked.lists.now asked.bounds.now
-    (base-is (same_base matched)) (steps.front_same _ _ (some-ends first) (match_is matched) c.if2.false)
+    tests.by_places asked.strategy asked.parity asked.basis asked.degree asked.base asked.lists.now asked.bounds.now
+    (base_is (same_base matched)) (steps.front_same _ _ (some_ends first) (match_is matched) c.if2.false)
 
-pub matches-settings-spec : {M : Type 1} → statement M
-matches-settings-spec =
+pub matches_settings_spec : {M : Type 1} → statement M
+matches_settings_spec =
     tie.close
     (tie.spec
-    power-of-two-requires
+    power_of_two_requires
     returns
-    relists-requires
-    match-ends-requires
+    relists_requires
+    match_ends_requires
     returns-2
-    returns-3)
+    returns_3)

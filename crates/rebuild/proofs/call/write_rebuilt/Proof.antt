@@ -18,14 +18,14 @@ rebuilding c = c.before.before
 
 -- the front of the room is as long as the lists
 size : (c : tie.Else1) → let below = rebuilding c in
-    length (take (length (start below).args.lists.now) below.rebuild-lists.last.1.1.1.1.0) ≡ length (start below).args.lists.now
+    length (take (length (start below).args.lists.now) below.rebuild_lists.last.1.1.1.1.0) ≡ length (start below).args.lists.now
 size c =
     let below = rebuilding c in
-    length-take-le (length (start below).args.lists.now) below.rebuild-lists.last.1.1.1.1.0
-    (omega (arith, below.rebuild-lists.kept.1.1.1.1.0, (start below).pre.1))
+    length-take-le (length (start below).args.lists.now) below.rebuild_lists.last.1.1.1.1.0
+    (omega (arith, below.rebuild_lists.kept.1.1.1.1.0, (start below).pre.1))
 
-rebuild-lists-requires : tie.Need-rebuild-lists-requires
-rebuild-lists-requires c κs = search rules
+rebuild_lists_requires : tie.Need-rebuild-lists-requires
+rebuild_lists_requires c κs = search rules
 
 same_length : tie.Need-same-length
 same_length c = search rules
@@ -33,51 +33,51 @@ same_length c = search rules
 returns : tie.Need-returns
 returns c =
     let below = c.before.before in
-    tests.cannot-undo below.rebuild-lists.result _ below.rebuild-lists.ensures c.if1.true
+    tests.cannot_undo_lem below.rebuild_lists.result _ below.rebuild_lists.ensures c.if1.true
 
-same-length-2 : tie.Need-same-length-2
-same-length-2 c = search rules
+same_length_2 : tie.Need-same-length-2
+same_length_2 c = search rules
 
 returns-2 : tie.Need-returns-2
 returns-2 c =
     let below = rebuilding c.before in
-    tests.too_short below.rebuild-lists.result _ below.rebuild-lists.ensures c.before.if1.false c.if2.true
+    tests.too_short below.rebuild_lists.result _ below.rebuild_lists.ensures c.before.if1.false c.if2.true
 
-slice-reshare-prefix-copy-coeffs : tie.Need-slice-reshare-prefix-copy-coeffs
-slice-reshare-prefix-copy-coeffs c = search rules
+slice_reshare_prefix_copy_coeffs : tie.Need-slice-reshare-prefix-copy-coeffs
+slice_reshare_prefix_copy_coeffs c = search rules
 
-slice-aggregate-copy-coeffs : tie.Need-slice-aggregate-copy-coeffs
-slice-aggregate-copy-coeffs c = sym (size c.before.before)
+slice_aggregate_copy_coeffs : tie.Need-slice-aggregate-copy-coeffs
+slice_aggregate_copy_coeffs c = sym (size c.before.before)
 
-copy-coeffs-requires : tie.Need-copy-coeffs-requires
-copy-coeffs-requires c κs = let places = size c.before.before.before in omega (arith, places)
+copy_coeffs_requires : tie.Need-copy-coeffs-requires
+copy_coeffs_requires c κs = let places = size c.before.before.before in omega (arith, places)
 
-same-length-3 : tie.Need-same-length-3
-same-length-3 c = search rules
+same_length_3 : tie.Need-same-length-3
+same_length_3 c = search rules
 
-same-length-4 : tie.Need-same-length-4
-same-length-4 c = search rules
+same_length_4 : tie.Need-same-length-4
+same_length_4 c = search rules
 
-returns-3 : tie.Need-returns-3
-returns-3 c =
+returns_3 : tie.Need-returns-3
+returns_3 c =
     let copied = c.before in
     let fitting = copied.before.before.before in
     let below = rebuilding fitting.before in
-    tests.found-written below.rebuild-lists.result _ below.rebuild-lists.ensures fitting.before.if1.false fitting.if2.false
-    copied.copy-coeffs.ensures
+    tests.found_written below.rebuild_lists.result _ below.rebuild_lists.ensures fitting.before.if1.false fitting.if2.false
+    copied.copy_coeffs.ensures
 
-pub write-rebuilt-spec : {M : Type 1} → statement M
-write-rebuilt-spec =
+pub write_rebuilt_spec : {M : Type 1} → statement M
+write_rebuilt_spec =
     tie.close
     (tie.spec
-    rebuild-lists-requires
+    rebuild_lists_requires
     same_length
     returns
-    same-length-2
+    same_length_2
     returns-2
-    slice-reshare-prefix-copy-coeffs
-    slice-aggregate-copy-coeffs
-    copy-coeffs-requires
-    same-length-3
-    same-length-4
-    returns-3)
+    slice_reshare_prefix_copy_coeffs
+    slice_aggregate_copy_coeffs
+    copy_coeffs_requires
+    same_length_3
+    same_length_4
+    returns_3)

@@ -14,57 +14,57 @@ invariant-loop line at base end next value₀ i₀ value i = base ≤ 16
 abbrev decreases-loop : tie.decreases-loop
 decreases-loop line at base end next value₀ i₀ value i = length line - i
 
-end-of-requires : tie.Need-end-of-requires invariant-loop decreases-loop
-end-of-requires c κs = search rules
+end_of_requires : tie.Need-end-of-requires invariant-loop decreases-loop
+end_of_requires c κs = search rules
 
-after-requires : tie.Need-after-requires invariant-loop decreases-loop
-after-requires c κs = search rules
+after_requires : tie.Need-after-requires invariant-loop decreases-loop
+after_requires c κs = search rules
 
-loop-holds : tie.Need-loop-init invariant-loop decreases-loop
-loop-holds c = search rules
+loop_holds : tie.Need-loop-init invariant-loop decreases-loop
+loop_holds c = search rules
 
-shared-slice-read-digit : tie.Need-shared-slice-read-digit invariant-loop decreases-loop
-shared-slice-read-digit c = search rules
+shared_slice_read_digit : tie.Need-shared-slice-read-digit invariant-loop decreases-loop
+shared_slice_read_digit c = search rules
 
-digit-requires : tie.Need-digit-requires invariant-loop decreases-loop
-digit-requires c κs = search rules
+digit_requires : tie.Need-digit-requires invariant-loop decreases-loop
+digit_requires c κs = search rules
 
 returns : tie.Need-returns invariant-loop decreases-loop
 returns c = search rules
 
-shifted-requires : tie.Need-shifted-requires invariant-loop decreases-loop
-shifted-requires c κs = (omega (arith, ltb-true, ltb-false), omega arith)
+shifted_requires : tie.Need-shifted-requires invariant-loop decreases-loop
+shifted_requires c κs = (omega (arith, ltb-true, ltb-false), omega arith)
 
-add-value : tie.Need-overflow-add-value invariant-loop decreases-loop
-add-value c = omega (arith, ltb-true, ltb-false)
+add_value : tie.Need-overflow-add-value invariant-loop decreases-loop
+add_value c = omega (arith, ltb-true, ltb-false)
 
-add-i : tie.Need-overflow-add-i invariant-loop decreases-loop
-add-i c = search rules
+add_i : tie.Need-overflow-add-i invariant-loop decreases-loop
+add_i c = search rules
 
-loop-less : tie.Need-loop-smaller invariant-loop decreases-loop
-loop-less c = search rules
+loop_less : tie.Need-loop-smaller invariant-loop decreases-loop
+loop_less c = search rules
 
-loop-again : tie.Need-loop-preserved invariant-loop decreases-loop
-loop-again c = search rules
+loop_again : tie.Need-loop-preserved invariant-loop decreases-loop
+loop_again c = search rules
 
 returns-2 : tie.Need-returns-2 invariant-loop decreases-loop
 returns-2 c = search rules
 
-pub read-digits-spec : {M : Type 1} → statement M
-read-digits-spec =
+pub read_digits_spec : {M : Type 1} → statement M
+read_digits_spec =
     tie.close
     (tie.spec
     invariant-loop
     decreases-loop
-    end-of-requires
-    after-requires
-    loop-holds
-    shared-slice-read-digit
-    digit-requires
+    end_of_requires
+    after_requires
+    loop_holds
+    shared_slice_read_digit
+    digit_requires
     returns
-    shifted-requires
-    add-value
-    add-i
-    loop-less
-    loop-again
+    shifted_requires
+    add_value
+    add_i
+    loop_less
+    loop_again
     returns-2)

@@ -5,11 +5,11 @@ use native.Mathlib.Omega.{arith}
 use Rattle.recording.proofs.field.shifted.Statement.{statement}
 use Rattle.recording.proofs.field.shifted.Tie as tie
 
-mul-result : tie.Need-overflow-mul-result
-mul-result c = omega (arith, mul-le-mul_left c.args.value c.requires.1)
+mul_result : tie.Need-overflow-mul-result
+mul_result c = omega (arith, mul-le-mul_left c.args.value c.requires.1)
 
 returns : tie.Need-returns
 returns c = mul-le-mul_left _ c.requires.1
 
-pub shifted-spec : {M : Type 1} → statement M
-shifted-spec = tie.close (tie.spec mul-result returns)
+pub shifted_spec : {M : Type 1} → statement M
+shifted_spec = tie.close (tie.spec mul_result returns)

@@ -17,20 +17,20 @@ negated (suc n) h = record { sfits = omega arith }
 returns : tie.Need-returns
 returns c = search rules
 
-cast-result : tie.Need-overflow-cast-result
-cast-result c = search rules
+cast_result : tie.Need-overflow-cast-result
+cast_result c = search rules
 
-sub-result : tie.Need-overflow-sub-result
-sub-result c = let h : c.before.before.args.size < 2 ^ 63 = omega arith in rw (to_z_pos w64 h, +ℤ_idl) (negated _ h)
+sub_result : tie.Need-overflow-sub-result
+sub_result c = let h : c.before.before.args.size < 2 ^ 63 = omega arith in rw (to_z_pos w64 h, +ℤ_idl) (negated _ h)
 
-cast-result-2 : tie.Need-overflow-cast-result-2
-cast-result-2 c = search rules
+cast_result_2 : tie.Need-overflow-cast-result-2
+cast_result_2 c = search rules
 
 returns-2 : tie.Need-returns-2
 returns-2 c = search rules
 
-returns-3 : tie.Need-returns-3
-returns-3 c = search rules
+returns_3 : tie.Need-returns-3
+returns_3 c = search rules
 
-pub with-sign-spec : {M : Type 1} → statement M
-with-sign-spec = tie.close (tie.spec returns cast-result sub-result cast-result-2 returns-2 returns-3)
+pub with_sign_spec : {M : Type 1} → statement M
+with_sign_spec = tie.close (tie.spec returns cast_result sub_result cast_result_2 returns-2 returns_3)

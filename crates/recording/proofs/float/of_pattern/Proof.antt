@@ -3,18 +3,18 @@ use borrow.Author.Rules.{rules}
 use Rattle.recording.proofs.float.of_pattern.Statement.{statement}
 use Rattle.recording.proofs.float.of_pattern.Tie as tie
 
-is-nan-pattern-requires : tie.Need-is-nan-pattern-requires
-is-nan-pattern-requires c κs = search rules
+is_nan_pattern_requires : tie.Need-is-nan-pattern-requires
+is_nan_pattern_requires c κs = search rules
 
 returns : tie.Need-returns
 returns c = search rules
 
-float-from-bits-result : tie.Need-float-from-bits-result
-float-from-bits-result c = rw (← c.before.is-nan-pattern.ensures, c.if1.false) tt
+float_from_bits_result : tie.Need-float-from-bits-result
+float_from_bits_result c = rw (← c.before.is_nan_pattern.ensures, c.if1.false) tt
 
 returns-2 : tie.Need-returns-2
 returns-2 c = search rules
 
-pub of-pattern-spec : {M : Type 1} → statement M
-of-pattern-spec =
-    tie.close (tie.spec is-nan-pattern-requires returns float-from-bits-result returns-2)
+pub of_pattern_spec : {M : Type 1} → statement M
+of_pattern_spec =
+    tie.close (tie.spec is_nan_pattern_requires returns float_from_bits_result returns-2)

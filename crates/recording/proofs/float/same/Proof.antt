@@ -19,15 +19,15 @@ returns c = search rules
 returns-2 : tie.Need-returns-2
 returns-2 c = search rules
 
-float-to-bits-result : tie.Need-float-to-bits-result
-float-to-bits-result c = no_nan _ c.before.if1.false
+float_to_bits_result : tie.Need-float-to-bits-result
+float_to_bits_result c = no_nan _ c.before.if1.false
 
-float-to-bits-result-2 : tie.Need-float-to-bits-result-2
-float-to-bits-result-2 c = no_nan _ c.if2.false
+float_to_bits_result_2 : tie.Need-float-to-bits-result-2
+float_to_bits_result_2 c = no_nan _ c.if2.false
 
-returns-3 : tie.Need-returns-3
-returns-3 c = search rules
+returns_3 : tie.Need-returns-3
+returns_3 c = search rules
 
 pub same_spec : {M : Type 1} → statement M
 same_spec =
-    tie.close (tie.spec returns returns-2 float-to-bits-result float-to-bits-result-2 returns-3)
+    tie.close (tie.spec returns returns-2 float_to_bits_result float_to_bits_result_2 returns_3)

@@ -13,26 +13,26 @@ invariant-loop line at count out₀ ok₀ next₀ i₀ out ok next i = length ou
 abbrev decreases-loop : tie.decreases-loop
 decreases-loop line at count out₀ ok₀ next₀ i₀ out ok next i = length out₀ - i
 
-loop-holds : tie.Need-loop-init invariant-loop decreases-loop
-loop-holds c = search rules
+loop_holds : tie.Need-loop-init invariant-loop decreases-loop
+loop_holds c = search rules
 
-read-real-requires : tie.Need-read-real-requires invariant-loop decreases-loop
-read-real-requires c κs = search rules
+read_real_requires : tie.Need-read-real-requires invariant-loop decreases-loop
+read_real_requires c κs = search rules
 
-mul-out : tie.Need-overflow-mul-out invariant-loop decreases-loop
-mul-out c = search rules
+mul_out : tie.Need-overflow-mul-out invariant-loop decreases-loop
+mul_out c = search rules
 
-slice-write-out : tie.Need-slice-write-out invariant-loop decreases-loop
-slice-write-out c = search rules
+slice_write_out : tie.Need-slice-write-out invariant-loop decreases-loop
+slice_write_out c = search rules
 
-add-i : tie.Need-overflow-add-i invariant-loop decreases-loop
-add-i c = search rules
+add_i : tie.Need-overflow-add-i invariant-loop decreases-loop
+add_i c = search rules
 
-loop-less : tie.Need-loop-smaller invariant-loop decreases-loop
-loop-less c = search rules
+loop_less : tie.Need-loop-smaller invariant-loop decreases-loop
+loop_less c = search rules
 
-loop-again : tie.Need-loop-preserved invariant-loop decreases-loop
-loop-again c = search rules
+loop_again : tie.Need-loop-preserved invariant-loop decreases-loop
+loop_again c = search rules
 
 same_length : tie.Need-same-length invariant-loop decreases-loop
 same_length c = search rules
@@ -40,26 +40,26 @@ same_length c = search rules
 returns : tie.Need-returns invariant-loop decreases-loop
 returns c = search rules
 
-same-length-2 : tie.Need-same-length-2 invariant-loop decreases-loop
-same-length-2 c = search rules
+same_length_2 : tie.Need-same-length-2 invariant-loop decreases-loop
+same_length_2 c = search rules
 
 returns-2 : tie.Need-returns-2 invariant-loop decreases-loop
 returns-2 c = search rules
 
-pub read-real-run-spec : {M : Type 1} → statement M
-read-real-run-spec =
+pub read_real_run_spec : {M : Type 1} → statement M
+read_real_run_spec =
     tie.close
     (tie.spec
     invariant-loop
     decreases-loop
-    loop-holds
-    read-real-requires
-    mul-out
-    slice-write-out
-    add-i
-    loop-less
-    loop-again
+    loop_holds
+    read_real_requires
+    mul_out
+    slice_write_out
+    add_i
+    loop_less
+    loop_again
     same_length
     returns
-    same-length-2
+    same_length_2
     returns-2)

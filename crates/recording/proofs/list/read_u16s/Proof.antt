@@ -13,32 +13,32 @@ invariant-loop line at out₀ count ok₀ next₀ i₀ out ok next i = length ou
 abbrev decreases-loop : tie.decreases-loop
 decreases-loop line at out₀ count ok₀ next₀ i₀ out ok next i = length out₀ - i
 
-read-number-requires : tie.Need-read-number-requires invariant-loop decreases-loop
-read-number-requires c κs = search rules
+read_number_requires : tie.Need-read-number-requires invariant-loop decreases-loop
+read_number_requires c κs = search rules
 
-loop-holds : tie.Need-loop-init invariant-loop decreases-loop
-loop-holds c = search rules
+loop_holds : tie.Need-loop-init invariant-loop decreases-loop
+loop_holds c = search rules
 
-read-number-requires-2 : tie.Need-read-number-requires-2 invariant-loop decreases-loop
-read-number-requires-2 c κs = search rules
+read_number_requires_2 : tie.Need-read-number-requires-2 invariant-loop decreases-loop
+read_number_requires_2 c κs = search rules
 
-narrow-requires : tie.Need-narrow-requires invariant-loop decreases-loop
-narrow-requires c κs = search rules
+narrow_requires : tie.Need-narrow-requires invariant-loop decreases-loop
+narrow_requires c κs = search rules
 
-mul-out : tie.Need-overflow-mul-out invariant-loop decreases-loop
-mul-out c = search rules
+mul_out : tie.Need-overflow-mul-out invariant-loop decreases-loop
+mul_out c = search rules
 
-slice-write-out : tie.Need-slice-write-out invariant-loop decreases-loop
-slice-write-out c = search rules
+slice_write_out : tie.Need-slice-write-out invariant-loop decreases-loop
+slice_write_out c = search rules
 
-add-i : tie.Need-overflow-add-i invariant-loop decreases-loop
-add-i c = search rules
+add_i : tie.Need-overflow-add-i invariant-loop decreases-loop
+add_i c = search rules
 
-loop-less : tie.Need-loop-smaller invariant-loop decreases-loop
-loop-less c = search rules
+loop_less : tie.Need-loop-smaller invariant-loop decreases-loop
+loop_less c = search rules
 
-loop-again : tie.Need-loop-preserved invariant-loop decreases-loop
-loop-again c = search rules
+loop_again : tie.Need-loop-preserved invariant-loop decreases-loop
+loop_again c = search rules
 
 same_length : tie.Need-same-length invariant-loop decreases-loop
 same_length c = search rules
@@ -46,28 +46,28 @@ same_length c = search rules
 returns : tie.Need-returns invariant-loop decreases-loop
 returns c = search rules
 
-same-length-2 : tie.Need-same-length-2 invariant-loop decreases-loop
-same-length-2 c = search rules
+same_length_2 : tie.Need-same-length-2 invariant-loop decreases-loop
+same_length_2 c = search rules
 
 returns-2 : tie.Need-returns-2 invariant-loop decreases-loop
 returns-2 c = search rules
 
-pub read-u16s-spec : {M : Type 1} → statement M
-read-u16s-spec =
+pub read_u16s_spec : {M : Type 1} → statement M
+read_u16s_spec =
     tie.close
     (tie.spec
     invariant-loop
     decreases-loop
-    read-number-requires
-    loop-holds
-    read-number-requires-2
-    narrow-requires
-    mul-out
-    slice-write-out
-    add-i
-    loop-less
-    loop-again
+    read_number_requires
+    loop_holds
+    read_number_requires_2
+    narrow_requires
+    mul_out
+    slice_write_out
+    add_i
+    loop_less
+    loop_again
     same_length
     returns
-    same-length-2
+    same_length_2
     returns-2)

@@ -13,29 +13,29 @@ invariant-loop line at out₀ count ok₀ next₀ i₀ out ok next i = length ou
 abbrev decreases-loop : tie.decreases-loop
 decreases-loop line at out₀ count ok₀ next₀ i₀ out ok next i = length out₀ - i
 
-read-number-requires : tie.Need-read-number-requires invariant-loop decreases-loop
-read-number-requires c κs = search rules
+read_number_requires : tie.Need-read-number-requires invariant-loop decreases-loop
+read_number_requires c κs = search rules
 
-loop-holds : tie.Need-loop-init invariant-loop decreases-loop
-loop-holds c = search rules
+loop_holds : tie.Need-loop-init invariant-loop decreases-loop
+loop_holds c = search rules
 
-read-signed-requires : tie.Need-read-signed-requires invariant-loop decreases-loop
-read-signed-requires c κs = search rules
+read_signed_requires : tie.Need-read-signed-requires invariant-loop decreases-loop
+read_signed_requires c κs = search rules
 
-mul-value : tie.Need-overflow-mul-value invariant-loop decreases-loop
-mul-value c = search rules
+mul_value : tie.Need-overflow-mul-value invariant-loop decreases-loop
+mul_value c = search rules
 
-slice-set-from-value : tie.Need-slice-set-from-value invariant-loop decreases-loop
-slice-set-from-value c = search rules
+slice_set_from_value : tie.Need-slice-set-from-value invariant-loop decreases-loop
+slice_set_from_value c = search rules
 
-add-i : tie.Need-overflow-add-i invariant-loop decreases-loop
-add-i c = search rules
+add_i : tie.Need-overflow-add-i invariant-loop decreases-loop
+add_i c = search rules
 
-loop-less : tie.Need-loop-smaller invariant-loop decreases-loop
-loop-less c = search rules
+loop_less : tie.Need-loop-smaller invariant-loop decreases-loop
+loop_less c = search rules
 
-loop-again : tie.Need-loop-preserved invariant-loop decreases-loop
-loop-again c = search rules
+loop_again : tie.Need-loop-preserved invariant-loop decreases-loop
+loop_again c = search rules
 
 same_length : tie.Need-same-length invariant-loop decreases-loop
 same_length c = search rules
@@ -43,27 +43,27 @@ same_length c = search rules
 returns : tie.Need-returns invariant-loop decreases-loop
 returns c = search rules
 
-same-length-2 : tie.Need-same-length-2 invariant-loop decreases-loop
-same-length-2 c = search rules
+same_length_2 : tie.Need-same-length-2 invariant-loop decreases-loop
+same_length_2 c = search rules
 
 returns-2 : tie.Need-returns-2 invariant-loop decreases-loop
 returns-2 c = search rules
 
-pub read-wholes-spec : {M : Type 1} → statement M
-read-wholes-spec =
+pub read_wholes_spec : {M : Type 1} → statement M
+read_wholes_spec =
     tie.close
     (tie.spec
     invariant-loop
     decreases-loop
-    read-number-requires
-    loop-holds
-    read-signed-requires
-    mul-value
-    slice-set-from-value
-    add-i
-    loop-less
-    loop-again
+    read_number_requires
+    loop_holds
+    read_signed_requires
+    mul_value
+    slice_set_from_value
+    add_i
+    loop_less
+    loop_again
     same_length
     returns
-    same-length-2
+    same_length_2
     returns-2)

@@ -10,26 +10,26 @@ invariant-loop text₀ s₀ turns₀ text s turns = Unit {0}
 abbrev decreases-loop : tie.decreases-loop
 decreases-loop text₀ s₀ turns₀ text s turns = turns
 
-loop-holds : tie.Need-loop-init invariant-loop decreases-loop
-loop-holds c = search rules
+loop_holds : tie.Need-loop-init invariant-loop decreases-loop
+loop_holds c = search rules
 
-sought-requires : tie.Need-sought-requires invariant-loop decreases-loop
-sought-requires c κs = search rules
+sought_requires : tie.Need-sought-requires invariant-loop decreases-loop
+sought_requires c κs = search rules
 
 returns : tie.Need-returns invariant-loop decreases-loop
 returns c = search rules
 
-refilled-requires : tie.Need-refilled-requires invariant-loop decreases-loop
-refilled-requires c κs = search rules
+refilled_requires : tie.Need-refilled-requires invariant-loop decreases-loop
+refilled_requires c κs = search rules
 
-sub-turns : tie.Need-overflow-sub-turns invariant-loop decreases-loop
-sub-turns c = search rules
+sub_turns : tie.Need-overflow-sub-turns invariant-loop decreases-loop
+sub_turns c = search rules
 
-loop-less : tie.Need-loop-smaller invariant-loop decreases-loop
-loop-less c = search rules
+loop_less : tie.Need-loop-smaller invariant-loop decreases-loop
+loop_less c = search rules
 
-loop-again : tie.Need-loop-preserved invariant-loop decreases-loop
-loop-again c = search rules
+loop_again : tie.Need-loop-preserved invariant-loop decreases-loop
+loop_again c = search rules
 
 last-requires : tie.Need-last-requires invariant-loop decreases-loop
 last-requires c κs = search rules
@@ -37,18 +37,18 @@ last-requires c κs = search rules
 returns-2 : tie.Need-returns-2 invariant-loop decreases-loop
 returns-2 c = search rules
 
-pub next-line-spec : {M : Type 1} → statement M
-next-line-spec =
+pub next_line_spec : {M : Type 1} → statement M
+next_line_spec =
     tie.close
     (tie.spec
     invariant-loop
     decreases-loop
-    loop-holds
-    sought-requires
+    loop_holds
+    sought_requires
     returns
-    refilled-requires
-    sub-turns
-    loop-less
-    loop-again
+    refilled_requires
+    sub_turns
+    loop_less
+    loop_again
     last-requires
     returns-2)

@@ -6,47 +6,47 @@ use borrow.Author.Tests.{ltb-true, ltb-false}
 use Rattle.recording.proofs.stream.refilled.Statement.{statement}
 use Rattle.recording.proofs.stream.refilled.Tie as tie
 
-placed-requires : tie.Need-placed-requires
-placed-requires c κs = search rules
+placed_requires : tie.Need-placed-requires
+placed_requires c κs = search rules
 
 returns : tie.Need-returns
 returns c = search rules
 
-read-behind-requires : tie.Need-read-behind-requires
-read-behind-requires c κs = search rules
+read_behind_requires : tie.Need-read-behind-requires
+read_behind_requires c κs = search rules
 
-placed-requires-2 : tie.Need-placed-requires-2
-placed-requires-2 c κs = search rules
+placed_requires_2 : tie.Need-placed-requires-2
+placed_requires_2 c κs = search rules
 
 returns-2 : tie.Need-returns-2
 returns-2 c = search rules
 
-moved-requires : tie.Need-moved-requires
-moved-requires c κs = omega (arith, ltb-true, ltb-false)
+moved_requires : tie.Need-moved-requires
+moved_requires c κs = omega (arith, ltb-true, ltb-false)
 
-read-behind-requires-2 : tie.Need-read-behind-requires-2
-read-behind-requires-2 c κs = omega (arith, ltb-true, ltb-false)
+read_behind_requires_2 : tie.Need-read-behind-requires-2
+read_behind_requires_2 c κs = omega (arith, ltb-true, ltb-false)
 
-add-placed : tie.Need-overflow-add-placed
-add-placed c = search rules
+add_placed : tie.Need-overflow-add-placed
+add_placed c = search rules
 
-placed-requires-3 : tie.Need-placed-requires-3
-placed-requires-3 c κs = search rules
+placed_requires_3 : tie.Need-placed-requires-3
+placed_requires_3 c κs = search rules
 
-returns-3 : tie.Need-returns-3
-returns-3 c = search rules
+returns_3 : tie.Need-returns-3
+returns_3 c = search rules
 
-pub refilled-spec : {M : Type 1} → statement M
-refilled-spec =
+pub refilled_spec : {M : Type 1} → statement M
+refilled_spec =
     tie.close
     (tie.spec
-    placed-requires
+    placed_requires
     returns
-    read-behind-requires
-    placed-requires-2
+    read_behind_requires
+    placed_requires_2
     returns-2
-    moved-requires
-    read-behind-requires-2
-    add-placed
-    placed-requires-3
-    returns-3)
+    moved_requires
+    read_behind_requires_2
+    add_placed
+    placed_requires_3
+    returns_3)

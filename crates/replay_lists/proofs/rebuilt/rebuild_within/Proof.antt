@@ -13,14 +13,14 @@ use Rattle.replay_lists.proofs.rebuilt.rebuild_within.Tie as tie
 first_counted : {A : Type 0} (n : ℕ) (l : List A) → n ≤ length l → n ≡ length (take n l)
 first_counted n l fits = sym (length-take-le n l fits)
 
-slice-relend-prefix-rebuild : tie.Need-slice-relend-prefix-rebuild
-slice-relend-prefix-rebuild c = search rules
+slice_relend_prefix_rebuild : tie.Need-slice-relend-prefix-rebuild
+slice_relend_prefix_rebuild c = search rules
 
-slice-aggregate-rebuild : tie.Need-slice-aggregate-rebuild
-slice-aggregate-rebuild c = search (rules, first_counted)
+slice_aggregate_rebuild : tie.Need-slice-aggregate-rebuild
+slice_aggregate_rebuild c = search (rules, first_counted)
 
-rebuild-requires : tie.Need-rebuild-requires
-rebuild-requires c κs = search rules
+rebuild_requires : tie.Need-rebuild-requires
+rebuild_requires c κs = search rules
 
 same_length : tie.Need-same-length
 same_length c = search rules
@@ -28,6 +28,6 @@ same_length c = search rules
 returns : tie.Need-returns
 returns c = search rules
 
-pub rebuild-within-spec : {M : Type 1} → statement M
-rebuild-within-spec =
-    tie.close (tie.spec slice-relend-prefix-rebuild slice-aggregate-rebuild rebuild-requires same_length returns)
+pub rebuild_within_spec : {M : Type 1} → statement M
+rebuild_within_spec =
+    tie.close (tie.spec slice_relend_prefix_rebuild slice_aggregate_rebuild rebuild_requires same_length returns)

@@ -13,14 +13,14 @@ use Rattle.replay_number.proofs.converted.convert_within.Tie as tie
 first_counted : {A : Type 0} (n : ℕ) (l : List A) → n ≤ length l → n ≡ length (take n l)
 first_counted n l fits = sym (length-take-le n l fits)
 
-slice-relend-prefix-convert-coeffs : tie.Need-slice-relend-prefix-convert-coeffs
-slice-relend-prefix-convert-coeffs c = search rules
+slice_relend_prefix_convert_coeffs : tie.Need-slice-relend-prefix-convert-coeffs
+slice_relend_prefix_convert_coeffs c = search rules
 
-slice-aggregate-convert-coeffs : tie.Need-slice-aggregate-convert-coeffs
-slice-aggregate-convert-coeffs c = search (rules, first_counted)
+slice_aggregate_convert_coeffs : tie.Need-slice-aggregate-convert-coeffs
+slice_aggregate_convert_coeffs c = search (rules, first_counted)
 
-convert-coeffs-requires : tie.Need-convert-coeffs-requires
-convert-coeffs-requires c κs = search rules
+convert_coeffs_requires : tie.Need-convert-coeffs-requires
+convert_coeffs_requires c κs = search rules
 
 same_length : tie.Need-same-length
 same_length c = search rules
@@ -28,6 +28,6 @@ same_length c = search rules
 returns : tie.Need-returns
 returns c = search rules
 
-pub convert-within-spec : {M : Type 1} → statement M
-convert-within-spec =
-    tie.close (tie.spec slice-relend-prefix-convert-coeffs slice-aggregate-convert-coeffs convert-coeffs-requires same_length returns)
+pub convert_within_spec : {M : Type 1} → statement M
+convert_within_spec =
+    tie.close (tie.spec slice_relend_prefix_convert_coeffs slice_aggregate_convert_coeffs convert_coeffs_requires same_length returns)

@@ -12,35 +12,35 @@ invariant-loop line at count out bounds ok₀ next₀ from₀ i₀ ok next from 
 abbrev decreases-loop : tie.decreases-loop
 decreases-loop line at count out bounds ok₀ next₀ from₀ i₀ ok next from i = length bounds - i
 
-match-number-requires : tie.Need-match-number-requires invariant-loop decreases-loop
-match-number-requires c κs = search rules
+match_number_requires : tie.Need-match-number-requires invariant-loop decreases-loop
+match_number_requires c κs = search rules
 
-loop-holds : tie.Need-loop-init invariant-loop decreases-loop
-loop-holds c = search rules
+loop_holds : tie.Need-loop-init invariant-loop decreases-loop
+loop_holds c = search rules
 
 mul_wide : tie.Need-overflow-mul-wide invariant-loop decreases-loop
 mul_wide c = search rules
 
-shared-slice-read-wide : tie.Need-shared-slice-read-wide invariant-loop decreases-loop
-shared-slice-read-wide c = search rules
+shared_slice_read_wide : tie.Need-shared-slice-read-wide invariant-loop decreases-loop
+shared_slice_read_wide c = search rules
 
-wide-requires : tie.Need-wide-requires invariant-loop decreases-loop
-wide-requires c κs = search rules
+wide_requires : tie.Need-wide-requires invariant-loop decreases-loop
+wide_requires c κs = search rules
 
-part-requires : tie.Need-part-requires invariant-loop decreases-loop
-part-requires c κs = search rules
+part_requires : tie.Need-part-requires invariant-loop decreases-loop
+part_requires c κs = search rules
 
-match-wholes-requires : tie.Need-match-wholes-requires invariant-loop decreases-loop
-match-wholes-requires c κs = search rules
+match_wholes_requires : tie.Need-match-wholes-requires invariant-loop decreases-loop
+match_wholes_requires c κs = search rules
 
-add-i : tie.Need-overflow-add-i invariant-loop decreases-loop
-add-i c = search rules
+add_i : tie.Need-overflow-add-i invariant-loop decreases-loop
+add_i c = search rules
 
-loop-less : tie.Need-loop-smaller invariant-loop decreases-loop
-loop-less c = search rules
+loop_less : tie.Need-loop-smaller invariant-loop decreases-loop
+loop_less c = search rules
 
-loop-again : tie.Need-loop-preserved invariant-loop decreases-loop
-loop-again c = search rules
+loop_again : tie.Need-loop-preserved invariant-loop decreases-loop
+loop_again c = search rules
 
 returns : tie.Need-returns invariant-loop decreases-loop
 returns c = search rules
@@ -48,21 +48,21 @@ returns c = search rules
 returns-2 : tie.Need-returns-2 invariant-loop decreases-loop
 returns-2 c = search rules
 
-pub match-lists-spec : {M : Type 1} → statement M
-match-lists-spec =
+pub match_lists_spec : {M : Type 1} → statement M
+match_lists_spec =
     tie.close
     (tie.spec
     invariant-loop
     decreases-loop
-    match-number-requires
-    loop-holds
+    match_number_requires
+    loop_holds
     mul_wide
-    shared-slice-read-wide
-    wide-requires
-    part-requires
-    match-wholes-requires
-    add-i
-    loop-less
-    loop-again
+    shared_slice_read_wide
+    wide_requires
+    part_requires
+    match_wholes_requires
+    add_i
+    loop_less
+    loop_again
     returns
     returns-2)

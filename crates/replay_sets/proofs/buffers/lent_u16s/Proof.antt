@@ -7,11 +7,11 @@ use Rattle.replay_sets.proofs.buffers.lent_u16s.Tie as tie
 returns : tie.Need-returns
 returns c = search rules
 
-slice-aggregate-result : tie.Need-slice-aggregate-result
-slice-aggregate-result c = search (rules, first_counted)
+slice_aggregate_result : tie.Need-slice-aggregate-result
+slice_aggregate_result c = search (rules, first_counted)
 
 returns-2 : tie.Need-returns-2
 returns-2 c = search rules
 
-pub lent-u16s-spec : {M : Type 1} → statement M
-lent-u16s-spec = tie.close (tie.spec returns slice-aggregate-result returns-2)
+pub lent_u16s_spec : {M : Type 1} → statement M
+lent_u16s_spec = tie.close (tie.spec returns slice_aggregate_result returns-2)

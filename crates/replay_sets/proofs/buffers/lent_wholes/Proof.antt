@@ -7,11 +7,11 @@ use Rattle.replay_sets.proofs.buffers.lent_wholes.Tie as tie
 returns : tie.Need-returns
 returns c = search rules
 
-slice-aggregate-result : tie.Need-slice-aggregate-result
-slice-aggregate-result c = search (rules, first_counted)
+slice_aggregate_result : tie.Need-slice-aggregate-result
+slice_aggregate_result c = search (rules, first_counted)
 
 returns-2 : tie.Need-returns-2
 returns-2 c = search rules
 
-pub lent-wholes-spec : {M : Type 1} → statement M
-lent-wholes-spec = tie.close (tie.spec returns slice-aggregate-result returns-2)
+pub lent_wholes_spec : {M : Type 1} → statement M
+lent_wholes_spec = tie.close (tie.spec returns slice_aggregate_result returns-2)

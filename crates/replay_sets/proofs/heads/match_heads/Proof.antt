@@ -10,35 +10,35 @@ invariant-loop line handed heads all₀ i₀ all i = Unit {0}
 abbrev decreases-loop : tie.decreases-loop
 decreases-loop line handed heads all₀ i₀ all i = 16 - i
 
-loop-holds : tie.Need-loop-init invariant-loop decreases-loop
-loop-holds c = search rules
+loop_holds : tie.Need-loop-init invariant-loop decreases-loop
+loop_holds c = search rules
 
-mul-member : tie.Need-overflow-mul-member invariant-loop decreases-loop
-mul-member c = search rules
+mul_member : tie.Need-overflow-mul-member invariant-loop decreases-loop
+mul_member c = search rules
 
-element-copy-out-member : tie.Need-element-copy-out-member invariant-loop decreases-loop
-element-copy-out-member c = search rules
+element_copy_out_member : tie.Need-element-copy-out-member invariant-loop decreases-loop
+element_copy_out_member c = search rules
 
-mul-head : tie.Need-overflow-mul-head invariant-loop decreases-loop
-mul-head c = search rules
+mul_head : tie.Need-overflow-mul-head invariant-loop decreases-loop
+mul_head c = search rules
 
-array-copy-out-head : tie.Need-array-copy-out-head invariant-loop decreases-loop
-array-copy-out-head c = search rules
+array_copy_out_head : tie.Need-array-copy-out-head invariant-loop decreases-loop
+array_copy_out_head c = search rules
 
-match-head-requires : tie.Need-match-head-requires invariant-loop decreases-loop
-match-head-requires c κs = search rules
+match_head_requires : tie.Need-match-head-requires invariant-loop decreases-loop
+match_head_requires c κs = search rules
 
-has-settings-requires : tie.Need-has-settings-requires invariant-loop decreases-loop
-has-settings-requires c κs = search rules
+has_settings_requires : tie.Need-has-settings-requires invariant-loop decreases-loop
+has_settings_requires c κs = search rules
 
-add-i : tie.Need-overflow-add-i invariant-loop decreases-loop
-add-i c = search rules
+add_i : tie.Need-overflow-add-i invariant-loop decreases-loop
+add_i c = search rules
 
-loop-less : tie.Need-loop-smaller invariant-loop decreases-loop
-loop-less c = search rules
+loop_less : tie.Need-loop-smaller invariant-loop decreases-loop
+loop_less c = search rules
 
-loop-again : tie.Need-loop-preserved invariant-loop decreases-loop
-loop-again c = search rules
+loop_again : tie.Need-loop-preserved invariant-loop decreases-loop
+loop_again c = search rules
 
 returns : tie.Need-returns invariant-loop decreases-loop
 returns c = search rules
@@ -46,21 +46,21 @@ returns c = search rules
 returns-2 : tie.Need-returns-2 invariant-loop decreases-loop
 returns-2 c = search rules
 
-pub match-heads-spec : {M : Type 1} → statement M
-match-heads-spec =
+pub match_heads_spec : {M : Type 1} → statement M
+match_heads_spec =
     tie.close
     (tie.spec
     invariant-loop
     decreases-loop
-    loop-holds
-    mul-member
-    element-copy-out-member
-    mul-head
-    array-copy-out-head
-    match-head-requires
-    has-settings-requires
-    add-i
-    loop-less
-    loop-again
+    loop_holds
+    mul_member
+    element_copy_out_member
+    mul_head
+    array_copy_out_head
+    match_head_requires
+    has_settings_requires
+    add_i
+    loop_less
+    loop_again
     returns
     returns-2)

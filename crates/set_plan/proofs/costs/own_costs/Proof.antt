@@ -2,51 +2,51 @@
 -- plain.
 use native.Mathlib.Omega.{arith}
 use borrow.Author.Rules.{rules}
-use Rattle.plan.proofs.HeadCounts.{ranges-at}
-use Rattle.set_plan.proofs.CountLaws.{lists-some, four-within, plains-within, costs-are}
+use Rattle.plan.proofs.HeadCounts.{ranges_at}
+use Rattle.set_plan.proofs.CountLaws.{lists_some, four_within, plains_within, costs_are}
 use Rattle.set_plan.proofs.costs.own_costs.Statement.{statement}
 use Rattle.set_plan.proofs.costs.own_costs.Tie as tie
 
-relists-requires : tie.Need-relists-requires
-relists-requires c κs = search rules
+relists_requires : tie.Need-relists-requires
+relists_requires c κs = search rules
 
-own-split-requires : tie.Need-own-split-requires
-own-split-requires c κs = search rules
+own_split_requires : tie.Need-own-split-requires
+own_split_requires c κs = search rules
 
-total-lists-requires : tie.Need-total-lists-requires
-total-lists-requires c κs =
+total_lists_requires : tie.Need-total-lists-requires
+total_lists_requires c κs =
     let start = c.before.before in
     let head = start.args.head in
-    ranges-at head.strategy head.parity head.basis head.degree start.requires.degrees c.own_split.ensures
+    ranges_at head.strategy head.parity head.basis head.degree start.requires.degrees c.own_split.ensures
 
-last-plain-requires : tie.Need-last-plain-requires
-last-plain-requires c κs = search rules
+last_plain_requires : tie.Need-last-plain-requires
+last_plain_requires c κs = search rules
 
-plain-steps-requires : tie.Need-plain-steps-requires
-plain-steps-requires c κs = search rules
+plain_steps_requires : tie.Need-plain-steps-requires
+plain_steps_requires c κs = search rules
 
-sub-cuts : tie.Need-overflow-sub-cuts
-sub-cuts c =
+sub_cuts : tie.Need-overflow-sub-cuts
+sub_cuts c =
     let four = c.before in
     let plain = four.before in
     let totals = plain.before in
     let split = totals.before in
     let leads = split.before in
-    lists-some leads.before.requires leads.relists.ensures split.own_split.ensures totals.total-lists.ensures plain.last-plain.ensures
-    four.plain-steps.ensures
+    lists_some leads.before.requires leads.relists.ensures split.own_split.ensures totals.total_lists.ensures plain.last_plain.ensures
+    four.plain_steps.ensures
 
-sub-t11 : tie.Need-overflow-sub-t11
-sub-t11 c =
+sub_t11 : tie.Need-overflow-sub-t11
+sub_t11 c =
     let four = c.before in
     let plain = four.before in
     let totals = plain.before in
     let split = totals.before in
     let leads = split.before in
-    four-within leads.before.requires leads.relists.ensures split.own_split.ensures totals.total-lists.ensures plain.last-plain.ensures
-    four.plain-steps.ensures
+    four_within leads.before.requires leads.relists.ensures split.own_split.ensures totals.total_lists.ensures plain.last_plain.ensures
+    four.plain_steps.ensures
 
-add-t12 : tie.Need-overflow-add-t12
-add-t12 c =
+add_t12 : tie.Need-overflow-add-t12
+add_t12 c =
     let four = c.before.before in
     let plain = four.before in
     let totals = plain.before in
@@ -54,8 +54,8 @@ add-t12 c =
     let leads = split.before in
     omega (
       arith,
-      plains-within leads.before.requires leads.relists.ensures split.own_split.ensures totals.total-lists.ensures
-          plain.last-plain.ensures four.plain-steps.ensures,
+      plains_within leads.before.requires leads.relists.ensures split.own_split.ensures totals.total_lists.ensures
+          plain.last_plain.ensures four.plain_steps.ensures,
     )
 
 returns : tie.Need-returns
@@ -65,19 +65,19 @@ returns c =
     let totals = plain.before in
     let split = totals.before in
     let leads = split.before in
-    costs-are leads.before.requires leads.relists.ensures split.own_split.ensures totals.total-lists.ensures plain.last-plain.ensures
-    four.plain-steps.ensures
+    costs_are leads.before.requires leads.relists.ensures split.own_split.ensures totals.total_lists.ensures plain.last_plain.ensures
+    four.plain_steps.ensures
 
-pub own-costs-spec : {M : Type 1} → statement M
-own-costs-spec =
+pub own_costs_spec : {M : Type 1} → statement M
+own_costs_spec =
     tie.close
     (tie.spec
-    relists-requires
-    own-split-requires
-    total-lists-requires
-    last-plain-requires
-    plain-steps-requires
-    sub-cuts
-    sub-t11
-    add-t12
+    relists_requires
+    own_split_requires
+    total_lists_requires
+    last_plain_requires
+    plain_steps_requires
+    sub_cuts
+    sub_t11
+    add_t12
     returns)

@@ -5,93 +5,93 @@ use Prim.Native.Nat.{◌+◌, ◌-◌, ◌*◌, ◌≤◌}
 use native.Mathlib.Omega.{arith}
 use borrow.Author.Rules.{rules}
 use lib.ListN.{take}
-use Rattle.number.specs.Limits.{countLimit}
-use Rattle.sets.specs.SetPlan.{coefficientCount, listCount, ownStepCount}
-use Rattle.sets.proofs.HeadLaws.{sizes-most}
-use Rattle.set_plan.proofs.ListLaws.{headsFrom}
-use Rattle.set_plan.proofs.CountLaws.{fits-here, coefficients-from, lists-from, steps-from, all_from, none_from, counts-none, sizes-summed}
+use Rattle.number.specs.Limits.{count_limit}
+use Rattle.sets.specs.SetPlan.{coefficient_count, list_count, own_step_count}
+use Rattle.sets.proofs.HeadLaws.{sizes_most}
+use Rattle.set_plan.proofs.ListLaws.{heads_from}
+use Rattle.set_plan.proofs.CountLaws.{fits_here, coefficients_from_lem, lists_from, steps_from_lem, all_from, none_from, counts_none, sizes_summed}
 use Rattle.set_plan.proofs.record.total_sizes.Statement.{statement}
 use Rattle.set_plan.proofs.record.total_sizes.Tie as tie
 
 abbrev invariant-loop : tie.invariant-loop
 invariant-loop count powers heads coefficients₀ lists₀ steps₀ i₀ coefficients lists steps i = record {
   within : i ≤ count;
-  coefficients-left : coefficients + coefficientCount (headsFrom i count heads) ≡ coefficientCount (take count heads);
-  lists-left : lists + listCount (headsFrom i count heads) ≡ listCount (take count heads);
-  steps-left : steps + ownStepCount (headsFrom i count heads) ≡ powers + ownStepCount (take count heads);
-  coefficients-most : coefficients ≤ countLimit * i;
-  lists-most : lists ≤ countLimit * i;
-  steps-most : steps ≤ countLimit + (countLimit + countLimit) * i;
+  coefficients_left : coefficients + coefficient_count (heads_from i count heads) ≡ coefficient_count (take count heads);
+  lists_left : lists + list_count (heads_from i count heads) ≡ list_count (take count heads);
+  steps_left : steps + own_step_count (heads_from i count heads) ≡ powers + own_step_count (take count heads);
+  coefficients_most : coefficients ≤ count_limit * i;
+  lists_most : lists ≤ count_limit * i;
+  steps_most : steps ≤ count_limit + (count_limit + count_limit) * i;
 }
 
 abbrev decreases-loop : tie.decreases-loop
 decreases-loop count powers heads coefficients₀ lists₀ steps₀ i₀ coefficients lists steps i = count - i
 
-loop-holds : tie.Need-loop-init invariant-loop decreases-loop
-loop-holds c =
+loop_holds : tie.Need-loop-init invariant-loop decreases-loop
+loop_holds c =
     let all = all_from c.args.t1 c.args.count in
     record {
       within = omega arith;
-      coefficients-left = omega (arith, ap coefficientCount all);
-      lists-left = omega (arith, ap listCount all);
-      steps-left = omega (arith, ap ownStepCount all);
-      coefficients-most = omega arith;
-      lists-most = omega arith;
-      steps-most = omega (arith, c.requires.powers-most);
+      coefficients_left = omega (arith, ap coefficient_count all);
+      lists_left = omega (arith, ap list_count all);
+      steps_left = omega (arith, ap own_step_count all);
+      coefficients_most = omega arith;
+      lists_most = omega arith;
+      steps_most = omega (arith, c.requires.powers_most);
     }
 
-mul-head : tie.Need-overflow-mul-head invariant-loop decreases-loop
-mul-head c = search rules
+mul_head : tie.Need-overflow-mul-head invariant-loop decreases-loop
+mul_head c = search rules
 
-array-copy-out-head : tie.Need-array-copy-out-head invariant-loop decreases-loop
-array-copy-out-head c = omega (arith, c.loop-test.true, c.before.before.requires.heads-fit.few)
+array_copy_out_head : tie.Need-array-copy-out-head invariant-loop decreases-loop
+array_copy_out_head c = omega (arith, c.loop-test.true, c.before.before.requires.heads_fit.few)
 
-add-coefficients : tie.Need-overflow-add-coefficients invariant-loop decreases-loop
-add-coefficients c =
+add_coefficients : tie.Need-overflow-add-coefficients invariant-loop decreases-loop
+add_coefficients c =
     let test = c.before.before in
     let loop = test.before in
-    let fit = loop.before.requires.heads-fit in
+    let fit = loop.before.requires.heads_fit in
     let below = test.loop-test.true in
-    omega (arith, loop.loop.invariant.coefficients-most, (sizes-most (fits-here fit loop.loop.i below)).coefficients, below, fit.few)
+    omega (arith, loop.loop.invariant.coefficients_most, (sizes_most (fits_here fit loop.loop.i below)).coefficients, below, fit.few)
 
-add-lists : tie.Need-overflow-add-lists invariant-loop decreases-loop
-add-lists c =
+add_lists : tie.Need-overflow-add-lists invariant-loop decreases-loop
+add_lists c =
     let test = c.before.before.before in
     let loop = test.before in
-    let fit = loop.before.requires.heads-fit in
+    let fit = loop.before.requires.heads_fit in
     let below = test.loop-test.true in
-    omega (arith, loop.loop.invariant.lists-most, (sizes-most (fits-here fit loop.loop.i below)).lists, below, fit.few)
+    omega (arith, loop.loop.invariant.lists_most, (sizes_most (fits_here fit loop.loop.i below)).lists, below, fit.few)
 
-add-steps : tie.Need-overflow-add-steps invariant-loop decreases-loop
-add-steps c =
+add_steps : tie.Need-overflow-add-steps invariant-loop decreases-loop
+add_steps c =
     let test = c.before.before.before.before in
     let loop = test.before in
-    let fit = loop.before.requires.heads-fit in
+    let fit = loop.before.requires.heads_fit in
     let below = test.loop-test.true in
-    omega (arith, loop.loop.invariant.steps-most, (sizes-most (fits-here fit loop.loop.i below)).steps, below, fit.few)
+    omega (arith, loop.loop.invariant.steps_most, (sizes_most (fits_here fit loop.loop.i below)).steps, below, fit.few)
 
-add-i : tie.Need-overflow-add-i invariant-loop decreases-loop
-add-i c = search rules
+add_i : tie.Need-overflow-add-i invariant-loop decreases-loop
+add_i c = search rules
 
-loop-less : tie.Need-loop-smaller invariant-loop decreases-loop
-loop-less c = search rules
+loop_less : tie.Need-loop-smaller invariant-loop decreases-loop
+loop_less c = search rules
 
-loop-again : tie.Need-loop-preserved invariant-loop decreases-loop
-loop-again c =
+loop_again : tie.Need-loop-preserved invariant-loop decreases-loop
+loop_again c =
     let test = c.before.before.before.before in
     let loop = test.before in
-    let fit = loop.before.requires.heads-fit in
+    let fit = loop.before.requires.heads_fit in
     let inv = loop.loop.invariant in
     let below = test.loop-test.true in
-    let most = sizes-most (fits-here fit loop.loop.i below) in
+    let most = sizes_most (fits_here fit loop.loop.i below) in
     record {
       within = omega (arith, below);
-      coefficients-left = omega (arith, inv.coefficients-left, coefficients-from fit loop.loop.i below);
-      lists-left = omega (arith, inv.lists-left, lists-from fit loop.loop.i below);
-      steps-left = omega (arith, inv.steps-left, steps-from fit loop.loop.i below);
-      coefficients-most = omega (arith, inv.coefficients-most, most.coefficients);
-      lists-most = omega (arith, inv.lists-most, most.lists);
-      steps-most = omega (arith, inv.steps-most, most.steps);
+      coefficients_left = omega (arith, inv.coefficients_left, coefficients_from_lem fit loop.loop.i below);
+      lists_left = omega (arith, inv.lists_left, lists_from fit loop.loop.i below);
+      steps_left = omega (arith, inv.steps_left, steps_from_lem fit loop.loop.i below);
+      coefficients_most = omega (arith, inv.coefficients_most, most.coefficients);
+      lists_most = omega (arith, inv.lists_most, most.lists);
+      steps_most = omega (arith, inv.steps_most, most.steps);
     }
 
 returns : tie.Need-returns invariant-loop decreases-loop
@@ -100,22 +100,22 @@ returns c =
     let start = loop.before in
     let inv = loop.loop.invariant in
     let none = none_from start.args.t1 start.args.count loop.loop.i c.loop-test.false in
-    sizes-summed start.requires (omega (arith, inv.coefficients-left, ap coefficientCount none, counts-none.0))
-    (omega (arith, inv.lists-left, ap listCount none, counts-none.1)) (omega (arith, inv.steps-left, ap ownStepCount none, counts-none.2))
+    sizes_summed start.requires (omega (arith, inv.coefficients_left, ap coefficient_count none, counts_none.0))
+    (omega (arith, inv.lists_left, ap list_count none, counts_none.1)) (omega (arith, inv.steps_left, ap own_step_count none, counts_none.2))
 
-pub total-sizes-spec : {M : Type 1} → statement M
-total-sizes-spec =
+pub total_sizes_spec : {M : Type 1} → statement M
+total_sizes_spec =
     tie.close
     (tie.spec
     invariant-loop
     decreases-loop
-    loop-holds
-    mul-head
-    array-copy-out-head
-    add-coefficients
-    add-lists
-    add-steps
-    add-i
-    loop-less
-    loop-again
+    loop_holds
+    mul_head
+    array_copy_out_head
+    add_coefficients
+    add_lists
+    add_steps
+    add_i
+    loop_less
+    loop_again
     returns)

@@ -3,74 +3,74 @@ use mathlib.Core.Path.{◌≡◌, sym, ◌∙◌}
 use native.Mathlib.Omega.{arith}
 use borrow.Author.Rules.{rules}
 use lib.ListN.{length, length-map}
-use Rattle.number.specs.Refusal.{firstRefusal}
-use Rattle.sets.specs.SetPlan.{memberLimit}
-use Rattle.sets.specs.SetSizes.{setSizesTests}
+use Rattle.number.specs.Refusal.{first_refusal}
+use Rattle.sets.specs.SetPlan.{member_limit}
+use Rattle.sets.specs.SetSizes.{set_sizes_tests}
 use Rattle.sets.specs.inside.Planning.{HandedPass}
-use Rattle.sets.proofs.HeadLaws.{heads-fit, one-basis}
-use Rattle.set_plan.proofs.SizesLaws.{settings-alike, settings-pass, sizes-refused, sizes-told}
+use Rattle.sets.proofs.HeadLaws.{heads_fit, one_basis}
+use Rattle.set_plan.proofs.SizesLaws.{settings_alike, settings_pass, sizes_refused, sizes_told}
 use Rattle.set_plan.proofs.sizes.set_sizes.Statement.{statement}
 use Rattle.set_plan.proofs.sizes.set_sizes.Tie as tie
 
 -- an array of members has all its places
-members-size : (c : tie.Start) → length c.args.members.members ≡ memberLimit
-members-size c = sym (length-map c.args.members.members _) ∙ c.well-formed.0.1.1.1.0.1.0.1
+members_size : (c : tie.Start) → length c.args.members.members ≡ member_limit
+members_size c = sym (length-map c.args.members.members _) ∙ c.well-formed.0.1.1.1.0.1.0.1
 
-accepted : (c : tie.Else1) → firstRefusal (setSizesTests c.before.before.args.members) ≡ 0
-accepted c = omega (arith, c.before.sizes-refusal.ensures, c.if1.false)
+accepted : (c : tie.Else1) → first_refusal (set_sizes_tests c.before.before.args.members) ≡ 0
+accepted c = omega (arith, c.before.sizes_refusal_lem.ensures, c.if1.false)
 
 pass : (c : tie.Else1) → HandedPass c.before.before.args.members
-pass c = settings-pass c.before.before.args.members (accepted c) (members-size c.before.before)
+pass c = settings_pass c.before.before.args.members (accepted c) (members_size c.before.before)
 
-sizes-refusal-requires : tie.Need-sizes-refusal-requires
-sizes-refusal-requires c κs = search rules
+sizes_refusal_requires : tie.Need-sizes-refusal-requires
+sizes_refusal_requires c κs = search rules
 
-no-sizes-requires : tie.Need-no-sizes-requires
-no-sizes-requires c κs = search rules
+no_sizes_requires : tie.Need-no-sizes-requires
+no_sizes_requires c κs = search rules
 
 returns : tie.Need-returns
 returns c =
     let tests = c.before.before in
-    sizes-refused tests.before.args.members tests.sizes-refusal.ensures c.before.if1.true c.no-sizes.ensures
+    sizes_refused tests.before.args.members tests.sizes_refusal_lem.ensures c.before.if1.true c.no_sizes.ensures
 
-set-heads-requires : tie.Need-set-heads-requires
-set-heads-requires c κs = pass c
+set_heads_requires : tie.Need-set-heads-requires
+set_heads_requires c κs = pass c
 
-array-copy-out-first : tie.Need-array-copy-out-first
-array-copy-out-first c = search rules
+array_copy_out_first : tie.Need-array-copy-out-first
+array_copy_out_first c = search rules
 
-common-marks-requires : tie.Need-common-marks-requires
-common-marks-requires c κs =
+common_marks_requires : tie.Need-common-marks-requires
+common_marks_requires c κs =
     let heads = c.before in
     let tests = heads.before in
-    let alikes = settings-alike tests.before.before.args.members (accepted tests) in
-    (heads-fit (pass tests) heads.set-heads.ensures, one-basis (pass tests) heads.set-heads.ensures alikes.0 alikes.1)
+    let alikes = settings_alike tests.before.before.args.members (accepted tests) in
+    (heads_fit (pass tests) heads.set_heads.ensures, one_basis (pass tests) heads.set_heads.ensures alikes.0 alikes.1)
 
-count-common-requires : tie.Need-count-common-requires
-count-common-requires c κs =
+count_common_requires : tie.Need-count-common-requires
+count_common_requires c κs =
     let heads = c.before.before in
-    (heads-fit (pass heads.before) heads.set-heads.ensures, c.common-marks.ensures)
+    (heads_fit (pass heads.before) heads.set_heads.ensures, c.common_marks.ensures)
 
-total-sizes-requires : tie.Need-total-sizes-requires
-total-sizes-requires c κs = c.count-common.ensures
+total_sizes_requires : tie.Need-total-sizes-requires
+total_sizes_requires c κs = c.count_common.ensures
 
 returns-2 : tie.Need-returns-2
 returns-2 c =
     let heads = c.before.before.before.before in
     let tests = heads.before in
     let start = tests.before.before in
-    sizes-told start.args.members (accepted tests) (members-size start) heads.set-heads.ensures c.total-sizes.ensures
+    sizes_told start.args.members (accepted tests) (members_size start) heads.set_heads.ensures c.total_sizes.ensures
 
-pub set-sizes-spec : {M : Type 1} → statement M
-set-sizes-spec =
+pub set_sizes_spec : {M : Type 1} → statement M
+set_sizes_spec =
     tie.close
     (tie.spec
-    sizes-refusal-requires
-    no-sizes-requires
+    sizes_refusal_requires
+    no_sizes_requires
     returns
-    set-heads-requires
-    array-copy-out-first
-    common-marks-requires
-    count-common-requires
-    total-sizes-requires
+    set_heads_requires
+    array_copy_out_first
+    common_marks_requires
+    count_common_requires
+    total_sizes_requires
     returns-2)

@@ -2,14 +2,14 @@
 use mathlib.Core.Path.{◌≡◌, refl, sym, ◌∙◌}
 use native.Mathlib.Omega.{arith}
 use lib.ListN.{length, length-map}
-use Rattle.sets.proofs.AheadLaws.{ahead_none, ahead-many, ahead-long, ahead_within, ahead-unlike, ahead_own}
-use Rattle.sets.specs.SetPlan.{memberLimit}
+use Rattle.sets.proofs.AheadLaws.{ahead_none, ahead_many, ahead_long, ahead_within, ahead_unlike, ahead_own}
+use Rattle.sets.specs.SetPlan.{member_limit}
 use Rattle.sets.proofs.call.ahead_refusal.Statement.{statement}
 use Rattle.sets.proofs.call.ahead_refusal.Tie as tie
 
 -- an array of members has all its places
-members-size : (c : tie.Start) → length c.args.handed.members ≡ memberLimit
-members-size c = sym (length-map c.args.handed.members _) ∙ c.well-formed.0.1.1.1.0.1.0.1
+members_size : (c : tie.Start) → length c.args.handed.members ≡ member_limit
+members_size c = sym (length-map c.args.handed.members _) ∙ c.well-formed.0.1.1.1.0.1.0.1
 
 returns : tie.Need-returns
 returns c = ahead_none c.before.args.handed c.before.args.c.now c.if1.true
@@ -17,58 +17,58 @@ returns c = ahead_none c.before.args.handed c.before.args.c.now c.if1.true
 returns-2 : tie.Need-returns-2
 returns-2 c =
     let start = c.before.before in
-    ahead-many start.args.handed start.args.c.now c.before.if1.false c.if2.true
+    ahead_many start.args.handed start.args.c.now c.before.if1.false c.if2.true
 
-lengths-fit-requires : tie.Need-lengths-fit-requires
-lengths-fit-requires c κs =
-    record { most = c.if2.false; size = members-size c.before.before }
+lengths_fit_requires : tie.Need-lengths-fit-requires
+lengths_fit_requires c κs =
+    record { most = c.if2.false; size = members_size c.before.before }
 
-returns-3 : tie.Need-returns-3
-returns-3 c =
+returns_3 : tie.Need-returns-3
+returns_3 c =
     let start = c.before.before.before.before in
-    ahead-long start.args.handed start.args.c.now c.before.before.before.if1.false c.before.before.if2.false refl
-    c.before.lengths-fit.ensures c.if3.true
+    ahead_long start.args.handed start.args.c.now c.before.before.before.if1.false c.before.before.if2.false refl
+    c.before.lengths_fit.ensures c.if3.true
 
-members-alike-requires : tie.Need-members-alike-requires
-members-alike-requires c κs =
+members_alike_requires : tie.Need-members-alike-requires
+members_alike_requires c κs =
     let some = c.before.before.before.if1.false in
-    (record { most = c.before.before.if2.false; size = members-size c.before.before.before.before }, omega arith)
+    (record { most = c.before.before.if2.false; size = members_size c.before.before.before.before }, omega arith)
 
-returns-4 : tie.Need-returns-4
-returns-4 c =
+returns_4 : tie.Need-returns-4
+returns_4 c =
     let fit = c.before.before in
     let start = fit.before.before.before.before in
-    ahead-unlike start.args.handed start.args.c.now fit.before.before.before.if1.false fit.before.before.if2.false refl
-    fit.before.lengths-fit.ensures fit.if3.false c.before.Members-Alike.ensures c.if4.true
+    ahead_unlike start.args.handed start.args.c.now fit.before.before.before.if1.false fit.before.before.if2.false refl
+    fit.before.lengths_fit.ensures fit.if3.false c.before.Members-Alike.ensures c.if4.true
 
-own-refusals-requires : tie.Need-own-refusals-requires
-own-refusals-requires c κs =
+own_refusals_requires : tie.Need-own-refusals-requires
+own_refusals_requires c κs =
     let fit = c.before.before in
     let start = fit.before.before.before.before in
     record {
-      few = record { most = fit.before.before.if2.false; size = members-size start };
+      few = record { most = fit.before.before.if2.false; size = members_size start };
       within = ahead_within start.args.handed start.args.c.now fit.before.before.before.if1.false fit.before.before.if2.false refl
-          fit.before.lengths-fit.ensures fit.if3.false;
+          fit.before.lengths_fit.ensures fit.if3.false;
       slice_is = refl;
     }
 
-returns-5 : tie.Need-returns-5
-returns-5 c =
+returns_5 : tie.Need-returns-5
+returns_5 c =
     let alike = c.before in
     let fit = alike.before.before in
     let start = fit.before.before.before.before in
     ahead_own start.args.handed start.args.c.now fit.before.before.before.if1.false fit.before.before.if2.false refl
-    fit.before.lengths-fit.ensures fit.if3.false alike.before.Members-Alike.ensures alike.if4.false c.own-refusals.ensures
+    fit.before.lengths_fit.ensures fit.if3.false alike.before.Members-Alike.ensures alike.if4.false c.own_refusals.ensures
 
-pub ahead-refusal-spec : {M : Type 1} → statement M
-ahead-refusal-spec =
+pub ahead_refusal_spec : {M : Type 1} → statement M
+ahead_refusal_spec =
     tie.close
     (tie.spec
     returns
     returns-2
-    lengths-fit-requires
-    returns-3
-    members-alike-requires
-    returns-4
-    own-refusals-requires
-    returns-5)
+    lengths_fit_requires
+    returns_3
+    members_alike_requires
+    returns_4
+    own_refusals_requires
+    returns_5)

@@ -20,12 +20,12 @@ returns-2 c =
     let start = test.before.before in
     ended _ _ counted.count.result test.if1.false counted.count.ensures.1 c.if2.true ∙ read_is _ start.ranges.got
 
-returns-3 : tie.Need-returns-3
-returns-3 c =
+returns_3 : tie.Need-returns-3
+returns_3 c =
     let counted = c.before in
     let test = counted.before in
     let start = test.before.before in
     brought _ _ counted.count.result test.if1.false counted.count.ensures.1 c.if2.false ∙ read_is _ start.ranges.got
 
-pub outcome-of-spec : {M : Type 1} → statement M
-outcome-of-spec = tie.close (tie.spec returns count-requires returns-2 returns-3)
+pub outcome_of_spec : {M : Type 1} → statement M
+outcome_of_spec = tie.close (tie.spec returns count-requires returns-2 returns_3)

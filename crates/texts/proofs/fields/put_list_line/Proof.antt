@@ -3,24 +3,24 @@
 use mathlib.Core.List.{map}
 use native.Mathlib.Omega.{arith}
 use borrow.Author.Rules.{rules}
-use Rattle.lines.specs.Bytes.{letterL}
-use Rattle.texts.specs.Decimal.{signedDecimal}
+use Rattle.lines.specs.Bytes.{letter_l}
+use Rattle.texts.specs.Decimal.{signed_decimal}
 use Rattle.texts.proofs.PutLaws.{put_then, put_same}
-use Rattle.texts.proofs.TextLaws.{line-parts}
+use Rattle.texts.proofs.TextLaws.{line_parts}
 use Rattle.texts.proofs.fields.put_list_line.Statement.{statement}
 use Rattle.texts.proofs.fields.put_list_line.Tie as tie
 
 put-requires : tie.Need-put-requires
 put-requires c κs = search rules
 
-put-signed-fields-requires : tie.Need-put-signed-fields-requires
-put-signed-fields-requires c κs = omega (arith, c.before.before.before.put.ensures.next)
+put_signed_fields_requires : tie.Need-put-signed-fields-requires
+put_signed_fields_requires c κs = omega (arith, c.before.before.before.put.ensures.next)
 
 put-requires-2 : tie.Need-put-requires-2
 put-requires-2 c κs =
     let fields = c.before.before.before in
     let first = fields.before.before.before.before in
-    omega (arith, first.put.ensures.next, fields.put-signed-fields.ensures.1)
+    omega (arith, first.put.ensures.next, fields.put_signed_fields.ensures.1)
 
 same_length : tie.Need-same-length
 same_length c = search rules
@@ -31,8 +31,8 @@ returns c =
     let fields = done.before.before.before.before in
     let first = fields.before.before.before.before in
     let a = first.before.before.before.args in
-    put_same (put_then first.put.ensures (put_then fields.put-signed-fields.ensures.0 done.put2.ensures))
-    (line-parts letterL (map signedDecimal a.c.now))
+    put_same (put_then first.put.ensures (put_then fields.put_signed_fields.ensures.0 done.put2.ensures))
+    (line_parts letter_l (map signed_decimal a.c.now))
 
-pub put-list-line-spec : {M : Type 1} → statement M
-put-list-line-spec = tie.close (tie.spec put-requires put-signed-fields-requires put-requires-2 same_length returns)
+pub put_list_line_spec : {M : Type 1} → statement M
+put_list_line_spec = tie.close (tie.spec put-requires put_signed_fields_requires put-requires-2 same_length returns)

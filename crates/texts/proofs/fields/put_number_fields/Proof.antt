@@ -4,7 +4,7 @@ use Prim.Native.Nat.{◌-◌}
 use borrow.Author.Rules.{rules}
 use lib.ListN.{length}
 use Rattle.texts.specs.Decimal.{decimal}
-use Rattle.texts.proofs.TextLaws.{FieldsSoFar, fields-start, field-ends, fields-more, fields-end}
+use Rattle.texts.proofs.TextLaws.{FieldsSoFar, fields_start, field_ends, fields_more, fields_end}
 use Rattle.texts.proofs.fields.put_number_fields.Statement.{statement}
 use Rattle.texts.proofs.fields.put_number_fields.Tie as tie
 
@@ -14,50 +14,50 @@ invariant-loop out₀ from ns at₀ i₀ out at i = FieldsSoFar decimal ns from 
 abbrev decreases-loop : tie.decreases-loop
 decreases-loop out₀ from ns at₀ i₀ out at i = length ns - i
 
-loop-holds : tie.Need-loop-init invariant-loop decreases-loop
-loop-holds c = fields-start decimal _ _ _
+loop_holds : tie.Need-loop-init invariant-loop decreases-loop
+loop_holds c = fields_start decimal _ _ _
 
-mul-put-number-field : tie.Need-overflow-mul-put-number-field invariant-loop decreases-loop
-mul-put-number-field c = search rules
+mul_put_number_field : tie.Need-overflow-mul-put-number-field invariant-loop decreases-loop
+mul_put_number_field c = search rules
 
-shared-slice-read-put-number-field : tie.Need-shared-slice-read-put-number-field invariant-loop decreases-loop
-shared-slice-read-put-number-field c = search rules
+shared_slice_read_put_number_field : tie.Need-shared-slice-read-put-number-field invariant-loop decreases-loop
+shared_slice_read_put_number_field c = search rules
 
-put-number-field-requires : tie.Need-put-number-field-requires invariant-loop decreases-loop
-put-number-field-requires c κs =
+put_number_field_requires : tie.Need-put-number-field-requires invariant-loop decreases-loop
+put_number_field_requires c κs =
     let l = c.before.before.before in
-    field-ends decimal _ _ l.loop.invariant 0 c.before.before.loop-test.true l.before.before.before.requires
+    field_ends decimal _ _ l.loop.invariant 0 c.before.before.loop-test.true l.before.before.before.requires
 
-add-i : tie.Need-overflow-add-i invariant-loop decreases-loop
-add-i c = search rules
+add_i : tie.Need-overflow-add-i invariant-loop decreases-loop
+add_i c = search rules
 
-loop-less : tie.Need-loop-smaller invariant-loop decreases-loop
-loop-less c = search rules
+loop_less : tie.Need-loop-smaller invariant-loop decreases-loop
+loop_less c = search rules
 
-loop-again : tie.Need-loop-preserved invariant-loop decreases-loop
-loop-again c =
+loop_again : tie.Need-loop-preserved invariant-loop decreases-loop
+loop_again c =
     let put = c.before.before in
     let l = put.before.before.before.before in
-    fields-more decimal _ _ l.loop.invariant 0 put.before.before.before.loop-test.true put.put-number-field.ensures
+    fields_more decimal _ _ l.loop.invariant 0 put.before.before.before.loop-test.true put.put_number_field.ensures
 
 same_length : tie.Need-same-length invariant-loop decreases-loop
 same_length c = search rules
 
 returns : tie.Need-returns invariant-loop decreases-loop
-returns c = fields-end decimal _ _ c.before.loop.invariant c.loop-test.false
+returns c = fields_end decimal _ _ c.before.loop.invariant c.loop-test.false
 
-pub put-number-fields-spec : {M : Type 1} → statement M
-put-number-fields-spec =
+pub put_number_fields_spec : {M : Type 1} → statement M
+put_number_fields_spec =
     tie.close
     (tie.spec
     invariant-loop
     decreases-loop
-    loop-holds
-    mul-put-number-field
-    shared-slice-read-put-number-field
-    put-number-field-requires
-    add-i
-    loop-less
-    loop-again
+    loop_holds
+    mul_put_number_field
+    shared_slice_read_put_number_field
+    put_number_field_requires
+    add_i
+    loop_less
+    loop_again
     same_length
     returns)

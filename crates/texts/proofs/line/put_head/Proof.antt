@@ -1,21 +1,21 @@
 -- `texts::line::put_head` meets its contract. The six numbers are those of the head, the transform by its number.
 use borrow.Author.Rules.{rules}
-use Rattle.texts.proofs.LineLaws.{head-shown}
+use Rattle.texts.proofs.LineLaws.{head_shown}
 use Rattle.texts.proofs.PutLaws.{put_same}
 use Rattle.texts.proofs.line.put_head.Statement.{statement}
 use Rattle.texts.proofs.line.put_head.Tie as tie
 
-transform-number-requires : tie.Need-transform-number-requires
-transform-number-requires c κs = search rules
+transform_number_requires : tie.Need-transform-number-requires
+transform_number_requires c κs = search rules
 
-cast-t9 : tie.Need-overflow-cast-t9
-cast-t9 c = search rules
+cast_t9 : tie.Need-overflow-cast-t9
+cast_t9 c = search rules
 
-slice-aggregate-put-numbers-line : tie.Need-slice-aggregate-put-numbers-line
-slice-aggregate-put-numbers-line c = search rules
+slice_aggregate_put_numbers_line : tie.Need-slice-aggregate-put-numbers-line
+slice_aggregate_put_numbers_line c = search rules
 
-put-numbers-line-requires : tie.Need-put-numbers-line-requires
-put-numbers-line-requires c κs = search rules
+put_numbers_line_requires : tie.Need-put-numbers-line-requires
+put_numbers_line_requires c κs = search rules
 
 same_length : tie.Need-same-length
 same_length c = search rules
@@ -25,15 +25,15 @@ returns c =
     let line = c.before.before in
     let told = line.before.before.before in
     let start = told.before.before in
-    put_same line.put-numbers-line.ensures (head-shown start.args.head told.transform-number.result told.transform-number.ensures)
+    put_same line.put_numbers_line.ensures (head_shown start.args.head told.transform_number_lem.result told.transform_number_lem.ensures)
 
-pub put-head-spec : {M : Type 1} → statement M
-put-head-spec =
+pub put_head_spec : {M : Type 1} → statement M
+put_head_spec =
     tie.close
     (tie.spec
-    transform-number-requires
-    cast-t9
-    slice-aggregate-put-numbers-line
-    put-numbers-line-requires
+    transform_number_requires
+    cast_t9
+    slice_aggregate_put_numbers_line
+    put_numbers_line_requires
     same_length
     returns)

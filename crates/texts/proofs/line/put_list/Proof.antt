@@ -6,34 +6,34 @@ use native.Mathlib.Omega.{arith}
 use borrow.Author.Rules.{rules}
 use lib.ListN.{length, get_or}
 use lib.IntN.{ℤ}
-use Rattle.texts.proofs.LineLaws.{part-line}
+use Rattle.texts.proofs.LineLaws.{part_line}
 use Rattle.texts.proofs.PutLaws.{put_same}
-use Rattle.texts.proofs.PartLaws.{part-short}
+use Rattle.texts.proofs.PartLaws.{part_short}
 use Rattle.texts.proofs.line.put_list.Statement.{statement}
 use Rattle.texts.proofs.line.put_list.Tie as tie
 
-list-start-requires : tie.Need-list-start-requires
-list-start-requires c κs = search rules
+list_start_requires : tie.Need-list-start-requires
+list_start_requires c κs = search rules
 
-mul-end : tie.Need-overflow-mul-end
-mul-end c = search rules
+mul_end : tie.Need-overflow-mul-end
+mul_end c = search rules
 
-shared-slice-read-end : tie.Need-shared-slice-read-end
-shared-slice-read-end c = search rules
+shared_slice_read_end : tie.Need-shared-slice-read-end
+shared_slice_read_end c = search rules
 
-cast-end : tie.Need-overflow-cast-end
-cast-end c = omega (arith, c.shared-slice-known2.given c.before.before.before.before.args.i)
+cast_end : tie.Need-overflow-cast-end
+cast_end c = omega (arith, c.shared_slice_known2.given c.before.before.before.before.args.i)
 
-part-between-requires : tie.Need-part-between-requires
-part-between-requires c κs = search rules
+part_between_requires : tie.Need-part-between-requires
+part_between_requires c κs = search rules
 
-put-list-line-requires : tie.Need-put-list-line-requires
-put-list-line-requires c κs =
+put_list_line_requires : tie.Need-put-list-line-requires
+put_list_line_requires c κs =
     let read = c.before.before in
     let starts = read.before in
     let a = starts.before.before.before.args in
-    let short = part-short a.c.now starts.list-start.result (get_or a.bounds.now a.i 0) in
-    (omega arith, omega (arith, ap (λ (l : List ℤ). length l) c.part-between.ensures, read.shared-slice-known2.given a.i))
+    let short = part_short a.c.now starts.list_start.result (get_or a.bounds.now a.i 0) in
+    (omega arith, omega (arith, ap (λ (l : List ℤ). length l) c.part_between.ensures, read.shared_slice_known2.given a.i))
 
 same_length : tie.Need-same-length
 same_length c = search rules
@@ -44,18 +44,18 @@ returns c =
     let part = line.before in
     let starts = part.before.before.before in
     let a = starts.before.before.before.args in
-    put_same line.put-list-line.ensures
-    (part-line a.c.now a.bounds.now a.i starts.list-start.result starts.list-start.ensures part.part-between.ensures)
+    put_same line.put_list_line.ensures
+    (part_line a.c.now a.bounds.now a.i starts.list_start.result starts.list_start.ensures part.part_between.ensures)
 
-pub put-list-spec : {M : Type 1} → statement M
-put-list-spec =
+pub put_list_spec : {M : Type 1} → statement M
+put_list_spec =
     tie.close
     (tie.spec
-    list-start-requires
-    mul-end
-    shared-slice-read-end
-    cast-end
-    part-between-requires
-    put-list-line-requires
+    list_start_requires
+    mul_end
+    shared_slice_read_end
+    cast_end
+    part_between_requires
+    put_list_line_requires
     same_length
     returns)

@@ -3,15 +3,15 @@ use mathlib.Core.Path.{◌∙◌, ap}
 use borrow.Author.Rules.{rules}
 use mir.Facts.{to_z-of_z}
 use Rattle.algebra.specs.Remainder.{rem}
-use Rattle.walk.proofs.ArithmeticLaws.{modulus-of}
+use Rattle.walk.proofs.ArithmeticLaws.{modulus_of}
 use Rattle.walk.proofs.arithmetic.point_of.Statement.{statement}
 use Rattle.walk.proofs.arithmetic.point_of.Tie as tie
 
-enum-known-arithmetic : tie.Need-enum-known-arithmetic
-enum-known-arithmetic c = search rules
+enum_known_arithmetic : tie.Need-enum-known-arithmetic
+enum_known_arithmetic c = search rules
 
-remainder-of-requires : tie.Need-remainder-of-requires
-remainder-of-requires c κs = modulus-of c.before.arithmetic.given.1 c.before.before.before.requires
+remainder_of_requires : tie.Need-remainder-of-requires
+remainder_of_requires c κs = modulus_of c.before.arithmetic.given.1 c.before.before.before.requires
 
 enum_told : tie.Need-enum-told
 enum_told c = search rules
@@ -25,5 +25,5 @@ returns c =
 returns-2 : tie.Need-returns-2
 returns-2 c = rw c.enum_told.given.1
 
-pub point-of-spec : {M : Type 1} → statement M
-point-of-spec = tie.close (tie.spec enum-known-arithmetic remainder-of-requires enum_told returns returns-2)
+pub point_of_spec : {M : Type 1} → statement M
+point_of_spec = tie.close (tie.spec enum_known_arithmetic remainder_of_requires enum_told returns returns-2)

@@ -3,14 +3,14 @@ use borrow.Author.Rules.{rules}
 use Rattle.walk.proofs.remainder.combine_mod.Statement.{statement}
 use Rattle.walk.proofs.remainder.combine_mod.Tie as tie
 
-mul-mod-requires : tie.Need-mul-mod-requires
-mul-mod-requires c κs = search rules
+mul_mod_requires : tie.Need-mul-mod-requires
+mul_mod_requires c κs = search rules
 
-add-mod-requires : tie.Need-add-mod-requires
-add-mod-requires c κs = search rules
+add_mod_requires : tie.Need-add-mod-requires
+add_mod_requires c κs = search rules
 
 returns : tie.Need-returns
 returns c = rw (c.add-mod.ensures, c.before.mul-mod.ensures)
 
-pub combine-mod-spec : {M : Type 1} → statement M
-combine-mod-spec = tie.close (tie.spec mul-mod-requires add-mod-requires returns)
+pub combine_mod_spec : {M : Type 1} → statement M
+combine_mod_spec = tie.close (tie.spec mul_mod_requires add_mod_requires returns)

@@ -5,11 +5,11 @@ use Rattle.walk.proofs.Modular.{twice}
 use Rattle.walk.proofs.remainder.twice_mod.Statement.{statement}
 use Rattle.walk.proofs.remainder.twice_mod.Tie as tie
 
-mul-mod-requires : tie.Need-mul-mod-requires
-mul-mod-requires c κs = search rules
+mul_mod_requires : tie.Need-mul-mod-requires
+mul_mod_requires c κs = search rules
 
 returns : tie.Need-returns
 returns c = c.mul-mod.ensures ∙ twice c.before.args.a c.before.requires
 
-pub twice-mod-spec : {M : Type 1} → statement M
-twice-mod-spec = tie.close (tie.spec mul-mod-requires returns)
+pub twice_mod_spec : {M : Type 1} → statement M
+twice_mod_spec = tie.close (tie.spec mul_mod_requires returns)

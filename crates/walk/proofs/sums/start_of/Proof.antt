@@ -4,29 +4,29 @@ use Prim.Native.Nat.{◌-◌}
 use native.Mathlib.Omega.{arith}
 use borrow.Author.Rules.{rules}
 use Rattle.walk.specs.Boundaries.{start_of}
-use Rattle.walk.proofs.BoundaryLaws.{start-later}
+use Rattle.walk.proofs.BoundaryLaws.{start_later}
 use Rattle.walk.proofs.sums.start_of.Statement.{statement}
 use Rattle.walk.proofs.sums.start_of.Tie as tie
 
-sub-result : tie.Need-overflow-sub-result
-sub-result c = search rules
+sub_result : tie.Need-overflow-sub-result
+sub_result c = search rules
 
-mul-result : tie.Need-overflow-mul-result
-mul-result c = search rules
+mul_result : tie.Need-overflow-mul-result
+mul_result c = search rules
 
-shared-slice-read-result : tie.Need-shared-slice-read-result
-shared-slice-read-result c = search rules
+shared_slice_read_result : tie.Need-shared-slice-read-result
+shared_slice_read_result c = search rules
 
-cast-result : tie.Need-overflow-cast-result
-cast-result c = omega (arith, c.shared-slice-known.given (c.before.before.args.i - 1))
+cast_result : tie.Need-overflow-cast-result
+cast_result c = omega (arith, c.shared_slice_known.given (c.before.before.args.i - 1))
 
 returns : tie.Need-returns
 returns c = ap (start_of c.before.args.bounds.now) (sym c.if1.true)
 
 returns-2 : tie.Need-returns-2
-returns-2 c = start-later c.before.before.args.bounds.now c.before.before.args.i c.before.if1.false
+returns-2 c = start_later c.before.before.args.bounds.now c.before.before.args.i c.before.if1.false
 
-pub start-of-spec : {M : Type 1} → statement M
-start-of-spec =
+pub start_of_spec : {M : Type 1} → statement M
+start_of_spec =
     tie.close
-    (tie.spec sub-result mul-result shared-slice-read-result cast-result returns returns-2)
+    (tie.spec sub_result mul_result shared_slice_read_result cast_result returns returns-2)

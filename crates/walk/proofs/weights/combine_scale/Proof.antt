@@ -9,5 +9,5 @@ returns c = search rules
 returns-2 : tie.Need-returns-2
 returns-2 c = search rules
 
-pub combine-scale-spec : {M : Type 1} → statement M
-combine-scale-spec = tie.close (tie.spec returns returns-2)
+pub combine_scale_spec : {M : Type 1} → statement M
+combine_scale_spec = tie.close (tie.spec returns returns-2)

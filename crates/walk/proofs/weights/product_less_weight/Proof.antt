@@ -3,14 +3,14 @@ use borrow.Author.Rules.{rules}
 use Rattle.walk.proofs.weights.product_less_weight.Statement.{statement}
 use Rattle.walk.proofs.weights.product_less_weight.Tie as tie
 
-product-weight-requires : tie.Need-product-weight-requires
-product-weight-requires c κs = search rules
+product_weight_requires : tie.Need-product-weight-requires
+product_weight_requires c κs = search rules
 
-greater-requires : tie.Need-greater-requires
-greater-requires c κs = search rules
+greater_requires : tie.Need-greater-requires
+greater_requires c κs = search rules
 
 returns : tie.Need-returns
-returns c = rw (c.greater.ensures, c.before.product-weight.ensures)
+returns c = rw (c.greater.ensures, c.before.product_weight.ensures)
 
-pub product-less-weight-spec : {M : Type 1} → statement M
-product-less-weight-spec = tie.close (tie.spec product-weight-requires greater-requires returns)
+pub product_less_weight_spec : {M : Type 1} → statement M
+product_less_weight_spec = tie.close (tie.spec product_weight_requires greater_requires returns)
