@@ -1,4 +1,4 @@
--- A power from two smaller ones (docs/RULES.md, "Steps and the walk"): X_a-as-X_b, or 2T_a·T_b − T_c with c the distance of a and b.
+-- A power from two smaller ones (docs/RULES.md, "Steps and the walk"): X_a·X_b, or 2T_a·T_b − T_c with c the distance of a and b.
 use Rattle.std.specs.Prelude.{◌≡◌, ℕ, ◌+◌}
 use Rattle.algebra.specs.Operations.{Operations, double}
 use Rattle.algebra.specs.Ring.{Ring}

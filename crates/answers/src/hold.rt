@@ -6,7 +6,7 @@ ghost use Rattle.answers.specs.inside.Pieces.{FeedFrom, Held, Taken};
 use texts::line::least;
 
 // What is taken of a block: up to where, how many bytes of the line are held then, and whether a line feed has ended it.
-#[derive(Drop)]
+#[derive(Clone, Copy)]
 pub struct Piece {
     pub next: usize,
     pub held: usize,

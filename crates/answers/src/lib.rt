@@ -1,4 +1,6 @@
 // The answers to lines of planlines, and to the lines of an input that comes in parts.
+#![tactic(auto)]
+
 pub mod answer;
 pub mod hold;
 pub mod limits;

@@ -11,7 +11,7 @@ use crate::hold::{Piece, take_piece};
 use crate::limits::TEXT_LIMIT;
 
 // How far a block is read, how many bytes of an unended line are held, and how many bytes of text are put.
-#[derive(Drop)]
+#[derive(Clone, Copy)]
 pub struct Turn {
     pub read: usize,
     pub held: usize,

@@ -3,7 +3,7 @@ ghost use Rattle.std.specs.Prelude.{◌≡◌};
 ghost use Rattle.chains.specs.Letters.{letters_at};
 
 // The letters of basis, parity and strategy.
-#[derive(Drop)]
+#[derive(Clone, Copy)]
 pub struct Letters {
     pub basis: u8,
     pub parity: u8,

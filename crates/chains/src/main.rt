@@ -1,5 +1,7 @@
 // The heaviest chain of every zero curve's plan beside the bits of the closed form, as text on standard output: degree 2 to 511, every setting without
 // folding (docs/RULES.md, "Lines of chains").
+#![tactic(auto)]
+
 mod letters;
 mod line;
 mod table;

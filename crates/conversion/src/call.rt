@@ -8,7 +8,7 @@ use super::whole::is_whole;
 use number::{Basis, copy_coeffs, degree_of, sum_fits};
 
 // What a conversion answers: 0 or the refusal, and the number of coefficients written.
-#[derive(Drop)]
+#[derive(Clone, Copy)]
 pub struct Converted {
     pub refusal: u8,
     pub count: usize,

@@ -1,4 +1,6 @@
 // A whole polynomial up to degree 20, written in the other basis.
+#![tactic(auto)]
+
 pub mod call;
 pub mod rows;
 pub mod sums;

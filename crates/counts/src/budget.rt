@@ -12,7 +12,7 @@ use super::depth::depth_threshold;
 use number::{PLAN_LIMIT, SCALE_LIMIT, bit_len, top_power};
 
 // The degree, or a refusal with zero.
-#[derive(Drop)]
+#[derive(Clone, Copy)]
 pub struct LargestDegree {
     pub refusal: u8,
     pub degree: usize,

@@ -16,21 +16,21 @@ use algebra::{Basis, Parity};
 use number::{DEGREE_LIMIT, PLAN_LIMIT, bit_len};
 
 // Least depth, or fewest multiplications.
-#[derive(Drop)]
+#[derive(Clone, Copy)]
 pub enum SplitStrategy {
     MinDepth,
     MinMult,
 }
 
 // A split, or a refusal with zero.
-#[derive(Drop)]
+#[derive(Clone, Copy)]
 pub struct SplitChoice {
     pub refusal: u8,
     pub split: usize,
 }
 
 // The pair at the chosen split, or a refusal with zeros.
-#[derive(Drop)]
+#[derive(Clone, Copy)]
 pub struct OpCounts {
     pub refusal: u8,
     pub ct: usize,
@@ -38,7 +38,7 @@ pub struct OpCounts {
 }
 
 // A split with its pair.
-#[derive(Drop)]
+#[derive(Clone, Copy)]
 pub struct Best {
     pub split: usize,
     pub pair: Pair,

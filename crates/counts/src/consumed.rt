@@ -10,7 +10,7 @@ use super::depth::depth_from_one;
 use number::{DEGREE_LIMIT, SCALE_LIMIT, bit_len, top_power};
 
 // The bits, or a refusal with zero.
-#[derive(Drop)]
+#[derive(Clone, Copy)]
 pub struct ConsumedBits {
     pub refusal: u8,
     pub bits: usize,

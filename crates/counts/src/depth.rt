@@ -9,7 +9,7 @@ use super::choice::SplitStrategy;
 use number::{DEGREE_LIMIT, bit_len, power_of_two};
 
 // The depth, or a refusal with zero.
-#[derive(Drop)]
+#[derive(Clone, Copy)]
 pub struct EvalDepth {
     pub refusal: u8,
     pub depth: usize,

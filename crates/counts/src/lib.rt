@@ -1,4 +1,6 @@
 // The choice of the split, the counts of multiplications, depth and bits, and the largest degree for a budget of bits.
+#![tactic(auto)]
+
 pub mod bound;
 pub mod budget;
 pub mod choice;

@@ -11,7 +11,7 @@ use needed::count_needed;
 use number::top_power;
 
 // The numbers of ct-ct and of pt-ct multiplications.
-#[derive(Drop)]
+#[derive(Clone, Copy)]
 pub struct Pair {
     pub ct: usize,
     pub pt: usize,

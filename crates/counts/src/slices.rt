@@ -10,7 +10,7 @@ use algebra::Parity;
 use number::{power_of_two, top_power};
 
 // How many slices, the pt-ct multiplications of all, and the degree of the last.
-#[derive(Drop)]
+#[derive(Clone, Copy)]
 pub struct Tally {
     pub slices: usize,
     pub pt: usize,

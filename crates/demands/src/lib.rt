@@ -1,1 +1,2 @@
 // The three demands, stated and proved: definitions and theorems, no code.
+#![tactic(auto)]

@@ -1,1 +1,2 @@
 // Worked examples of the definitions: statements with their proofs, no code.
+#![tactic(auto)]

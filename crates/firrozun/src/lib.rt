@@ -1,4 +1,6 @@
 // The public calls and their types, and nothing else. None asks anything of its caller; each answers a number for what it refuses.
+#![tactic(auto)]
+
 pub use conversion::{Converted, convert_coeffs};
 pub use counts::{
     ConsumedBits, EvalDepth, LargestDegree, OpCounts, SplitChoice, SplitStrategy,

@@ -10,7 +10,7 @@ use firrozun::{
 };
 
 #[repr(C)]
-#[derive(Drop)]
+#[derive(Clone, Copy)]
 pub struct CParts {
     pub refusal: u8,
     pub a: usize,
@@ -19,14 +19,14 @@ pub struct CParts {
 }
 
 #[repr(C)]
-#[derive(Drop)]
+#[derive(Clone, Copy)]
 pub struct CSplit {
     pub refusal: u8,
     pub split: usize,
 }
 
 #[repr(C)]
-#[derive(Drop)]
+#[derive(Clone, Copy)]
 pub struct CCounts {
     pub refusal: u8,
     pub ct: usize,
@@ -34,28 +34,28 @@ pub struct CCounts {
 }
 
 #[repr(C)]
-#[derive(Drop)]
+#[derive(Clone, Copy)]
 pub struct CDepth {
     pub refusal: u8,
     pub depth: usize,
 }
 
 #[repr(C)]
-#[derive(Drop)]
+#[derive(Clone, Copy)]
 pub struct CBits {
     pub refusal: u8,
     pub bits: usize,
 }
 
 #[repr(C)]
-#[derive(Drop)]
+#[derive(Clone, Copy)]
 pub struct CDegree {
     pub refusal: u8,
     pub degree: usize,
 }
 
 #[repr(C)]
-#[derive(Drop)]
+#[derive(Clone, Copy)]
 pub struct CFolded {
     pub refusal: u8,
     pub transform: u8,
@@ -64,7 +64,7 @@ pub struct CFolded {
 }
 
 #[repr(C)]
-#[derive(Drop)]
+#[derive(Clone, Copy)]
 pub struct CConverted {
     pub refusal: u8,
     pub count: usize,
@@ -72,7 +72,7 @@ pub struct CConverted {
 
 // A value, or a refusal with +0.
 #[repr(C)]
-#[derive(Drop)]
+#[derive(Clone, Copy)]
 pub struct CValue {
     pub refusal: u8,
     pub value: f64,
@@ -80,7 +80,7 @@ pub struct CValue {
 
 // An interval with its change pair, or a refusal with +0 in every field.
 #[repr(C)]
-#[derive(Drop)]
+#[derive(Clone, Copy)]
 pub struct CInterval {
     pub refusal: u8,
     pub a: f64,
@@ -90,7 +90,7 @@ pub struct CInterval {
 }
 
 #[repr(C)]
-#[derive(Drop)]
+#[derive(Clone, Copy)]
 pub struct CInterpolated {
     pub refusal: u8,
     pub count: usize,
@@ -102,7 +102,7 @@ pub struct CInterpolated {
 }
 
 #[repr(C)]
-#[derive(Drop)]
+#[derive(Clone, Copy)]
 pub struct CListed {
     pub refusal: u8,
     pub degree: usize,
@@ -112,14 +112,14 @@ pub struct CListed {
 }
 
 #[repr(C)]
-#[derive(Drop)]
+#[derive(Clone, Copy)]
 pub struct CRebuilt {
     pub refusal: u8,
     pub coefficients: usize,
 }
 
 #[repr(C)]
-#[derive(Drop)]
+#[derive(Clone, Copy)]
 pub struct CSizes {
     pub refusal: u8,
     pub coefficients: usize,
@@ -128,14 +128,14 @@ pub struct CSizes {
 }
 
 #[repr(C)]
-#[derive(Drop)]
+#[derive(Clone, Copy)]
 pub struct CTrial {
     pub refusal: u8,
     pub remainder: u64,
 }
 
 #[repr(C)]
-#[derive(Drop)]
+#[derive(Clone, Copy)]
 pub struct CChain {
     pub refusal: u8,
     pub weight: u64,

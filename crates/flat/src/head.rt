@@ -9,7 +9,7 @@ use firrozun::{
 
 // The interval with its change pair.
 #[repr(C)]
-#[derive(Drop)]
+#[derive(Clone, Copy)]
 pub struct CHeadInterval {
     pub a: f64,
     pub b: f64,
@@ -19,7 +19,7 @@ pub struct CHeadInterval {
 
 // The four kinds by their numbers. The interval stands last, so that the other fields are where they were before there was one.
 #[repr(C)]
-#[derive(Drop)]
+#[derive(Clone, Copy)]
 pub struct CHead {
     pub basis: u8,
     pub parity: u8,
@@ -37,7 +37,7 @@ pub struct CHead {
 }
 
 #[repr(C)]
-#[derive(Drop)]
+#[derive(Clone, Copy)]
 pub struct CPlanned {
     pub refusal: u8,
     pub head: CHead,

@@ -7,7 +7,7 @@ use firrozun::{MEMBERS, Member, Members};
 
 // A curve's settings by their numbers, the bounds of its interval, and how many coefficients it has.
 #[repr(C)]
-#[derive(Drop)]
+#[derive(Clone, Copy)]
 pub struct CMember {
     pub strategy: u8,
     pub parity: u8,
@@ -20,7 +20,7 @@ pub struct CMember {
 
 // The first `count` of these are the members, in order.
 #[repr(C)]
-#[derive(Drop)]
+#[derive(Clone, Copy)]
 pub struct CMembers {
     pub count: usize,
     pub members: [CMember; MEMBERS],

@@ -8,7 +8,7 @@ use firrozun::{CurveSet, MEMBERS, SetPlanned};
 // The counts of the set, the number of its power steps, and the members' heads, whose steps are counted without power steps. Heads beyond the
 // members are zero.
 #[repr(C)]
-#[derive(Drop)]
+#[derive(Clone, Copy)]
 pub struct CCurveSet {
     pub ct: usize,
     pub pt: usize,
@@ -18,7 +18,7 @@ pub struct CCurveSet {
 
 // What the set call answers: 0 or the refusal, and the set, which is all zero after a refusal.
 #[repr(C)]
-#[derive(Drop)]
+#[derive(Clone, Copy)]
 pub struct CSetPlanned {
     pub refusal: u8,
     pub set: CCurveSet,

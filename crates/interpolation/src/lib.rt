@@ -1,4 +1,6 @@
 // Chebyshev interpolation from lent nodes and values, which stand for k = n down to 1.
+#![tactic(auto)]
+
 ghost use Rattle.std.specs.Prelude.{◌≡◌, ◌<◌, ◌≤◌, length, replicate};
 ghost use Rattle.number.specs.Limits.{count_limit};
 ghost use Rattle.number.specs.Numbers.{float_ops, float_numbers};
@@ -13,7 +15,7 @@ use number::{
 };
 
 // What interpolation answers: 0 or the refusal, the number of coefficients, their parity, and the interval with its change pair.
-#[derive(Drop)]
+#[derive(Clone, Copy)]
 pub struct Interpolated {
     pub refusal: u8,
     pub count: usize,
@@ -32,7 +34,7 @@ fn clear(sums: &mut [f64])
     }
 }
 
-// One node: typeof.value.T_i(node) is added to element i.
+// One node: value·T_i(node) is added to element i.
 fn add_node(sums: &mut [f64], node: f64, value: f64)
     ensures { sums.new ≡ add_node float_ops 0 node value sums.old }
 {

@@ -1,4 +1,6 @@
 // A line of planlines: settings and whole coefficients, with tabs between them.
+#![tactic(auto)]
+
 pub mod field;
 pub mod letter;
 pub mod limits;

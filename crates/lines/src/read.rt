@@ -16,14 +16,14 @@ use algebra::{Basis, Parity};
 use counts::SplitStrategy;
 
 // The letter of a field, or 0, and where the next field begins.
-#[derive(Drop)]
+#[derive(Clone, Copy)]
 pub struct Letter {
     pub byte: u8,
     pub next: usize,
 }
 
 // The letters of the first four fields, and where the next field begins.
-#[derive(Drop)]
+#[derive(Clone, Copy)]
 pub struct Opening {
     pub basis: u8,
     pub parity: u8,
@@ -33,7 +33,7 @@ pub struct Opening {
 }
 
 // What a line says: 0 or the refusal, the settings, and the number of coefficients.
-#[derive(Drop)]
+#[derive(Clone, Copy)]
 pub struct Line {
     pub refusal: u8,
     pub basis: Basis,

@@ -7,7 +7,7 @@ use counts::{SplitStrategy, split_for_strategy};
 use number::{Basis, PLAN_LIMIT, Parity, degree_of, power_of_two};
 
 // What a list call answers: 0 or the refusal, then degree, base and the numbers of coefficients and lists, all zero after a refusal.
-#[derive(Drop)]
+#[derive(Clone, Copy)]
 pub struct Listed {
     pub refusal: u8,
     pub degree: usize,
@@ -17,7 +17,7 @@ pub struct Listed {
 }
 
 // The answer with the split that the lister goes by.
-#[derive(Drop)]
+#[derive(Clone, Copy)]
 pub struct Shape {
     pub split: usize,
     pub answer: Listed,

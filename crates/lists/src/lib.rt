@@ -1,4 +1,6 @@
 // The coefficients of a polynomial in their places, list after list, for i64 and f64.
+#![tactic(auto)]
+
 pub mod call;
 pub mod count;
 pub mod float;

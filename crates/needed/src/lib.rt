@@ -1,4 +1,6 @@
 // The powers that an evaluation needs, for planning inside.
+#![tactic(auto)]
+
 pub mod marks;
 
 pub use marks::{MARKS, baby_limit, count_marks, count_needed, needed_marks};

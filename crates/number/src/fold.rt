@@ -21,7 +21,7 @@ use crate::transform::transform_of;
 use algebra::{Basis, Parity, PolynomialInputTransform};
 
 // What a fold call answers: 0 or the refusal, the transform, the result's parity and the number of coefficients written.
-#[derive(Drop)]
+#[derive(Clone, Copy)]
 pub struct Folded {
     pub refusal: u8,
     pub transform: PolynomialInputTransform,

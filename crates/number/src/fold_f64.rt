@@ -36,7 +36,7 @@ fn odd_place_f64(c: &[f64], i: usize) -> f64
 }
 
 // Two neighbouring places of the fold.
-#[derive(Drop)]
+#[derive(Clone, Copy)]
 struct TwoPlaces {
     first: f64,
     second: f64,

@@ -1,4 +1,6 @@
 // The number layer: index splitting, factorisation, folding, evaluation.
+#![tactic(auto)]
+
 pub mod arithmetic;
 pub mod copy;
 pub mod degree;

@@ -7,7 +7,7 @@ use crate::limits::DEGREE_LIMIT;
 use crate::powers::power_below;
 
 // The two parts of an index and their distance, or a refusal with zeros.
-#[derive(Drop)]
+#[derive(Clone, Copy)]
 pub struct Parts {
     pub refusal: u8,
     pub a: usize,

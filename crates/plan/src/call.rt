@@ -13,7 +13,7 @@ use number::{Basis, Parity, change_of_basis, degree_of};
 use walk::Head;
 
 // What the plan call answers: 0 or the refusal, and the head, which is all zero after a refusal.
-#[derive(Drop)]
+#[derive(Clone, Copy)]
 pub struct Planned {
     pub refusal: u8,
     pub head: Head,

@@ -1,4 +1,6 @@
 // The plan call on whole coefficients: refusals, head, lists and steps; and the sizes of a plan before its curve is there.
+#![tactic(auto)]
+
 pub mod call;
 pub mod head;
 pub mod input;

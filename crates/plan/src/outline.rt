@@ -16,7 +16,7 @@ use needed::count_needed;
 use number::{Basis, Parity, power_of_two, top_power};
 
 // How many lists, the allowed powers from 1 up over all of them, and the length of the last.
-#[derive(Drop)]
+#[derive(Clone, Copy)]
 pub struct Totals {
     pub lists: usize,
     pub pt: usize,
@@ -24,7 +24,7 @@ pub struct Totals {
 }
 
 // The numbers that a plan's head and steps go by.
-#[derive(Drop)]
+#[derive(Clone, Copy)]
 pub struct Outline {
     pub split: usize,
     pub plain: bool,

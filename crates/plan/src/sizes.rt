@@ -8,7 +8,7 @@ use counts::SplitStrategy;
 use number::{Basis, Parity};
 
 // What the call answers: 0 or the refusal, and how many coefficients, lists and steps a plan has. They are zero after a refusal.
-#[derive(Drop)]
+#[derive(Clone, Copy)]
 pub struct PlanSizes {
     pub refusal: u8,
     pub coefficients: usize,

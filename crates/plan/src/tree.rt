@@ -8,7 +8,7 @@ use lists::{listed_again, smaller_split};
 use number::{power_of_two, top_power};
 
 // Where the writer stands: the numbers of the next list and the next step.
-#[derive(Drop)]
+#[derive(Clone, Copy)]
 pub struct Place {
     pub list: usize,
     pub step: usize,

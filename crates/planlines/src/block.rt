@@ -6,7 +6,7 @@ use crate::stream::write_text;
 use answers::take_turn;
 
 // How many bytes of an unended line are held, and whether all texts were written.
-#[derive(Drop)]
+#[derive(Clone, Copy)]
 pub struct Answered {
     pub held: usize,
     pub written: bool,

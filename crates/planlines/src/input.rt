@@ -11,14 +11,14 @@ use answers::put_end;
 use streams::BlockRead;
 
 // How many bytes of an unended line are held, and what the last read brought.
-#[derive(Drop)]
+#[derive(Clone, Copy)]
 pub struct Stopped {
     pub held: usize,
     pub last: BlockRead,
 }
 
 // What the last read brought, how many bytes of an unended line are held then, and how many bytes of text are put for them.
-#[derive(Drop)]
+#[derive(Clone, Copy)]
 pub struct Finished {
     pub last: BlockRead,
     pub held: usize,

@@ -1,4 +1,6 @@
 // Plans for the curves on standard input, one a line, as text on standard output (docs/RULES.md, "Lines of planlines").
+#![tactic(auto)]
+
 mod block;
 mod input;
 mod stream;

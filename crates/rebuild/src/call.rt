@@ -20,7 +20,7 @@ use number::{Basis, COUNT_LIMIT, PLAN_LIMIT, Parity, copy_coeffs, power_of_two};
 const SMALL_LIMIT: usize = 256;
 
 // What a rebuild call answers: 0 or the refusal, and the number of coefficients, zero after a refusal.
-#[derive(Drop)]
+#[derive(Clone, Copy)]
 pub struct Rebuilt {
     pub refusal: u8,
     pub coefficients: usize,

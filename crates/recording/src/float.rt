@@ -5,7 +5,7 @@ ghost use Rattle.std.specs.Float.Ieee.{nan_bits};
 
 use crate::field::{Word, read_pattern, read_word};
 
-#[derive(Drop)]
+#[derive(Clone, Copy)]
 pub struct Real {
     pub ok: bool,
     pub value: f64,

@@ -2,21 +2,21 @@
 use crate::field::{ends, read_letter};
 use firrozun::{Basis, Parity, SplitStrategy};
 
-#[derive(Drop)]
+#[derive(Clone, Copy)]
 pub struct BasisField {
     pub ok: bool,
     pub value: Basis,
     pub next: usize,
 }
 
-#[derive(Drop)]
+#[derive(Clone, Copy)]
 pub struct ParityField {
     pub ok: bool,
     pub value: Parity,
     pub next: usize,
 }
 
-#[derive(Drop)]
+#[derive(Clone, Copy)]
 pub struct StrategyField {
     pub ok: bool,
     pub value: SplitStrategy,

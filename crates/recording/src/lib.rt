@@ -1,6 +1,8 @@
 // Reading the oracle's recordings: one call a line, its fields parted by tabs (oracle/README.md).
 // A reader takes a line and the place where a field begins, and answers whether the field is in its form, what it says, and where the
 // next field begins. These readers serve tests alone, so their contracts say only that they are safe.
+#![tactic(auto)]
+
 mod field;
 mod float;
 mod kind;

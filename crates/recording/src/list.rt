@@ -5,7 +5,7 @@ use crate::float::{match_real, read_real};
 // This number stands in each place of a buffer before the buffer is lent to a call.
 pub const UNWRITTEN: i64 = -7;
 
-#[derive(Drop)]
+#[derive(Clone, Copy)]
 pub struct List {
     pub ok: bool,
     pub count: usize,

@@ -2,7 +2,7 @@
 use crate::field::after;
 use libc::STDOUT_FILENO;
 
-#[derive(Drop)]
+#[derive(Clone, Copy)]
 pub struct Tally {
     pub lines: usize,
     pub passed: usize,

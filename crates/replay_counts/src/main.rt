@@ -1,6 +1,8 @@
 // Replays recorded calls of the Rust on a bare degree: split choices, counts, depth and bits; and the largest degree for a budget, by the Rust's
 // bits. Each line of standard input has one call with its answer, and our answer is compared with it. Writes the number of each line that
 // does not agree, and how many do.
+#![tactic(auto)]
+
 mod budget;
 mod choice;
 mod depth;

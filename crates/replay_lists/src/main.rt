@@ -1,6 +1,8 @@
 // Replays recorded decompositions and rebuilds: each line of standard input has one call with its recorded answer, and ours is compared
 // with it. Whole lists of the Rust are also rebuilt, and must give the line's coefficients back. Writes the number of each line that does
 // not agree, and how many do.
+#![tactic(auto)]
+
 mod float;
 mod rebuilt;
 mod settings;

@@ -11,7 +11,7 @@ use recording::{
 // The places of each buffer.
 const PLACES: usize = 4200;
 
-#[derive(Drop)]
+#[derive(Clone, Copy)]
 struct Asked {
     ok: bool,
     settings: Settings,

@@ -2,7 +2,7 @@
 use firrozun::{Basis, Listed, Parity, SplitStrategy};
 use recording::{Word, match_number, read_basis, read_parity, read_strategy};
 
-#[derive(Drop)]
+#[derive(Clone, Copy)]
 pub struct Settings {
     pub ok: bool,
     pub basis: Basis,

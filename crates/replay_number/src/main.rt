@@ -1,5 +1,7 @@
 // Replays recorded calls of the Rust's number layer, and conversions to the other basis: each line of standard input has one call with its
 // recorded answer, and ours is compared with it. Writes the number of each line that does not agree, and how many do.
+#![tactic(auto)]
+
 mod converted;
 mod evaluate;
 mod fold;

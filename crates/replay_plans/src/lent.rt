@@ -5,14 +5,14 @@ use recording::{
     read_signed, read_u16s, read_wholes, read_word,
 };
 
-#[derive(Drop)]
+#[derive(Clone, Copy)]
 struct Lent {
     ok: bool,
     head: Head,
     next: usize,
 }
 
-#[derive(Drop)]
+#[derive(Clone, Copy)]
 struct Asked {
     ok: bool,
     head: Head,

@@ -1,6 +1,8 @@
 // Replays plans and trial walks: folded decompositions and intervals of the Rust, values worked out by exact arithmetic, and refusals and lent plans
 // written by hand (oracle/README.md). Of each plan the sizes that degree and settings alone decide are asked too. Writes the number of each line that
 // does not agree, and how many do.
+#![tactic(auto)]
+
 mod folded;
 mod interval;
 mod lent;

@@ -2,7 +2,7 @@
 use firrozun::{Basis, Parity, SplitStrategy};
 use recording::{read_basis, read_letter, read_parity, read_strategy};
 
-#[derive(Drop)]
+#[derive(Clone, Copy)]
 pub struct Settings {
     pub ok: bool,
     pub basis: Basis,
@@ -28,7 +28,7 @@ pub fn read_settings(line: &[u8], at: usize) -> Settings {
     }
 }
 
-#[derive(Drop)]
+#[derive(Clone, Copy)]
 pub struct Fold {
     pub ok: bool,
     pub value: bool,

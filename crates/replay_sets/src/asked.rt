@@ -4,21 +4,21 @@ use recording::{
     Word, ends, read_basis, read_letter, read_number, read_parity, read_real, read_strategy,
 };
 
-#[derive(Drop)]
+#[derive(Clone, Copy)]
 pub struct MemberField {
     pub ok: bool,
     pub value: Member,
     pub next: usize,
 }
 
-#[derive(Drop)]
+#[derive(Clone, Copy)]
 pub struct MembersField {
     pub ok: bool,
     pub value: Members,
     pub next: usize,
 }
 
-#[derive(Drop)]
+#[derive(Clone, Copy)]
 pub struct Rooms {
     pub ok: bool,
     pub room: usize,
@@ -27,7 +27,7 @@ pub struct Rooms {
     pub next: usize,
 }
 
-#[derive(Drop)]
+#[derive(Clone, Copy)]
 struct Settings {
     ok: bool,
     basis: Basis,

@@ -1,6 +1,8 @@
 // Replays calls that plan sets of curves, and calls for the sizes of such sets (oracle/README.md). Of each planned set every number of the answer, the
 // members' heads and the filled places of the buffers are compared, and the places that are not filled must be unchanged. Writes the number of each line
 // that does not agree, and how many do.
+#![tactic(auto)]
+
 mod asked;
 mod buffers;
 mod heads;

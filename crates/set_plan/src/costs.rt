@@ -13,7 +13,7 @@ use sets::marks::own_split;
 use walk::Head;
 
 // The combines of kind 3, and the multiplications with plain numbers.
-#[derive(Drop)]
+#[derive(Clone, Copy)]
 pub struct Costs {
     pub threes: usize,
     pub plains: usize,

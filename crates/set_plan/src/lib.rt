@@ -1,4 +1,6 @@
 // The call that plans a set of curves, and the sizes of a set before its curves are there.
+#![tactic(auto)]
+
 pub mod call;
 pub mod costs;
 pub mod filling;

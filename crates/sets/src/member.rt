@@ -10,7 +10,7 @@ use number::{Basis, Parity, basis_number, parity_number};
 pub const MEMBERS: usize = 16;
 
 // A curve's settings, the bounds of its interval, and how many coefficients it has.
-#[derive(Drop)]
+#[derive(Clone, Copy)]
 pub struct Member {
     pub strategy: SplitStrategy,
     pub parity: Parity,
@@ -22,7 +22,7 @@ pub struct Member {
 }
 
 // The first `count` of these are the members, in order. Their coefficients stand one after another in one slice.
-#[derive(Drop)]
+#[derive(Clone, Copy)]
 pub struct Members {
     pub count: usize,
     pub members: [Member; MEMBERS],

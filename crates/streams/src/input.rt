@@ -6,7 +6,7 @@ use crate::passing::is_passing;
 use libc::STDIN_FILENO;
 
 // What a read brought: so many bytes; none, since the input has ended; none, since reading failed.
-#[derive(Drop)]
+#[derive(Clone, Copy)]
 pub enum BlockRead {
     Bytes(usize),
     Ended,

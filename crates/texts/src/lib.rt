@@ -1,4 +1,6 @@
 // Plans and refusals as lines of text, in a lent buffer.
+#![tactic(auto)]
+
 pub mod decimal;
 pub mod fields;
 pub mod line;

@@ -26,7 +26,7 @@ pub record Rules (A : Type 0) : Type 0 where
   -- the walk's value, from the point and the value that is left
   pub output : PolynomialInputTransform → (x v : A) → A
 
--- the walk over numbers, φ taking whole numbers to them: X_a-as-X_b, 2·T_a·T_b - T_c, sums of c_j·(power j), high·(power p) + low
+-- the walk over numbers, φ taking whole numbers to them: X_a·X_b, 2·T_a·T_b - T_c, sums of c_j·(power j), high·(power p) + low
 abbrev pub rules_over : {A : Type 0} → Operations A → (φ : ℤ → A) → Rules A
 rules_over 𝓞 φ = record {
   point = φ;

@@ -6,7 +6,7 @@ use crate::remainder::{combine_mod, mul_mod, place_mod, product_less_mod, remain
 use crate::weights::{combine_weight, place_weight, product_less_weight, product_weight};
 
 // Remainders modulo a number, for the trial walk, or weights at an input scale and a coefficient scale, for the heaviest chain.
-#[derive(Drop)]
+#[derive(Clone, Copy)]
 pub enum Arithmetic {
     Remainders(u64),
     Weights(u64, u64),

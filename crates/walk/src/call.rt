@@ -14,7 +14,7 @@ use crate::sums::bounds_rise;
 use crate::transform::{input_of, output_of};
 
 // What a trial walk answers: 0 or the refusal, and the remainder, zero after a refusal.
-#[derive(Drop)]
+#[derive(Clone, Copy)]
 pub struct Trial {
     pub refusal: u8,
     pub remainder: u64,

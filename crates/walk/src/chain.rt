@@ -9,7 +9,7 @@ use crate::powers::Found;
 use number::SCALE_LIMIT;
 
 // What the call answers: 0 or the refusal, and the weight, zero after a refusal.
-#[derive(Drop)]
+#[derive(Clone, Copy)]
 pub struct Chain {
     pub refusal: u8,
     pub weight: u64,

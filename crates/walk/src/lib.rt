@@ -1,4 +1,6 @@
 // What reads a lent plan: the trial walk, which runs its steps modulo a lent modulus, and the heaviest chain, which runs them over weights.
+#![tactic(auto)]
+
 pub mod arithmetic;
 pub mod call;
 pub mod chain;

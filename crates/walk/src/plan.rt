@@ -6,7 +6,7 @@ use counts::SplitStrategy;
 use number::{Basis, Interval, Parity, PolynomialInputTransform};
 
 // What a plan is of, its costs, how many coefficients, lists and steps it has, and the interval of its polynomial, which nothing here reads.
-#[derive(Drop)]
+#[derive(Clone, Copy)]
 pub struct Head {
     pub basis: Basis,
     pub parity: Parity,
@@ -24,7 +24,7 @@ pub struct Head {
 }
 
 // A step: its kind, and three numbers that the kind gives their meaning.
-#[derive(Drop)]
+#[derive(Clone, Copy)]
 pub struct Step {
     pub kind: usize,
     pub x: usize,

@@ -13,7 +13,7 @@ use crate::limits::POWERS;
 use number::{Basis, PLAN_LIMIT, Parts, split_degree};
 
 // A number, or none.
-#[derive(Drop)]
+#[derive(Clone, Copy)]
 pub enum Found {
     Number(u64),
     Missing,
@@ -52,7 +52,7 @@ fn is_makeable(n: usize, a: usize, b: usize, parts: Parts) -> bool
     b == parts.b
 }
 
-// X_a.X_b, or 2·T_a·T_b - T_c with c the distance.
+// X_a·X_b, or 2·T_a·T_b - T_c with c the distance.
 fn power_from(
     basis: Basis,
     a: usize,

@@ -13,14 +13,14 @@ use crate::limits::WAITING;
 use crate::powers::Found;
 
 // The first `count` values wait; the last of them was pushed last.
-#[derive(Drop)]
+#[derive(Clone, Copy)]
 pub struct Waiting {
     pub values: [u64; WAITING],
     pub count: usize,
 }
 
 // What waits after a step, or a refusal.
-#[derive(Drop)]
+#[derive(Clone, Copy)]
 pub struct Turn {
     pub ok: bool,
     pub waiting: Waiting,
