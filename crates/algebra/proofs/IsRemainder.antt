@@ -39,7 +39,7 @@ is_remainder m positive (negsuc n) = record {
 rem_multiple : (m : ℕ) → 0 < m → (q : ℤ) → rem m (q *ℤ pos m) ≡ 0
 unfolding rem
 rem_multiple m positive q =
-    rem_mul m positive q (pos m) ∙ ap (λ r. (rem m q * r) % m) (mod_self m) ∙ ap (◌% m) (N.mul_zero (rem m q)) ∙ zero-mod m
+    rem_mul m positive q (pos m) ∙ ap (λ r. (rem m q * r) % m) (mod_self m) ∙ ap (◌% m) (N.mul-zero (rem m q)) ∙ zero-mod m
 
 only_remainder : (m : ℕ) → 0 < m → (z : ℤ) (r : ℕ) → IsRemainder m z r → r ≡ rem m z
 unfolding rem
