@@ -74,6 +74,10 @@ sum_scale f true a false b c C = rw (ltb_scale a b c C, diff_round f false b a c
 -- ---- the sum of two values
 pub add_value : (f : Format) (x y : Float) (s : Bool) (a : ℕ) (t : Bool) (b : ℕ) → HasValue x s a 1 → HasValue y t b 1 → add f x y ≡ sum f s a t b 1
 unfolding add
+add_value f nan y s a t b v w = elim v [ ]
+add_value f (inf _) y s a t b v w = elim v [ ]
+add_value f (fin p m e) nan s a t b v w = elim w [ ]
+add_value f (fin p m e) (inf _) s a t b v w = elim w [ ]
 add_value f (fin p m e) (fin q n d) s a t b v w =
     let c = down e * down d in
     (λ i. sum f (v.0 i) (scaled m (up e) a (down e) (down d) v.1 i) (w.0 i) (scaled_left n (up d) b (down d) (down e) w.1 i) c)
@@ -160,6 +164,8 @@ add_int f q y z h w =
 
 neg_value : (x : Float) (s : Bool) (n : ℕ) → HasValue x s n 1 → HasValue (neg x) (not s) n 1
 unfolding neg
+neg_value nan s n v = elim v [ ]
+neg_value (inf _) s n v = elim v [ ]
 neg_value (fin t m e) s n v = (ap not v.0, v.1)
 
 neg_signed : (s : Bool) (n : ℕ) → signed (not s) n ≡ neg_ℤ (signed s n)
@@ -183,6 +189,10 @@ product m u a d n v b e p q =
 pub mul_value : (f : Format) (x y : Float) (s : Bool) (a : ℕ) (t : Bool) (b : ℕ) → HasValue x s a 1 → HasValue y t b 1
     → mul f x y ≡ round f (unlike s t) (a * b) 1
 unfolding mul
+mul_value f nan y s a t b v w = elim v [ ]
+mul_value f (inf _) y s a t b v w = elim v [ ]
+mul_value f (fin p m e) nan s a t b v w = elim w [ ]
+mul_value f (fin p m e) (inf _) s a t b v w = elim w [ ]
 mul_value f (fin p m e) (fin q n d) s a t b v w =
     (λ i. round f (unlike (v.0 i) (w.0 i)) (m * up e * (n * up d)) (down e * down d))
     ∙ round_same f (unlike s t) (m * up e * (n * up d)) (down e * down d) (a * b) 1 (mul-pos (down_pos e) (down_pos d)) (zero-lt-suc 0)

@@ -1,0 +1,16 @@
+-- `answers::answer::put_answer` meets its contract. A line without the form gets the line of refusal 12. Of any other the settings and the coefficients
+-- are planned: all of them, or, where the line has more than are kept, enough to be too many.
+use mathlib.Core.Path.{ap, ◌∙◌}
+use Rattle.texts.proofs.PutLaws.{put_same}
+use Rattle.answers.specs.inside.TextFor.{text_for}
+use Rattle.answers.proofs.AnswerLaws.{line_refused, line_said}
+use Rattle.answers.proofs.answer.put_answer.Goals as goal
+
+pub returns-then-refusal-gt0 : goal.returns-then-refusal-gt0
+returns-then-refusal-gt0 c =
+    put_same c.put_refusal.ensures (line_refused c.requires.coefficient_room_lem c.read_line-read.ensures c.if-refusal-gt0.true)
+
+pub returns : goal.returns
+returns c =
+    put_same c.put_planned.ensures
+    (ap (text_for _ _ _ _) c.part_between-c.ensures ∙ line_said c.requires.coefficient_room_lem c.read_line-read.ensures c.if-refusal-gt0.false)

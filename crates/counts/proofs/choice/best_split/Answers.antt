@@ -1,0 +1,55 @@
+-- `counts::choice::best_split` meets its contract. The invariant: the best is as good as every split passed, and it begins with a split from 1 to
+-- the bit length. After the last split no split is better, so it is the smallest with the least pair.
+use Prim.Native.Nat.{◌-◌, ◌<◌}
+use native.Mathlib.Omega.{arith}
+use Rattle.number.specs.inside.Between.{Between}
+use Rattle.counts.specs.Pair.{pair_at}
+use Rattle.counts.proofs.ChoiceLaws.{depth_range}
+use Rattle.counts.proofs.BetterLaws.{begins, goes_on, ends}
+use Rattle.counts.proofs.choice.best_split.Goals as goal
+use Rattle.counts.proofs.choice.best_split.Goals.{After-min_depth-likely}
+
+-- the likely split is one of the splits
+module _ (c : After-min_depth-likely) where
+  likely_range : Between 1 c.min_depth-likely.result c.args.bits
+  likely_range =
+      let range = depth_range c.args.bits c.requires.1.from in
+      rw c.min_depth-likely.ensures range
+
+pub estimate_op_counts-pair-requires : goal.estimate_op_counts-pair-requires
+estimate_op_counts-pair-requires c =
+    let likely = likely_range (goal.at.estimate_op_counts-pair-requires c).After-min_depth-likely in
+    record { degrees = c.requires.0; splits = record { from = likely.from; to = omega (arith, c.requires.1.to) } }
+
+pub loop-split-init : goal.loop-split-init
+loop-split-init c =
+    let args = c.args in
+    let likely = likely_range (goal.at.loop-split-init c).After-min_depth-likely in (
+      omega arith,
+      omega arith,
+      begins (pair_at args.parity args.basis args.degree) args.bits _ likely.from likely.to c.estimate_op_counts-pair.ensures,
+    )
+
+pub better_at-best-requires : goal.better_at-best-requires
+better_at-best-requires c =
+    let loop = c.loop-split in (
+      record { degrees = c.requires.0; splits = record { from = loop.invariant.0; to = omega (arith, c.requires.1.to, c.loop-split-test.true) } },
+      loop.invariant.2.pair,
+    )
+
+pub loop-split-preserved : goal.loop-split-preserved
+loop-split-preserved c =
+    let loop = c.loop-split in
+    let args = c.args in (
+      omega arith,
+      omega arith,
+      goes_on (pair_at args.parity args.basis args.degree) args.bits loop.invariant.0 c.loop-split-test.true loop.invariant.2
+          c.better_at-best.ensures,
+    )
+
+pub returns : goal.returns
+returns c =
+    let loop = c.loop-split in
+    let args = c.args in
+    let past : args.bits < loop.split = omega arith in
+    ends (pair_at args.parity args.basis args.degree) args.bits past loop.invariant.2

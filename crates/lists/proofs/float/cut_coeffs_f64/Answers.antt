@@ -1,0 +1,17 @@
+-- `lists::float::cut_coeffs_f64` meets its contract. A Monomial cut leaves the coefficients as they are; a Chebyshev cut is the factorisation, whose
+-- contract says the same of that basis.
+use mathlib.Core.Path.{ap, sym, ◌∙◌}
+use Rattle.algebra.specs.Cut.{cut_at}
+use Rattle.algebra.specs.declared.Basis.{Basis}
+use Rattle.number.specs.Numbers.{float_ops}
+use Rattle.lists.proofs.float.cut_coeffs_f64.Goals as goal
+
+pub returns-in-Monomial : goal.returns-in-Monomial
+unfolding cut_at
+returns-in-Monomial c =
+    sym (ap (λ (b : Basis). cut_at float_ops b c.args.p c.args.c.now) c.in-Monomial.is)
+
+pub returns-in-Chebyshev : goal.returns-in-Chebyshev
+returns-in-Chebyshev c =
+    c.factorize_coeffs_chebyshev_f64.ensures
+    ∙ ap (λ (b : Basis). cut_at float_ops b c.args.p c.args.c.now) (sym c.in-Chebyshev.is)

@@ -1,0 +1,29 @@
+-- `needed::marks::mark_targets` meets its contract. The invariant: the places passed are filled, and no place beyond has a mark.
+-- It ends as the places up to the last, with places without marks behind them.
+use mathlib.Core.Path.{◌≡◌, ap, ◌∙◌}
+use mathlib.Core.Bool.{Bool}
+use mathlib.Core.List.{List}
+use Prim.Native.Nat.{◌+◌, ◌-◌, ◌<◌}
+use native.Mathlib.Omega.{arith}
+use lib.ListN.{set}
+use Rattle.number.specs.Limits.{count_limit}
+use Rattle.needed.specs.NeededList.{is_target}
+use Rattle.needed.proofs.PlaceLaws.{filled, fill_start, fill_step, fill_end}
+use Rattle.needed.proofs.marks.mark_targets.Goals as goal
+
+pub loop-n-init : goal.loop-n-init
+loop-n-init c = (omega arith, c.requires.1 ∙ fill_start _ count_limit)
+
+pub loop-n-preserved : goal.loop-n-preserved
+loop-n-preserved c =
+    let loop = c.loop-n in
+    let test = is_target c.args.parity c.args.top c.args.limit in
+    let inside : loop.n < count_limit = omega (arith, c.loop-n-test.true, c.requires.0) in
+    let step = fill_step test count_limit loop.n inside c.is_target.ensures in
+    (omega arith, ap (λ (marks : List Bool). set marks loop.n c.is_target.result) loop.invariant.1 ∙ step)
+
+pub returns : goal.returns
+returns c =
+    let test = is_target c.args.parity c.args.top c.args.limit in
+    let end : c.loop-n.n ≡ c.args.last + 1 = omega arith in
+    c.loop-n.invariant.1 ∙ ap (filled test count_limit) end ∙ fill_end test count_limit (c.args.last + 1)

@@ -1,0 +1,58 @@
+-- `number::fold::fold_refusal` meets its contract: it makes the definition's tests in the definition's order.
+use borrow.Author.Tests.{lt-ltb, le-ltb}
+use mathlib.Core.Path.{◌≡◌, sym, ap₂, ◌∙◌}
+use mathlib.Core.Bool.{Bool, false}
+use Prim.Native.Nat.{◌-◌}
+use native.Mathlib.Omega.{arith}
+use lib.Dec.{ltb}
+use Rattle.number.specs.Limits.{plan_limit}
+use Rattle.number.specs.Tests.{is_full, least_folded}
+use Rattle.number.specs.inside.Folding.{refusal_by}
+use Rattle.number.proofs.fold.fold_refusal.Goals as goal
+use Rattle.number.proofs.fold.fold_refusal.Goals.{After-least_folded, Else-degree-gt-PLAN_LIMIT}
+
+-- the degree is not too high
+not_high : (c : Else-degree-gt-PLAN_LIMIT) → ltb plan_limit (c.args.n - 1) ≡ false
+not_high c = le-ltb plan_limit (c.args.n - 1) (omega (arith, c.degree_of-degree.ensures, c.if-degree-gt-PLAN_LIMIT.false))
+
+-- where the least degree has been asked
+module _ (c : After-least_folded) where
+  passed : ltb plan_limit (c.args.n - 1) ≡ false
+  passed = not_high c.before.before.before
+
+  not_full : is_full c.args.parity ≡ false
+  not_full = sym c.is_full.ensures ∙ c.if-is_full.false
+
+  low : {flag : Bool} → ltb c.degree_of-degree.result c.least_folded.result ≡ flag
+      → ltb (c.args.n - 1) (least_folded c.args.parity) ≡ flag
+  low e = ap₂ ltb (sym c.degree_of-degree.ensures) (sym c.least_folded.ensures) ∙ e
+
+pub returns-then-degree-gt-PLAN_LIMIT : goal.returns-then-degree-gt-PLAN_LIMIT
+unfolding refusal_by
+returns-then-degree-gt-PLAN_LIMIT c = rw (lt-ltb plan_limit (c.args.n - 1) (omega (arith, c.degree_of-degree.ensures, c.if-degree-gt-PLAN_LIMIT.true)))
+
+pub returns-then-is_full : goal.returns-then-is_full
+unfolding refusal_by
+returns-then-is_full c = rw (not_high (goal.at.returns-then-is_full c).Else-degree-gt-PLAN_LIMIT, sym c.is_full.ensures ∙ c.if-is_full.true)
+
+pub returns-then-low : goal.returns-then-low
+unfolding refusal_by
+returns-then-low c = rw (passed (goal.at.returns-then-low c).After-least_folded, not_full (goal.at.returns-then-low c).After-least_folded, low (goal.at.returns-then-low c).After-least_folded c.if-low.true-raw)
+
+pub returns-then-wrong : goal.returns-then-wrong
+unfolding refusal_by
+returns-then-wrong c = rw (passed (goal.at.returns-then-wrong c).After-least_folded, not_full (goal.at.returns-then-wrong c).After-least_folded, low (goal.at.returns-then-wrong c).After-least_folded c.if-low.false-raw, c.if-wrong.true-raw)
+
+pub returns-then-not-small : goal.returns-then-not-small
+unfolding refusal_by
+returns-then-not-small c = rw (passed (goal.at.returns-then-not-small c).After-least_folded, not_full (goal.at.returns-then-not-small c).After-least_folded, low (goal.at.returns-then-not-small c).After-least_folded c.if-low.false-raw, c.if-wrong.false-raw, c.if-not-small.true-raw)
+
+pub returns-then-short : goal.returns-then-short
+unfolding refusal_by
+returns-then-short c =
+    rw (passed (goal.at.returns-then-short c).After-least_folded, not_full (goal.at.returns-then-short c).After-least_folded, low (goal.at.returns-then-short c).After-least_folded c.if-low.false-raw, c.if-wrong.false-raw, c.if-not-small.false-raw, c.if-short.true)
+
+pub returns-else-short : goal.returns-else-short
+unfolding refusal_by
+returns-else-short c =
+    rw (passed (goal.at.returns-else-short c).After-least_folded, not_full (goal.at.returns-else-short c).After-least_folded, low (goal.at.returns-else-short c).After-least_folded c.if-low.false-raw, c.if-wrong.false-raw, c.if-not-small.false-raw, c.if-short.false)

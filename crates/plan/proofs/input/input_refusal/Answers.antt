@@ -1,0 +1,47 @@
+-- `plan::input::input_refusal` meets its contract: a refusal of degree and settings stays whatever tests follow; where there is none, the tests of
+-- the coefficients decide, and are made in the definition's order.
+use mathlib.Core.Path.{◌≡◌, sym, ap, ◌∙◌}
+use Prim.Native.Nat.{ℕ}
+use native.Mathlib.Omega.{arith}
+use borrow.Author.Tests.{not-true, not-false}
+use Rattle.number.specs.Refusal.{first_refusal}
+use Rattle.number.specs.Tests.{degree_of}
+use Rattle.number.proofs.Refusal.{first_kept}
+use Rattle.plan.specs.PlanCall.{settings_tests, coefficient_tests, input_tests}
+use Rattle.plan.proofs.PlanTests.{late_input}
+use Rattle.plan.proofs.input.input_refusal.Goals as goal
+use Rattle.plan.proofs.input.input_refusal.Goals.{After-settings_refusal-early, Else-early-gt0}
+
+-- what the tests of degree and settings answer
+early_is : (c : After-settings_refusal-early) →
+    c.settings_refusal-early.result ≡ first_refusal (settings_tests c.args.fold c.args.parity (degree_of c.args.c.now))
+early_is c =
+    c.settings_refusal-early.ensures
+    ∙ ap (λ (d : ℕ). first_refusal (settings_tests c.args.fold c.args.parity d)) c.degree_of.ensures
+
+-- past them the coefficients decide
+late_is : (c : Else-early-gt0) →
+    first_refusal (input_tests c.args.fold c.args.parity c.args.c.now)
+    ≡ first_refusal (coefficient_tests c.args.parity c.args.c.now)
+late_is c =
+    late_input c.args.fold c.args.parity c.args.c.now (sym (early_is c.before) ∙ omega (arith, c.if-early-gt0.false))
+
+pub returns-then-early-gt0 : goal.returns-then-early-gt0
+returns-then-early-gt0 c =
+    let settings = settings_tests c.args.fold c.args.parity (degree_of c.args.c.now) in
+    early_is (goal.at.returns-then-early-gt0 c).After-settings_refusal-early
+    ∙ sym (first_kept settings (coefficient_tests c.args.parity c.args.c.now) (omega (arith, early_is (goal.at.returns-then-early-gt0 c).After-settings_refusal-early, c.if-early-gt0.true)))
+
+pub returns-then-not-has_parity : goal.returns-then-not-has_parity
+returns-then-not-has_parity c =
+    sym (late_is (goal.at.returns-then-not-has_parity c).Else-early-gt0 ∙ rw (sym c.has_parity.ensures ∙ not-true _ c.if-not-has_parity.true-raw))
+
+pub returns-then-sum_fits : goal.returns-then-sum_fits
+returns-then-sum_fits c =
+    sym (late_is (goal.at.returns-then-sum_fits c).Else-early-gt0
+    ∙ rw (sym c.has_parity.ensures ∙ not-false _ c.if-not-has_parity.false-raw, sym c.sum_fits.ensures ∙ c.if-sum_fits.true))
+
+pub returns-else-sum_fits : goal.returns-else-sum_fits
+returns-else-sum_fits c =
+    sym (late_is (goal.at.returns-else-sum_fits c).Else-early-gt0
+    ∙ rw (sym c.has_parity.ensures ∙ not-false _ c.if-not-has_parity.false-raw, sym c.sum_fits.ensures ∙ c.if-sum_fits.false))

@@ -1,0 +1,75 @@
+-- `rebuild::call::matches_settings` meets its contract. Base, boundaries and places are tested in the order of the definition. The boundaries are
+-- matched list by list along the plan tree, which answers 0 exactly if the lent ones do not begin with those of the settings.
+use mathlib.Core.Path.{◌≡◌, ap, ap₂, sym, ◌∙◌}
+use mathlib.Core.List.{List}
+use Prim.Native.Nat.{ℕ, suc, ◌≤◌, ◌<◌, ◌^◌}
+use native.Mathlib.Omega.{arith}
+use lib.ListN.{length}
+use Rattle.counts.specs.Choice.{split_for}
+use Rattle.counts.proofs.ChoiceLaws.{split_range}
+use Rattle.lists.specs.Tree.{tree_of, relists, plan_tree}
+use Rattle.lists.specs.Arrange.{ends_of}
+use Rattle.rebuild.specs.inside.Matching.{match_from}
+use Rattle.rebuild.proofs.EndsSteps as steps
+use Rattle.rebuild.proofs.RebuildTests as tests
+use Rattle.rebuild.proofs.call.matches_settings.Goals as goal
+use Rattle.rebuild.proofs.call.matches_settings.Goals.{After-match_ends, Else-base-power_of_two, Start}
+
+-- the boundaries of the settings
+abbrev ends : Start → List ℕ
+ends c =
+    let asked = c.args in
+    ends_of (plan_tree asked.strategy asked.parity asked.basis asked.degree) 0 (suc asked.degree)
+
+-- the split is small
+small : (c : Start) → c.args.split ≤ 12
+small c =
+    let asked = c.args in
+    omega (arith, c.requires.1, (split_range asked.strategy asked.parity asked.basis asked.degree c.requires.0).to)
+
+-- the base is that of the settings
+base_is : (c : Else-base-power_of_two) → let asked = c.args in
+    asked.base ≡ 2 ^ split_for asked.strategy asked.parity asked.basis asked.degree
+base_is c = c.if-base-power_of_two.false ∙ c.power_of_two.ensures ∙ ap (2 ^◌) c.requires.1
+
+-- the boundaries are looked for by the plan tree, and there are some
+match_is : (c : After-match_ends) → c.match_ends.result ≡ match_from (ends c.before.before.before.before.before) c.args.bounds.now 0
+match_is c =
+    let degree = c.args.degree in
+    c.match_ends.ensures
+    ∙ ap₂ (λ leading split. match_from (ends_of (tree_of leading degree degree split) 0 (suc degree)) c.args.bounds.now 0) c.relists.ensures
+    c.requires.1
+
+some_ends : (c : Start) → 0 < length (ends c)
+some_ends c =
+    let asked = c.args in
+    steps.some_ends (relists asked.strategy) asked.degree asked.degree
+    (split_for asked.strategy asked.parity asked.basis asked.degree) 0
+
+pub power_of_two-requires : goal.power_of_two-requires
+power_of_two-requires c = omega (arith, small (goal.at.power_of_two-requires c).Start)
+
+pub returns-then-base-power_of_two : goal.returns-then-base-power_of_two
+returns-then-base-power_of_two c =
+    let asked = c.args in
+    tests.other_base asked.strategy asked.parity asked.basis asked.degree asked.base asked.lists.now asked.bounds.now
+    (λ same. c.if-base-power_of_two.true (same ∙ ap (2 ^◌) (sym c.requires.1) ∙ sym c.power_of_two.ensures))
+
+pub match_ends-requires : goal.match_ends-requires
+match_ends-requires c =
+    let degrees = c.requires.0 in (
+      record { positive = degrees.from; whole_limit = degrees.to; part_limit = degrees.to; split_limit = small (goal.at.match_ends-requires c).Start },
+      omega (arith, degrees.to),
+    )
+
+pub returns-then-match_ends-lt1 : goal.returns-then-match_ends-lt1
+returns-then-match_ends-lt1 c =
+    let asked = c.args in
+    tests.other_ends asked.strategy asked.parity asked.basis asked.degree asked.base asked.lists.now asked.bounds.now
+    (base_is (goal.at.returns-then-match_ends-lt1 c).Else-base-power_of_two) (steps.front_other _ _ (some_ends (goal.at.returns-then-match_ends-lt1 c).Start) (match_is (goal.at.returns-then-match_ends-lt1 c).After-match_ends) c.if-match_ends-lt1.true)
+
+pub returns : goal.returns
+returns c =
+    let asked = c.args in
+    tests.by_places asked.strategy asked.parity asked.basis asked.degree asked.base asked.lists.now asked.bounds.now
+    (base_is (goal.at.returns c).Else-base-power_of_two) (steps.front_same _ _ (some_ends (goal.at.returns c).Start) (match_is (goal.at.returns c).After-match_ends) c.if-match_ends-lt1.false)

@@ -1,0 +1,103 @@
+-- `rebuild::call::rebuild` meets its contract. It makes the first three tests in their order, and `rebuild_in_scratch` makes the last two and writes. The
+-- refusal of that one is then the call's.
+use mathlib.Core.Path.{◌≡◌, ap, sym, ◌∙◌}
+use mathlib.Core.Bool.{true}
+use Prim.Native.Nat.{suc, ◌+◌, ◌≤◌}
+use native.Mathlib.Numerals.{add-one}
+use native.Mathlib.Omega.{arith}
+use borrow.Author.Tests.{not-true, not-false}
+use lib.ListN.{length, take}
+use lib.Seq.{length-take-le}
+use Rattle.number.specs.Limits.{plan_limit}
+use Rattle.number.specs.inside.Between.{Between}
+use Rattle.counts.proofs.ChoiceLaws.{split_range}
+use Rattle.rebuild.specs.RebuildCall.{matches_settings, coefficients_from}
+use Rattle.rebuild.specs.inside.Rebuilding.{Written}
+use Rattle.rebuild.proofs.RebuildTests as tests
+use Rattle.rebuild.proofs.call.rebuild.Goals as goal
+use Rattle.rebuild.proofs.call.rebuild.Goals.{After-rebuild_in_scratch-refusal, Else-degree-eq0, Else-not-matches_settings}
+
+-- the degree is within the limits
+degrees : (c : Else-degree-eq0) → Between 1 c.args.degree plan_limit
+degrees c = record { from = omega arith; to = omega arith }
+
+-- the lists have the settings
+has : (c : Else-not-matches_settings) → let asked = c.args in
+    matches_settings asked.strategy asked.parity asked.basis asked.degree asked.base asked.lists.now asked.bounds.now ≡ true
+has c = sym c.matches_settings.ensures ∙ not-false _ c.if-not-matches_settings.false-raw
+
+-- so there is a number for each coefficient
+places : (c : Else-not-matches_settings) → let asked = c.args in asked.degree + 1 ≤ length asked.lists.now
+places c =
+    let asked = c.args in
+    let settings = tests.settings_of asked.strategy asked.parity asked.basis asked.degree asked.base asked.lists.now asked.bounds.now
+    (has c) in
+    omega (arith, settings.places)
+
+-- the first so many numbers are there
+size : (c : Else-not-matches_settings) → let asked = c.args in length (take (asked.degree + 1) asked.lists.now) ≡ asked.degree + 1
+size c = let asked = c.args in length-take-le (asked.degree + 1) asked.lists.now (places c)
+
+-- what the call below answers and writes
+written : (c : After-rebuild_in_scratch-refusal) → let asked = c.args in
+    Written (coefficients_from asked.strategy asked.parity asked.basis asked.degree asked.lists.now) (suc asked.degree) asked.out.now
+    c.rebuild_in_scratch-refusal.result c.rebuild_in_scratch-refusal.new.out
+written c =
+    let asked = c.args in
+    tests.written_from asked.strategy asked.parity asked.basis asked.degree asked.base asked.lists.now asked.bounds.now
+    (add-one asked.degree) (places c.before.before) c.split_for_strategy-split.ensures c.rebuild_in_scratch-refusal.ensures
+
+pub returns-then-degree-gt-PLAN_LIMIT : goal.returns-then-degree-gt-PLAN_LIMIT
+returns-then-degree-gt-PLAN_LIMIT c =
+    let asked = c.args in
+    tests.refused_high asked.strategy asked.parity asked.basis asked.degree asked.base asked.lists.now asked.bounds.now
+    asked.out.now c.if-degree-gt-PLAN_LIMIT.true c.refused.ensures
+
+pub returns-then-degree-eq0 : goal.returns-then-degree-eq0
+returns-then-degree-eq0 c =
+    let asked = c.args in
+    tests.refused_none asked.strategy asked.parity asked.basis asked.degree asked.base asked.lists.now asked.bounds.now
+    asked.out.now c.if-degree-eq0.true c.refused-then-degree-eq0.ensures
+
+pub split_for_strategy-split-requires : goal.split_for_strategy-split-requires
+split_for_strategy-split-requires c = degrees (goal.at.split_for_strategy-split-requires c).Else-degree-eq0
+
+pub matches_settings-requires : goal.matches_settings-requires
+matches_settings-requires c = (degrees (goal.at.matches_settings-requires c).Else-degree-eq0, c.split_for_strategy-split.ensures)
+
+pub returns-then-not-matches_settings : goal.returns-then-not-matches_settings
+returns-then-not-matches_settings c =
+    let asked = c.args in
+    tests.refused_settings asked.strategy asked.parity asked.basis asked.degree asked.base asked.lists.now asked.bounds.now
+    asked.out.now (degrees (goal.at.returns-then-not-matches_settings c).Else-degree-eq0) (sym c.matches_settings.ensures ∙ not-true _ c.if-not-matches_settings.true-raw)
+    c.refused-then-not-matches_settings.ensures
+
+pub overflow_add-n : goal.overflow_add-n
+overflow_add-n c = let few = degrees (goal.at.overflow_add-n c).Else-degree-eq0 in record { fits = omega (arith, few.to) }
+
+pub slice_bounds-rebuild_in_scratch-end : goal.slice_bounds-rebuild_in_scratch-end
+slice_bounds-rebuild_in_scratch-end c = sym (size (goal.at.slice_bounds-rebuild_in_scratch-end c).After-matches_settings)
+
+pub rebuild_in_scratch-refusal-requires : goal.rebuild_in_scratch-refusal-requires
+rebuild_in_scratch-refusal-requires c =
+    let asked = c.args in
+    let few = degrees (goal.at.rebuild_in_scratch-refusal-requires c).Else-degree-eq0 in
+    let range = split_range asked.strategy asked.parity asked.basis asked.degree few in
+    let count = size (goal.at.rebuild_in_scratch-refusal-requires c).After-matches_settings in
+    record {
+      degrees = record { from = omega (arith, count, few.from); to = omega (arith, count, few.to) };
+      split_limit = omega (arith, c.split_for_strategy-split.ensures, range.to);
+    }
+
+pub returns-then-refusal-gt0 : goal.returns-then-refusal-gt0
+returns-then-refusal-gt0 c =
+    let asked = c.args in
+    tests.refused_last asked.strategy asked.parity asked.basis asked.degree asked.base asked.lists.now asked.bounds.now
+    asked.out.now (degrees (goal.at.returns-then-refusal-gt0 c).Else-degree-eq0) (has (goal.at.returns-then-refusal-gt0 c).Else-not-matches_settings) (written (goal.at.returns-then-refusal-gt0 c).After-rebuild_in_scratch-refusal) c.if-refusal-gt0.true c.refused-then-refusal-gt0.ensures
+
+pub returns : goal.returns
+returns c =
+    let asked = c.args in
+    tests.call_made asked.strategy asked.parity asked.basis asked.degree asked.base asked.lists.now asked.bounds.now
+    asked.out.now (degrees (goal.at.returns c).Else-degree-eq0) (has (goal.at.returns c).Else-not-matches_settings) (written (goal.at.returns c).After-rebuild_in_scratch-refusal) (omega arith)
+    (ap (λ n. record { refusal = 0; coefficients = n }) (add-one asked.degree))

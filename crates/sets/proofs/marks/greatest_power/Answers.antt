@@ -1,0 +1,60 @@
+-- `sets::marks::greatest_power` meets its contract. The invariant: none of the first i members may need a power above the greatest so far.
+use mathlib.Core.Path.{◌≡◌, ◌∙◌, ap, subst}
+use mathlib.Core.Logic.{⊎_elim}
+use Prim.Native.Nat.{ℕ, ◌-◌, ◌≤◌, ◌<◌}
+use native.Mathlib.Omega.{arith}
+use lib.ListN.{length, get_or, take}
+use Rattle.needed.specs.inside.Marks.{greatest_target}
+use Rattle.needed.proofs.NeededMarks.{greatest_within_lem}
+use Rattle.plan.proofs.HeadCounts.{planned_at}
+use Rattle.sets.specs.Own.{own_split}
+use Rattle.sets.specs.inside.Heads.{HeadFits, PowersTo}
+use Rattle.sets.proofs.Arrays.{any_head, each_at}
+use Rattle.sets.proofs.MarkingLaws.{powers_none, powers_more}
+use Rattle.sets.proofs.marks.greatest_power.Goals as goal
+use Rattle.sets.proofs.marks.greatest_power.Goals.{After-head-1}
+
+pub loop-i-init : goal.loop-i-init
+loop-i-init c = record { within = omega arith; most = omega arith; upto = powers_none c.args.t1 }
+
+fits : (c : After-head-1) →
+    HeadFits (get_or c.args.t1 c.loop-i.i any_head)
+fits c =
+    let heads = c.args.t1 in
+    let i = c.loop-i.i in
+    let below = c.loop-i-test.true in
+    let inside : i < length heads = omega (arith, c.requires.few, c.requires.size) in
+    each_at any_head HeadFits c.args.count i heads below inside c.requires.each
+
+pub own_split-requires : goal.own_split-requires
+own_split-requires c = fits (goal.at.own_split-requires c).After-head-1
+
+pub greatest_target-power-requires : goal.greatest_target-power-requires
+greatest_target-power-requires c =
+    let head = get_or c.args.t1 c.loop-i.i any_head in
+    planned_at head.strategy head.parity head.basis head.degree (fits (goal.at.greatest_target-power-requires c).After-head-1).degrees c.own_split.ensures
+
+pub loop-i-preserved : goal.loop-i-preserved
+loop-i-preserved c =
+    let heads = c.args.t1 in
+    let i = c.loop-i.i in
+    let head = get_or heads i any_head in
+    let below = c.loop-i-test.true in
+    let inside : i < length heads = omega (arith, c.requires.few, c.requires.size) in
+    let own : c.greatest_target-power.result ≡ greatest_target head.degree (own_split head) =
+    c.greatest_target-power.ensures ∙ ap (greatest_target head.degree) c.own_split.ensures in
+    let within = greatest_within_lem head.degree (own_split head) (fits (goal.at.loop-i-preserved c).After-head-1).degrees.from in
+    let grows : c.loop-i.greatest ≤ c.if-greatest-power.greatest =
+    ⊎_elim (λ came. omega (arith, came.0.taken, came.1)) (λ came. omega (arith, came.1)) c.if-greatest-power.branch in
+    let holds : greatest_target head.degree (own_split head) ≤ c.if-greatest-power.greatest =
+    ⊎_elim (λ came. omega (arith, came.1, own)) (λ came. omega (arith, came.0.left, came.1, own)) c.if-greatest-power.branch in
+    record {
+      within = omega (arith, below);
+      most = ⊎_elim (λ came. omega (arith, came.1, own, within, (fits (goal.at.loop-i-preserved c).After-head-1).degrees.to)) (λ came. omega (arith, came.1, c.loop-i.invariant.most)) c.if-greatest-power.branch;
+      upto = powers_more heads i inside c.loop-i.invariant.upto grows holds;
+    }
+
+pub returns : goal.returns
+returns c =
+    let all : c.loop-i.i ≡ c.args.count = omega (arith, c.loop-i.invariant.within, c.loop-i-test.false) in
+    (subst (λ (n : ℕ). PowersTo c.loop-i.greatest (take n c.args.t1)) all c.loop-i.invariant.upto, c.loop-i.invariant.most)

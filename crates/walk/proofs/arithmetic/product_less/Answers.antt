@@ -1,0 +1,12 @@
+-- `walk::arithmetic::product_less` meets its contract. Of remainders and of weights it is what their own rule makes.
+use Rattle.walk.proofs.ArithmeticLaws.{modulus_of}
+use Rattle.walk.proofs.arithmetic.product_less.Goals as goal
+
+pub product_less_mod-requires : goal.product_less_mod-requires
+product_less_mod-requires c = modulus_of c.in-Remainders.is c.requires
+
+pub returns-in-Remainders : goal.returns-in-Remainders
+returns-in-Remainders c = rw c.in-Remainders.is c.product_less_mod.ensures
+
+pub returns-in-Weights : goal.returns-in-Weights
+returns-in-Weights c = rw c.in-Weights.is c.product_less_weight.ensures

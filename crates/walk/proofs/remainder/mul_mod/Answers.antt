@@ -1,0 +1,23 @@
+-- `walk::remainder::mul_mod` meets its contract. The remainders are below m, so their product fits. Reducing them first does not change the
+-- result.
+use Rattle.walk.proofs.Modular.{product_fits, mul_reduced}
+use borrow.Author.Rules.{rules}
+use Rattle.walk.proofs.remainder.mul_mod.Goals as goal
+
+-- TODO need nonzero-rem-result
+rem_result : tie.Need-nonzero-rem-result
+rem_result c = search rules
+
+-- TODO need nonzero-rem-result-2
+rem_result_2 : tie.Need-nonzero-rem-result-2
+rem_result_2 c = search rules
+
+pub overflow_mul-result : goal.overflow_mul-result
+overflow_mul-result c = record { fits = product_fits c.args.a c.args.b c.requires }
+
+-- TODO need nonzero-rem-result-3
+rem_result_3 : tie.Need-nonzero-rem-result-3
+rem_result_3 c = search rules
+
+pub returns : goal.returns
+returns c = mul_reduced c.args.a c.args.b c.args.m

@@ -1,0 +1,16 @@
+-- `walk::sums::start_of` meets its contract. The first list starts at 0, and any other where the one before it ends.
+use mathlib.Core.Path.{sym, ap}
+use Prim.Native.Nat.{◌-◌}
+use native.Mathlib.Omega.{arith}
+use Rattle.walk.specs.Boundaries.{start_of}
+use Rattle.walk.proofs.BoundaryLaws.{start_later}
+use Rattle.walk.proofs.sums.start_of.Goals as goal
+
+pub overflow_cast-result : goal.overflow_cast-result
+overflow_cast-result c = omega (arith, c.shared_slice_known-1.given (c.args.i - 1))
+
+pub returns-then-i-eq0 : goal.returns-then-i-eq0
+returns-then-i-eq0 c = ap (start_of c.args.bounds.now) (sym c.if-i-eq0.true)
+
+pub returns-else-i-eq0 : goal.returns-else-i-eq0
+returns-else-i-eq0 c = start_later c.args.bounds.now c.args.i c.if-i-eq0.false
