@@ -22,7 +22,7 @@ returns-then-not-leading c =
     (λ low. sym (not_leading leading whole degree split (not-true leading low.taken)))
     (⊎_elim (λ none. sym (constant leading whole degree split (omega (arith, ltb-true))))
     (λ least. sym (least_split leading whole degree split (omega (arith, ltb-true)))))
-    c.then-not-leading.branch
+    c.then-not-leading.either
 
 pub returns-then-split-smaller_split : goal.returns-then-split-smaller_split
 returns-then-split-smaller_split c =

@@ -25,7 +25,7 @@ loop-n-preserved c =
     (λ came.
     let mark : cond {A = ℕ} (get_or marks n false) 1 0 ≡ 0 = ap (λ (b : Bool). cond {A = ℕ} b 1 0) came.0.left in
     (omega arith, omega arith, omega arith))
-    c.if-marks-n.branch
+    c.if-marks-n.either
 
 pub returns : goal.returns
 returns c =

@@ -51,6 +51,6 @@ returns c =
     (λ came.
     came.4 ∙ came.3.ensures ∙ ap (λ (x : Parts). mark_at x.distance marks) parts_are
     ∙ sym (apart_chebyshev n marks came.1.given.1))
-    c.match-basis.branch in
+    c.match-basis.either in
     c.mark-3.ensures ∙ ap (mark_at parts.b) (c.mark-2.ensures ∙ ap (mark_at parts.a) apart_made)
     ∙ ap (λ (x : Parts). mark_at x.b (mark_at x.a (mark_apart basis n marks))) parts_are

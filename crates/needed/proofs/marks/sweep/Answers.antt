@@ -24,7 +24,7 @@ loop-n-preserved c =
       ⊎_elim
           (λ came. ap (sweep_from basis (n - 1)) (came.3 ∙ came.2.ensures ∙ sym (place_marked basis n loop.marks came.0.taken)))
           (λ came. ap (sweep_from basis (n - 1)) (came.1 ∙ sym (place_unmarked basis n loop.marks came.0.left)))
-          c.if-marks-n.branch
+          c.if-marks-n.either
           ∙ sym (sweep_place basis n loop.marks c.loop-n-test.true)
           ∙ loop.invariant.1,
     )

@@ -16,10 +16,11 @@ unfolding folded_length
 room c = c.requires.room
 
 -- the place left after the loop
-last_placed : (c : After-odd_place_f64) → Placing float_ops c.args.c.now c.args.out.now (set c.loop-i.out c.loop-i.i c.odd_place_f64.result)
+last_placed : (c : After-odd_place_f64) → length c.args.c.now / 2 ≤ length c.args.out.now
+    → Placing float_ops c.args.c.now c.args.out.now (set c.loop-i.out c.loop-i.i c.odd_place_f64.result)
     (c.loop-i.i + 1)
-last_placed c =
-    placing_step (room c.before.before.before.before) c.loop-i.invariant nan c.if-i-n.true c.odd_place_f64.ensures
+last_placed c fits =
+    placing_step fits c.loop-i.invariant nan c.if-i-n.true c.odd_place_f64.ensures
 
 pub loop-i-init : goal.loop-i-init
 loop-i-init c = placing_start float_ops c.args.c.now c.args.out.now
@@ -54,11 +55,11 @@ bounds-out-i-then-i-n c =
     omega (arith, placing_length (room (goal.at.bounds-out-i-then-i-n c).After-slice_known-1) c.loop-i.invariant, c.if-i-n.true, room (goal.at.bounds-out-i-then-i-n c).After-slice_known-1)
 
 pub shape_of-out-then-i-n : goal.shape_of-out-then-i-n
-shape_of-out-then-i-n c = placing_length (room (goal.at.shape_of-out-then-i-n c).After-slice_known-1) (last_placed (goal.at.shape_of-out-then-i-n c).After-odd_place_f64)
+shape_of-out-then-i-n c = placing_length (room (goal.at.shape_of-out-then-i-n c).After-slice_known-1) (last_placed (goal.at.shape_of-out-then-i-n c).After-odd_place_f64 (room (goal.at.shape_of-out-then-i-n c).After-slice_known-1))
 
 pub returns-then-i-n : goal.returns-then-i-n
 returns-then-i-n c =
-    placing_end (room (goal.at.returns-then-i-n c).After-slice_known-1) (last_placed (goal.at.returns-then-i-n c).After-odd_place_f64) (omega (arith, c.loop-i-test.false))
+    placing_end (room (goal.at.returns-then-i-n c).After-slice_known-1) (last_placed (goal.at.returns-then-i-n c).After-odd_place_f64 (room (goal.at.returns-then-i-n c).After-slice_known-1)) (omega (arith, c.loop-i-test.false))
 
 pub shape_of-out-else-i-n : goal.shape_of-out-else-i-n
 shape_of-out-else-i-n c = placing_length (room (goal.at.shape_of-out-else-i-n c).After-slice_known-1) c.loop-i.invariant

@@ -13,7 +13,7 @@ pub returns-then-n-lt2 : goal.returns-then-n-lt2
 returns-then-n-lt2 c =
     let n = c.args.n in
     c.no_parts.ensures
-    ∙ ⊎_elim (λ low. sym (split_below n (omega arith))) (λ high. sym (split_above n (omega (arith, ltb-true)))) c.then-n-lt2.branch
+    ∙ ⊎_elim (λ low. sym (split_below n (omega arith))) (λ high. sym (split_above n (omega (arith, ltb-true)))) c.then-n-lt2.either
 
 pub overflow_add-p : goal.overflow_add-p
 overflow_add-p c =

@@ -27,7 +27,7 @@ loop-n-preserved c =
           (sym is ∙ came.0.taken)))
           (λ came. subst (PlacesAdded a.parity a.top a.limit (n + 1) a.marks.now) (sym came.1)
           (places_skip a.parity a.top a.limit a.marks.now c.loop-n.invariant.upto (sym is ∙ came.0.left)))
-          c.if-is_target.branch;
+          c.if-is_target.either;
     }
 
 pub returns : goal.returns

@@ -45,12 +45,12 @@ loop-i-preserved c =
     c.greatest_target-power.ensures ∙ ap (greatest_target head.degree) c.own_split.ensures in
     let within = greatest_within_lem head.degree (own_split head) (fits (goal.at.loop-i-preserved c).After-head-1).degrees.from in
     let grows : c.loop-i.greatest ≤ c.if-greatest-power.greatest =
-    ⊎_elim (λ came. omega (arith, came.0.taken, came.1)) (λ came. omega (arith, came.1)) c.if-greatest-power.branch in
+    ⊎_elim (λ came. omega (arith, came.0.taken, came.1)) (λ came. omega (arith, came.1)) c.if-greatest-power.either in
     let holds : greatest_target head.degree (own_split head) ≤ c.if-greatest-power.greatest =
-    ⊎_elim (λ came. omega (arith, came.1, own)) (λ came. omega (arith, came.0.left, came.1, own)) c.if-greatest-power.branch in
+    ⊎_elim (λ came. omega (arith, came.1, own)) (λ came. omega (arith, came.0.left, came.1, own)) c.if-greatest-power.either in
     record {
       within = omega (arith, below);
-      most = ⊎_elim (λ came. omega (arith, came.1, own, within, (fits (goal.at.loop-i-preserved c).After-head-1).degrees.to)) (λ came. omega (arith, came.1, c.loop-i.invariant.most)) c.if-greatest-power.branch;
+      most = ⊎_elim (λ came. omega (arith, came.1, own, within, (fits (goal.at.loop-i-preserved c).After-head-1).degrees.to)) (λ came. omega (arith, came.1, c.loop-i.invariant.most)) c.if-greatest-power.either;
       upto = powers_more heads i inside c.loop-i.invariant.upto grows holds;
     }
 
