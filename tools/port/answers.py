@@ -216,7 +216,6 @@ def convert(path):
             if bod in('search rules','search needs'): continue
             old,new=fn.needs[k]; P=fn.place(fn.asked[k][0])
             t=body(fn,m[7],{'c':P},new,log)
-            t=re.sub(r'to_z w64 (c\.loop-[\w.-]+)',r'\1',t); t=re.sub(r'\((c\.loop-[\w.-]+)\)',r'\1',t)
             s=f'{pre}pub {new} : goal.{new}\n'+(m[3]+'\n' if m[3] else '')+f'{new} c ={m[6]}{t}'
             ans.append(s); continue
         if re.match(r"pub \S+[_-]spec : ",b0): continue
@@ -255,7 +254,6 @@ def convert(path):
                 t=t[:q.start()]+'\n'*(1 if t[:q.start()].endswith('\n') is False else 0)+t[q.end():].lstrip('\n')
             if len(set(env.values()))>1 and sum(1 for v in env if v in PAR)>1: log.append('several place parameters')
             t=body(fn,t,env,None,log)
-            t=re.sub(r'to_z w64 (c\.loop-[\w.-]+)',r'\1',t); t=re.sub(r'\((c\.loop-[\w.-]+)\)',r'\1',t)
             for v in env:
                 if v!='c': t=re.sub(r"(?m)^(\s*)("+ID+r")((?: [\w']+)*) "+re.escape(v)+r"\b((?: [\w']+)*) =",r"\1\2\3 c\4 =",t)
             log.append('lemma over a place')

@@ -19,7 +19,7 @@ unfolding folded_length
 room c = c.requires.0.room
 
 -- s comes from the coefficient and the s before
-difference : (c : After-minus-s) → c.minus-s.result ≡ get_or c.args.c.now (2 * (c.loop-left.left - 1) + 1) (pos 0) -ℤ c.loop-left.s
+difference : (c : After-minus-s) → c.minus-s.result ≡ get_or c.args.c.now (2 * (c.loop-left.left - 1) + 1) (pos 0) -ℤ to_z w64 c.loop-left.s-bits
 difference c = rw (back c.x-1.given refl) at c.minus-s.ensures
 
 pub loop-left-init : goal.loop-left-init
