@@ -18,7 +18,7 @@ use Rattle.counts.specs.BudgetPromises.{LargestDegrees, BitsFall, NoneBelowScale
 use Rattle.counts.specs.declared.budget.LargestDegree.{LargestDegree}
 use Rattle.counts.specs.declared.choice.SplitStrategy.{SplitStrategy}
 use Rattle.counts.specs.declared.choice.SplitStrategy.TheVariants.{MinDepth, MinMult}
-use Rattle.counts.proofs.ConsumedBits.{bits_from_one}
+use Rattle.counts.proofs.ConsumedLaws.{bits_from_one}
 use Rattle.counts.proofs.GreatestWithin.{greatest_within_lem, none_within_lem}
 use Rattle.counts.proofs.LargestLaws.{input_wide, coeff_wide, none_found, one_found}
 

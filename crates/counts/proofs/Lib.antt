@@ -9,7 +9,7 @@ pub mod BoundLaws
 pub mod MinDepthLaws
 pub mod ChoiceLaws
 pub mod DepthLaws
-pub mod ConsumedBits
+pub mod ConsumedLaws
 pub mod SameBits
 pub mod GreatestWithin
 pub mod Promises

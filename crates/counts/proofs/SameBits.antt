@@ -12,7 +12,7 @@ use Rattle.counts.specs.declared.choice.SplitStrategy.{SplitStrategy}
 use Rattle.counts.specs.declared.choice.SplitStrategy.TheVariants.{MinDepth, MinMult}
 use Rattle.number.proofs.Bits.{len_above, len_unique, top_doubled, top_power_lem}
 use Rattle.counts.proofs.DepthLaws.{depth_least, depth_more, depth_same}
-use Rattle.counts.proofs.ConsumedBits.{pure_whole, before_least, before_other, bits_from_one}
+use Rattle.counts.proofs.ConsumedLaws.{pure_whole, before_least, before_other, bits_from_one}
 
 -- one degree lower leaves none between
 pub one_lower : (strategy : SplitStrategy) (degree : ℕ) → 0 < degree → SameDownTo strategy degree (degree - 1)

@@ -2,7 +2,7 @@
 -- 65,535 bits each, so that no product or sum overflows.
 use mathlib.Core.Path.{sym, ◌∙◌}
 use native.Mathlib.Omega.{arith}
-use Rattle.counts.proofs.ConsumedBits.{bits_from_one, pure_range, before_range, weight_small}
+use Rattle.counts.proofs.ConsumedLaws.{bits_from_one, pure_range, before_range, weight_small}
 use Rattle.counts.proofs.consumed.bits_from_one.Goals as goal
 
 pub overflow_mul-pure : goal.overflow_mul-pure

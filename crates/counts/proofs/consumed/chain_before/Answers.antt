@@ -2,7 +2,7 @@
 -- A depth is at least 1, so one less is a number.
 use native.Mathlib.Omega.{arith}
 use Rattle.counts.proofs.DepthLaws.{depth_bounds}
-use Rattle.counts.proofs.ConsumedBits.{before_least, before_five, before_other}
+use Rattle.counts.proofs.ConsumedLaws.{before_least, before_five, before_other}
 use Rattle.counts.proofs.consumed.chain_before.Goals as goal
 
 pub overflow_sub-result : goal.overflow_sub-result

@@ -2,7 +2,7 @@
 -- It has at least one binary digit, so one less is a number.
 use native.Mathlib.Omega.{arith}
 use Rattle.number.proofs.Bits.{digits_range}
-use Rattle.counts.proofs.ConsumedBits.{pure_less, pure_whole}
+use Rattle.counts.proofs.ConsumedLaws.{pure_less, pure_whole}
 use Rattle.counts.proofs.consumed.pure_chain.Goals as goal
 
 pub overflow_sub-result : goal.overflow_sub-result
