@@ -1,7 +1,6 @@
 -- `needed::marks::mark_parts` meets its contract. The parts are those of the definition, since n is within the limits of the index split; they and
 -- their distance are below n, so that each mark is inside the array.
 use mathlib.Core.Path.{◌≡◌, sym, ◌∙◌, ap}
-use mathlib.Core.Logic.{⊎_elim}
 use Prim.Native.Nat.{ℕ, ◌≤◌}
 use native.Mathlib.Omega.{arith}
 use Rattle.number.specs.Limits.{degree_limit}
@@ -11,6 +10,7 @@ use Rattle.needed.specs.inside.Marks.{mark_at, mark_apart, mark_parts}
 use Rattle.number.proofs.SplitParts.{Parted, split_accepted, parted}
 use Rattle.needed.proofs.MarkLaws.{apart_monomial, apart_chebyshev}
 use Rattle.needed.proofs.marks.mark_parts.Goals as goal
+use Rattle.needed.proofs.marks.mark_parts.Goals.{in-Monomial, in-Chebyshev}
 
 -- the call gives the parts of the definition
 record Made (n : ℕ) (parts : Parts) : Type 0 where
@@ -43,14 +43,13 @@ returns c =
     let n = c.args.n in
     let basis = c.args.basis in
     let marks = c.args.marks.now in
-    let parts = c.split_degree-parts.result in
     let parts_are = (made c.requires.0 (omega (arith, c.requires)) c.split_degree-parts.ensures).is in
     let apart_made : c.match-basis.marks ≡ mark_apart basis n marks =
-    ⊎_elim
-    (λ came. came.2 ∙ sym (apart_monomial n marks came.1.given.1))
-    (λ came.
-    came.4 ∙ came.3.ensures ∙ ap (λ (x : Parts). mark_at x.distance marks) parts_are
-    ∙ sym (apart_chebyshev n marks came.1.given.1))
-    c.match-basis.either in
-    c.mark-3.ensures ∙ ap (mark_at parts.b) (c.mark-2.ensures ∙ ap (mark_at parts.a) apart_made)
+    elim c.match-basis.branch [
+      | in-Monomial w ↦ w.marks-is ∙ sym (apart_monomial n marks w.in-Monomial.is)
+      | in-Chebyshev w ↦
+          w.marks-is ∙ w.mark.ensures ∙ ap (λ (x : Parts). mark_at x.distance marks) parts_are
+          ∙ sym (apart_chebyshev n marks w.in-Chebyshev.is)
+    ] in
+    c.mark-3.ensures ∙ ap (mark_at c.split_degree-parts.result.b) (c.mark-2.ensures ∙ ap (mark_at c.split_degree-parts.result.a) apart_made)
     ∙ ap (λ (x : Parts). mark_at x.b (mark_at x.a (mark_apart basis n marks))) parts_are

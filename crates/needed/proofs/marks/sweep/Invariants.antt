@@ -1,5 +1,5 @@
 use mathlib.Core.Path.{◌≡◌}
-use Prim.Native.Nat.{◌-◌, ◌<◌}
+use Prim.Native.Nat.{◌<◌}
 use Rattle.number.specs.Limits.{count_limit}
 use Rattle.needed.specs.inside.Marks.{sweep_from}
 use Rattle.needed.proofs.marks.sweep.Given as goal
