@@ -45,6 +45,7 @@ pub struct Best {
 }
 
 // MinDepth's split at a bit length, a case for each from 1 to 32. No accepted degree has another.
+#[tactic(auto, unfolding(crate::specs::MinDepth::min_depth))]
 fn min_depth(bits: usize) -> usize
     requires { Between 1 bits 32 }
     ensures { result ≡ min_depth bits }

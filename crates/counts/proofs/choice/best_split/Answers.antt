@@ -1,6 +1,6 @@
 -- `counts::choice::best_split` meets its contract. The invariant: the best is as good as every split passed, and it begins with a split from 1 to
 -- the bit length. After the last split no split is better, so it is the smallest with the least pair.
-use Prim.Native.Nat.{◌-◌, ◌<◌}
+use Prim.Native.Nat.{◌<◌}
 use native.Mathlib.Omega.{arith}
 use Rattle.number.specs.inside.Between.{Between}
 use Rattle.counts.specs.Pair.{pair_at}

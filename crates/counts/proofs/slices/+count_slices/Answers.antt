@@ -24,7 +24,7 @@ overflow_sub-p t c =
 pub count_slices-low-requires : goal.count_slices-low-requires
 count_slices-low-requires t c =
     let cut = cut_at (from_base _ c.power_of_two-base.ensures c.if-degree-base.false) c.top_power-p.ensures in
-    (omega (arith, c.requires.0), (omega (arith, c.requires.1.0), c.requires.1.1))
+    (omega arith, (omega (arith, c.requires.0), c.requires.1))
 
 pub overflow_sub-degree : goal.overflow_sub-degree
 overflow_sub-degree t c =
@@ -34,21 +34,21 @@ overflow_sub-degree t c =
 pub count_slices-high-requires : goal.count_slices-high-requires
 count_slices-high-requires t c =
     let cut = cut_at (from_base _ c.power_of_two-base.ensures c.if-degree-base.false) c.top_power-p.ensures in
-    (omega (arith, c.requires.0), (omega (arith, c.requires.1.0), c.requires.1.1))
+    (omega arith, (omega (arith, c.requires.0), c.requires.1))
 
 pub overflow_add-result : goal.overflow_add-result
 overflow_add-result t c =
     let cut = cut_at (from_base _ c.power_of_two-base.ensures c.if-degree-base.false) c.top_power-p.ensures in
     let low_range = tally_range _ _ _ c.count_slices-low.ensures in
     let high_range = tally_range _ _ _ c.count_slices-high.ensures in
-    omega (arith, c.requires.1.0)
+    omega (arith, c.requires.0)
 
 pub overflow_add-result-2 : goal.overflow_add-result-2
 overflow_add-result-2 t c =
     let cut = cut_at (from_base _ c.power_of_two-base.ensures c.if-degree-base.false) c.top_power-p.ensures in
     let low_range = tally_range _ _ _ c.count_slices-low.ensures in
     let high_range = tally_range _ _ _ c.count_slices-high.ensures in
-    omega (arith, c.requires.1.0)
+    omega (arith, c.requires.0)
 
 pub returns : goal.returns
 returns t c =
