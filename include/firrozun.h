@@ -1,10 +1,11 @@
 /* Firrozun for C and C++: planning the evaluation of polynomials by baby steps and giant steps.
  *
  * Each function is proved to answer, and to leave in its buffers, what crates/exports/specs says, for every input. docs/RULES.md has the rules
- * in words. Link with target/staticlib/libexports.a, which `rt staticlib exports` writes (x86-64 Linux).
+ * in words. Link with crates/exports/out/libexports.a, which tools/build library brings up to date (x86-64 Linux).
  *
- * "Undefined reference to firrozun_layout_11" at linking says that the library is older or newer than this header, and has other structs or arguments.
- * Build it anew: run `rt staticlib exports` in the repository that this header is from, and link with what it writes.
+ * "Undefined reference to firrozun_layout_10" at linking says that the library is older or newer than this header, and has other structs or arguments.
+ * Build it anew: run `tools/build library` in the repository that this header is from, and link with what it writes. The same says an undefined reference
+ * to another function: what is only added keeps the number, so an older library of the same number may lack it.
  *
  * Kinds go by number (FIRROZUN_MONOMIAL and so on). A number that is no kind's is refusal 43, ahead of every other test.
  *
@@ -21,7 +22,7 @@
 #include <stddef.h>
 #include <stdint.h>
 
-#define FIRROZUN_VERSION "0.11.0"
+#define FIRROZUN_VERSION "0.10.0"
 
 #ifdef __cplusplus
 extern "C" {
@@ -29,10 +30,10 @@ extern "C" {
 
 /* ---- the layouts */
 
-/* The number of the layouts, 11, which stands in the name too: it is raised with each change of a struct or of a function's arguments. The pointer
- * behind it makes every program that includes this header ask the linker for this name, so that it does not link with a library of other layouts.
- * The attribute retain keeps the pointer with --gc-sections too; gcc has it from 11 on, and clang from 13 on. */
-uint32_t firrozun_layout_11(void);
+/* The number of the layouts, 10, which stands in the name too: it is raised with each change of a struct or of a function's arguments, and kept where
+ * one is only added. The pointer behind it makes every program that includes this header ask the linker for this name, so that it does not link with a
+ * library of other layouts. The attribute retain keeps the pointer with --gc-sections too; gcc has it from 11 on, and clang from 13 on. */
+uint32_t firrozun_layout_10(void);
 
 #define FIRROZUN_KEPT __attribute__((used))
 #ifdef __has_attribute
@@ -41,7 +42,7 @@ uint32_t firrozun_layout_11(void);
 #define FIRROZUN_KEPT __attribute__((used, retain))
 #endif
 #endif
-FIRROZUN_KEPT static uint32_t (*const firrozun_layout)(void) = firrozun_layout_11;
+FIRROZUN_KEPT static uint32_t (*const firrozun_layout)(void) = firrozun_layout_10;
 #undef FIRROZUN_KEPT
 
 /* ---- kinds */

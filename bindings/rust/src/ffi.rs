@@ -205,7 +205,7 @@ pub struct CChain {
 }
 
 extern "C" {
-    fn firrozun_layout_11() -> u32;
+    fn firrozun_layout_10() -> u32;
     fn firrozun_split_degree(n: usize) -> CParts;
     fn firrozun_min_depth_split(degree: usize) -> CSplit;
     fn firrozun_min_mult_split(parity: u8, basis: u8, degree: usize) -> CSplit;
@@ -348,7 +348,7 @@ extern "C" {
 /// `crates/exports`. The reference has every program that links this crate ask for the name, so that a library with other layouts
 /// does not link.
 #[used]
-static LAYOUT: unsafe extern "C" fn() -> u32 = firrozun_layout_11;
+static LAYOUT: unsafe extern "C" fn() -> u32 = firrozun_layout_10;
 
 pub fn split_degree(n: usize) -> CParts {
     // SAFETY: the call takes and answers numbers alone, and is proved for every number.

@@ -81,7 +81,7 @@ fn the_layouts_of_a_set() {
 #[test]
 fn the_number_of_the_layouts() {
     // SAFETY: the call takes nothing and answers a number.
-    assert_eq!(unsafe { LAYOUT() }, 11);
+    assert_eq!(unsafe { LAYOUT() }, 10);
 }
 
 /// +0 in the head of a refusal: -0 would be equal to it.
