@@ -25,7 +25,6 @@ pub fn record(dir: &Path) {
         evaluate(r);
         change_of_basis(r);
         interpolate(r);
-        conversions::recorded::record(r, &mut rng(16));
     });
     recording(dir, "counts.tsv", |r| {
         counts(r);
@@ -44,6 +43,9 @@ pub fn record(dir: &Path) {
         plan_intervals(r);
     });
     recording(dir, "sets.tsv", |r| sets::recorded::record(r, &mut rng(15)));
+    recording(dir, "conversions.tsv", |r| {
+        conversions::recorded::record(r, &mut rng(16))
+    });
     printed::record(dir);
     chains::record(dir);
 }

@@ -546,12 +546,16 @@ fn answer(call: &str, arguments: &mut Arguments) -> Answer {
     }
 }
 
-/// Replays a recording; answers how many calls it has.
+/// Replays the recording of a program; answers how many calls it has.
 fn replay(program: &str) -> usize {
+    replay_file(&format!("crates/{program}/stdin"))
+}
+
+/// The same of a file of the repository.
+fn replay_file(file: &str) -> usize {
     let path = Path::new(env!("CARGO_MANIFEST_DIR"))
-        .join("../../crates")
-        .join(program)
-        .join("stdin");
+        .join("../..")
+        .join(file);
     let recording = std::fs::read_to_string(&path).expect("a recording");
     for line in recording.lines() {
         let (called, answered) = line.split_once("\t=\t").expect("an answer");
@@ -567,7 +571,12 @@ fn replay(program: &str) -> usize {
 
 #[test]
 fn number() {
-    assert!(replay("replay_number") > 9000);
+    assert!(replay("replay_number") > 8000);
+}
+
+#[test]
+fn conversions() {
+    assert!(replay_file("oracle/vectors/conversions.tsv") > 600);
 }
 
 #[test]
