@@ -1,5 +1,5 @@
 //! Links the proved static library `libexports.a`: that of the folder in `FIRROZUN_LIB`, as it is; or else that in
-//! `target/staticlib` of the repository, which `tools/build library` brings up to date first. If it cannot, nothing is linked.
+//! `crates/exports/out` of the repository, which `tools/build library` brings up to date first. If it cannot, nothing is linked.
 
 use std::path::{Path, PathBuf};
 use std::process::{exit, Command, Stdio};
@@ -45,11 +45,24 @@ fn own() -> PathBuf {
             "this crate does not stand in Firrozun's repository; set FIRROZUN_LIB to the folder of {ARCHIVE}"
         )),
     };
-    for source in ["crates.txt", "crates", BUILD] {
+    for source in ["crates.txt", BUILD] {
         println!("cargo:rerun-if-changed={}", root.join(source).display());
     }
+    let crates = root.join("crates");
+    for part in below(&crates).iter().flat_map(|folder| below(folder)) {
+        // There rt puts what it makes.
+        if part.file_name() != Some("out".as_ref()) {
+            println!("cargo:rerun-if-changed={}", part.display());
+        }
+    }
     bring_up_to_date(&root);
-    root.join("target").join("staticlib")
+    crates.join("exports").join("out")
+}
+
+/// The files and folders in a folder; none in a file.
+fn below(folder: &Path) -> Vec<PathBuf> {
+    let entries = folder.read_dir().into_iter().flatten();
+    entries.flatten().map(|entry| entry.path()).collect()
 }
 
 fn bring_up_to_date(root: &Path) {
