@@ -25,21 +25,26 @@ returns-then-degree-gt-PLAN_LIMIT c = rw (lt-ltb plan_limit (c.args.n - 1) (omeg
 pub returns-then-degree-eq0 : goal.returns-then-degree-eq0
 unfolding early_refusal
 returns-then-degree-eq0 c =
+    let here = goal.at.returns-then-degree-eq0 c in
     let n = c.args.n in
-    rw (not_high (goal.at.returns-then-degree-eq0 c).Else-degree-gt-PLAN_LIMIT, eq-eqb (n - 1) 0 (omega (arith, c.degree_of-degree.ensures, c.if-degree-eq0.true)))
+    rw (not_high here.Else-degree-gt-PLAN_LIMIT, eq-eqb (n - 1) 0 (omega (arith, c.degree_of-degree.ensures, c.if-degree-eq0.true)))
 
 pub returns-then-not-small : goal.returns-then-not-small
 unfolding early_refusal
-returns-then-not-small c = rw (not_high (goal.at.returns-then-not-small c).Else-degree-gt-PLAN_LIMIT, not-zero (goal.at.returns-then-not-small c).Else-degree-eq0, c.if-not-small.true-raw)
+returns-then-not-small c =
+    let here = goal.at.returns-then-not-small c in
+    rw (not_high here.Else-degree-gt-PLAN_LIMIT, not-zero here.Else-degree-eq0, c.if-not-small.true)
 
 pub returns-then-room-n : goal.returns-then-room-n
 unfolding early_refusal
 returns-then-room-n c =
+    let here = goal.at.returns-then-room-n c in
     let args = c.args in
-    rw (not_high (goal.at.returns-then-room-n c).Else-degree-gt-PLAN_LIMIT, not-zero (goal.at.returns-then-room-n c).Else-degree-eq0, c.if-not-small.false-raw, lt-ltb args.room args.n c.if-room-n.true)
+    rw (not_high here.Else-degree-gt-PLAN_LIMIT, not-zero here.Else-degree-eq0, c.if-not-small.false, lt-ltb args.room args.n c.if-room-n.true)
 
 pub returns-else-room-n : goal.returns-else-room-n
 unfolding early_refusal
 returns-else-room-n c =
+    let here = goal.at.returns-else-room-n c in
     let args = c.args in
-    rw (not_high (goal.at.returns-else-room-n c).Else-degree-gt-PLAN_LIMIT, not-zero (goal.at.returns-else-room-n c).Else-degree-eq0, c.if-not-small.false-raw, le-ltb args.room args.n c.if-room-n.false)
+    rw (not_high here.Else-degree-gt-PLAN_LIMIT, not-zero here.Else-degree-eq0, c.if-not-small.false, le-ltb args.room args.n c.if-room-n.false)

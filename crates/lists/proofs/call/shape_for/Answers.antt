@@ -24,7 +24,8 @@ passes c = early_passed _ _ _ (none c)
 splits : (c : After-split_for_strategy-split) → Between 1 c.split_for_strategy-split.result 12
 splits c =
     let args = c.args in
-    rw c.split_for_strategy-split.ensures (split_range args.strategy args.parity args.basis (args.n - 1) (passes c.before).degree)
+    let degree = (early_passed _ _ _ (sym c.early_refusal-early.ensures ∙ omega arith)).degree in
+    rw c.split_for_strategy-split.ensures (split_range args.strategy args.parity args.basis (args.n - 1) degree)
 
 -- the number of lists is the plan tree's
 counted : (c : After-count_lists-lists) → let args = c.args in
@@ -55,12 +56,14 @@ split_for_strategy-split-requires c = (passes (goal.at.split_for_strategy-split-
 
 pub count_lists-lists-requires : goal.count_lists-lists-requires
 count_lists-lists-requires c =
-    let range = splits (goal.at.count_lists-lists-requires c).After-split_for_strategy-split in
-    let degree = (passes (goal.at.count_lists-lists-requires c).Else-early-gt0).degree in
+    let here = goal.at.count_lists-lists-requires c in
+    let range = splits here.After-split_for_strategy-split in
+    let degree = (passes here.Else-early-gt0).degree in
     record { positive = omega arith; whole_limit = omega arith; part_limit = omega arith; split_limit = omega arith }
 
 pub returns-then-boundaries-lists : goal.returns-then-boundaries-lists
 returns-then-boundaries-lists c =
+    let here = goal.at.returns-then-boundaries-lists c in
     let args = c.args in
     let n = args.n in
     let split = split_for args.strategy args.parity args.basis (n - 1) in
@@ -68,15 +71,18 @@ returns-then-boundaries-lists c =
     c.refused-then-boundaries-lists.ensures
     ∙ zeros 22 n split lists (omega arith)
     ∙ ap (λ (k : ℕ). shape_of k n split lists)
-    (sym (late_refused n args.small args.room args.boundaries lists (none (goal.at.returns-then-boundaries-lists c).Else-early-gt0) (omega (arith, counted (goal.at.returns-then-boundaries-lists c).After-count_lists-lists, c.if-boundaries-lists.true))))
+    (sym (late_refused n args.small args.room args.boundaries lists (none here.Else-early-gt0)
+    (omega (arith, counted here.After-count_lists-lists, c.if-boundaries-lists.true))))
 
 pub power_of_two-requires : goal.power_of_two-requires
 power_of_two-requires c = omega (arith, splits (goal.at.power_of_two-requires c).After-split_for_strategy-split)
 
 pub returns : goal.returns
 returns c =
+    let here = goal.at.returns c in
     let args = c.args in
     let lists = leaves_of (plan_tree args.strategy args.parity args.basis (args.n - 1)) in
     full_shape args.n
-    (none_refused args.n args.small args.room args.boundaries lists (none (goal.at.returns c).Else-early-gt0) (omega (arith, counted (goal.at.returns c).After-count_lists-lists, c.if-boundaries-lists.false)))
-    c.split_for_strategy-split.ensures (counted (goal.at.returns c).After-count_lists-lists) c.power_of_two.ensures
+    (none_refused args.n args.small args.room args.boundaries lists (none here.Else-early-gt0)
+    (omega (arith, counted here.After-count_lists-lists, c.if-boundaries-lists.false)))
+    c.split_for_strategy-split.ensures (counted here.After-count_lists-lists) c.power_of_two.ensures

@@ -1,4 +1,4 @@
-use Prim.Native.Nat.{◌+◌, ◌-◌, ◌*◌}
+use Prim.Native.Nat.{◌+◌, ◌*◌}
 use Rattle.lists.proofs.count.+count_lists_count_slice.Given as goal
 
 abbrev pub decreases-count_lists : goal.decreases-count_lists

@@ -5,7 +5,7 @@ use mathlib.Core.Bool.{true}
 use mathlib.Core.Logic.{⊎_elim}
 use Prim.Native.Nat.{ℕ, ◌+◌, ◌^◌, ◌<◌}
 use native.Mathlib.Omega.{arith}
-use borrow.Author.Tests.{ltb-true, ltb-false, not-true, not-false}
+use borrow.Author.Tests.{ltb-true, ltb-false}
 use lib.Dec.{ltb}
 use Rattle.number.specs.Bits.{bit_len}
 use Rattle.number.proofs.Bits.{len_max, power_range}
@@ -19,7 +19,7 @@ returns-then-not-leading c =
     let leading = c.args.leading in
     let degree = c.args.degree in
     ⊎_elim
-    (λ low. sym (not_leading leading whole degree split (not-true leading low.taken)))
+    (λ low. sym (not_leading leading whole degree split low))
     (⊎_elim (λ none. sym (constant leading whole degree split (omega (arith, ltb-true))))
     (λ least. sym (least_split leading whole degree split (omega (arith, ltb-true)))))
     c.then-not-leading.either
@@ -45,7 +45,7 @@ returns c =
     let power : c.power_of_two.result ≡ 2 ^ bit_len whole =
     c.power_of_two.ensures ∙ ap (λ (k : ℕ). 2 ^ k) c.bit_len.ensures in
     let asked = c.smaller_split in
-    let leads : c.args.leading ≡ true = not-false c.args.leading c.if-not-leading.false-raw in
+    let leads : c.args.leading ≡ true = c.if-not-leading.false in
     let some : 0 < c.args.degree = omega (arith, ltb-false) in
     let above : 1 < split = omega (arith, ltb-false) in
     let decides = by_whole c.args.leading whole c.args.degree split c.requires.positive leads some above (omega arith) in

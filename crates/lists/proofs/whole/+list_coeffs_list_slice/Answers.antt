@@ -3,7 +3,7 @@
 -- split, and one more for the lister, falls at each call: the length at a cut, the split at a relisting.
 use mathlib.Core.Path.{◌≡◌, refl, ap, sym, ◌∙◌}
 use mathlib.Core.Bool.{true, ◌&&◌}
-use Prim.Native.Nat.{◌-◌}
+use Prim.Native.Nat.{ℕ}
 use native.Mathlib.Omega.{arith}
 use lib.Pow.{pow_pos}
 use lib.ListN.{length}
@@ -18,23 +18,21 @@ use Rattle.lists.proofs.ListerCuts.{Cutting}
 use Rattle.lists.proofs.whole.+list_coeffs_list_slice.Goals as goal
 use Rattle.lists.proofs.whole.+list_coeffs_list_slice.Goals.{list_coeffs-After-cut_coeffs, list_coeffs-After-top_power-p, list_slice-After-listed_again}
 
-uncut : (c : list_coeffs-After-top_power-p t)
+uncut : {t : ℕ} (c : list_coeffs-After-top_power-p t)
     → let args = c.args in
     Cutting whole_ops args.leading args.basis args.whole args.split args.at args.n args.c.now args.bounds.now
     c.top_power-p.result (cut_at whole_ops args.basis c.top_power-p.result args.c.now)
-uncut c = record { listable = c.requires.1.0; from = omega arith; power = c.top_power-p.ensures; parted = refl }
+uncut c = record { listable = c.requires.0; from = omega arith; power = c.top_power-p.ensures; parted = refl }
 
-cutting : (c : list_coeffs-After-cut_coeffs t)
+cutting : {t : ℕ} (c : list_coeffs-After-cut_coeffs t)
     → let args = c.args in
     Cutting whole_ops args.leading args.basis args.whole args.split args.at args.n args.c.now args.bounds.now
     c.top_power-p.result c.cut_coeffs.new.c
-cutting c =
-    let before = uncut c.before.before in
-    record { listable = before.listable; from = before.from; power = before.power; parted = c.cut_coeffs.ensures }
+cutting c = record { listable = c.requires.0; from = omega arith; power = c.top_power-p.ensures; parted = c.cut_coeffs.ensures }
 
 pub list_coeffs-list_slice-requires : goal.list_coeffs-list_slice-requires
 list_coeffs-list_slice-requires t c =
-    (omega arith, (c.requires.1.0, (c.requires.1.1, omega arith)))
+    (omega arith, (c.requires.0, (c.requires.1, omega arith)))
 
 pub list_coeffs-top_power-p-requires : goal.list_coeffs-top_power-p-requires
 list_coeffs-top_power-p-requires t c =
@@ -42,102 +40,103 @@ list_coeffs-top_power-p-requires t c =
 
 pub list_coeffs-cut_coeffs-requires : goal.list_coeffs-cut_coeffs-requires
 list_coeffs-cut_coeffs-requires t c =
-    let k = uncut (goal.at.list_coeffs-cut_coeffs-requires c).After-top_power-p in
-    (cuts.under k, (cuts.half k, sum_by_length_to_52 _ (omega (arith, cuts.positive k, cuts.under k)) c.requires.1.1))
+    let k = uncut (goal.at.list_coeffs-cut_coeffs-requires t c).After-top_power-p in
+    (cuts.under k, (cuts.half k, sum_by_length_to_52 _ (omega (arith, cuts.positive k, cuts.under k)) c.requires.1))
 
 pub list_coeffs-slice_bounds-list_coeffs-end : goal.list_coeffs-slice_bounds-list_coeffs-end
 list_coeffs-slice_bounds-list_coeffs-end t c =
-    let k = cutting (goal.at.list_coeffs-slice_bounds-list_coeffs-end c).After-cut_coeffs in
+    let k = cutting (goal.at.list_coeffs-slice_bounds-list_coeffs-end t c).After-cut_coeffs in
     omega (arith, cuts.under k, cuts.same_length k)
 
 pub list_coeffs-slice_bounds-list_coeffs-end-2 : goal.list_coeffs-slice_bounds-list_coeffs-end-2
-list_coeffs-slice_bounds-list_coeffs-end-2 t c = sym (cuts.low_length (cutting (goal.at.list_coeffs-slice_bounds-list_coeffs-end-2 c).After-cut_coeffs))
+list_coeffs-slice_bounds-list_coeffs-end-2 t c = sym (cuts.low_length (cutting (goal.at.list_coeffs-slice_bounds-list_coeffs-end-2 t c).After-cut_coeffs))
 
 pub list_coeffs-list_coeffs-m-requires : goal.list_coeffs-list_coeffs-m-requires
 list_coeffs-list_coeffs-m-requires t c =
-    let k = cutting (goal.at.list_coeffs-list_coeffs-m-requires c).After-cut_coeffs in (
-      omega (arith, cuts.low_length k, cuts.under k, c.requires.0),
+    let k = cutting (goal.at.list_coeffs-list_coeffs-m-requires t c).After-cut_coeffs in (
+      omega (arith, cuts.low_length k, cuts.under k),
       (
         cuts.listable_low k,
         rw k.parted
-            (sum_by_length_low c.args.basis c.top_power-p.result c.args.c.now (omega (arith, cuts.under k)) c.requires.1.1),
+            (sum_by_length_low c.args.basis c.top_power-p.result c.args.c.now (omega (arith, cuts.under k)) c.requires.1),
       ),
     )
 
 pub list_coeffs-offset_bounds-c-p : goal.list_coeffs-offset_bounds-c-p
 list_coeffs-offset_bounds-c-p t c =
-    let k = cutting (goal.at.list_coeffs-offset_bounds-c-p c).After-cut_coeffs in
+    let k = cutting (goal.at.list_coeffs-offset_bounds-c-p t c).After-cut_coeffs in
     omega (arith, cuts.under k, k.listable.ends_fit)
 
 pub list_coeffs-slice_bounds-list_coeffs-count : goal.list_coeffs-slice_bounds-list_coeffs-count
 list_coeffs-slice_bounds-list_coeffs-count t c =
-    let k = cutting (goal.at.list_coeffs-slice_bounds-list_coeffs-count c).After-cut_coeffs in
+    let k = cutting (goal.at.list_coeffs-slice_bounds-list_coeffs-count t c).After-cut_coeffs in
     omega (arith, cuts.under k, cuts.joined_length k c.list_coeffs-m.ensures c.list_coeffs-m.auto.c)
 
 pub list_coeffs-slice_bounds-list_coeffs-start : goal.list_coeffs-slice_bounds-list_coeffs-start
 list_coeffs-slice_bounds-list_coeffs-start t c =
-    let k = cutting (goal.at.list_coeffs-slice_bounds-list_coeffs-start c).After-cut_coeffs in
+    let k = cutting (goal.at.list_coeffs-slice_bounds-list_coeffs-start t c).After-cut_coeffs in
     omega (arith, cuts.under k, cuts.joined_length k c.list_coeffs-m.ensures c.list_coeffs-m.auto.c)
 
 pub list_coeffs-overflow_add-at : goal.list_coeffs-overflow_add-at
 list_coeffs-overflow_add-at t c =
-    let k = cutting (goal.at.list_coeffs-overflow_add-at c).After-cut_coeffs in
+    let k = cutting (goal.at.list_coeffs-overflow_add-at t c).After-cut_coeffs in
     omega (arith, cuts.under k, k.listable.ends_fit)
 
 pub list_coeffs-list_coeffs-requires : goal.list_coeffs-list_coeffs-requires
 list_coeffs-list_coeffs-requires t c =
-    let k = cutting (goal.at.list_coeffs-list_coeffs-requires c).After-cut_coeffs in
-    let kept = c.list_coeffs-m.kept.1.1.1.1.1.1 in
+    let k = cutting (goal.at.list_coeffs-list_coeffs-requires t c).After-cut_coeffs in
     let lent = cuts.part_is k c.list_coeffs-m.ensures c.list_coeffs-m.auto.c in (
-      omega (arith, ap length lent, cuts.high_length k, cuts.half k, cuts.under k, cuts.positive k, c.requires.0),
+      omega (arith, ap length lent, cuts.high_length k, cuts.half k, cuts.under k, cuts.positive k),
       (
         cuts.listable_high k c.list_coeffs-m.ensures c.list_coeffs-m.auto.c c.list_coeffs-m.auto.bounds,
         rw (lent, k.parted)
             (sum_by_length_high c.args.basis c.top_power-p.result c.args.c.now (omega (arith, cuts.under k)) (cuts.half k)
-            c.requires.1.1),
+            c.requires.1),
       ),
     )
 
 pub list_coeffs-returns : goal.list_coeffs-returns
 list_coeffs-returns t c =
-    cuts.place_both (cutting (goal.at.list_coeffs-returns c).After-cut_coeffs) c.list_coeffs-m.ensures c.list_coeffs-m.auto.c c.list_coeffs.ensures
+    cuts.place_both (cutting (goal.at.list_coeffs-returns t c).After-cut_coeffs) c.list_coeffs-m.ensures c.list_coeffs-m.auto.c c.list_coeffs.ensures
 
 -- a slice that the test says is listed again
-told_again : (c : list_slice-After-listed_again t) → c.listed_again.result ≡ true
+told_again : {t : ℕ} (c : list_slice-After-listed_again t) → c.listed_again.result ≡ true
     → (c.args.leading && listed_again c.args.whole (degree_of c.args.c.now) c.args.split) ≡ true
 told_again c told = sym c.listed_again.ensures ∙ told
 
-again : (c : list_slice-After-listed_again t) → c.listed_again.result ≡ true
+again : {t : ℕ} (c : list_slice-After-listed_again t) → c.listed_again.result ≡ true
     → Again c.args.whole (degree_of c.args.c.now) c.args.split
 again c told =
     leading_again c.args.leading c.args.whole (degree_of c.args.c.now) c.args.split (told_again c told)
 
 pub list_slice-listed_again-requires : goal.list_slice-listed_again-requires
-list_slice-listed_again-requires t c = c.requires.1.0.ranges
+list_slice-listed_again-requires t c = c.requires.0.ranges
 
 pub list_slice-smaller_split-smaller-requires : goal.list_slice-smaller_split-smaller-requires
 list_slice-smaller_split-smaller-requires t c =
-    record { from = (again (goal.at.list_slice-smaller_split-smaller-requires c).After-listed_again c.if-listed_again.true).positive; to = c.requires.1.0.ranges.part_limit }
+    let here = goal.at.list_slice-smaller_split-smaller-requires t c in
+    record { from = (again here.After-listed_again c.if-listed_again.true).positive; to = c.requires.0.ranges.part_limit }
 
 pub list_slice-list_coeffs-requires : goal.list_slice-list_coeffs-requires
 list_slice-list_coeffs-requires t c =
-    let smaller = cuts.smaller c.requires.1.0 c.requires.1.1.1 (told_again (goal.at.list_slice-list_coeffs-requires c).After-listed_again c.if-listed_again.true) in (
-      omega (arith, c.smaller_split-smaller.ensures, c.requires.0),
+    let here = goal.at.list_slice-list_coeffs-requires t c in
+    let smaller = cuts.smaller c.requires.0 c.requires.1.1 (told_again here.After-listed_again c.if-listed_again.true) in (
+      omega (arith, c.smaller_split-smaller.ensures),
       (
         rw c.smaller_split-smaller.ensures
-            (cuts.listable_again c.requires.1.0 c.requires.1.1.1 (told_again (goal.at.list_slice-list_coeffs-requires c).After-listed_again c.if-listed_again.true)),
-        c.requires.1.1.0,
+            (cuts.listable_again c.requires.0 c.requires.1.1 (told_again here.After-listed_again c.if-listed_again.true)),
+        c.requires.1.0,
       ),
     )
 
 pub list_slice-returns-then-listed_again : goal.list_slice-returns-then-listed_again
 list_slice-returns-then-listed_again t c =
-    cuts.place_again c.requires.1.0 c.requires.1.1.1 (told_again (goal.at.list_slice-returns-then-listed_again c).After-listed_again c.if-listed_again.true)
+    cuts.place_again c.requires.0 c.requires.1.1 (told_again (goal.at.list_slice-returns-then-listed_again t c).After-listed_again c.if-listed_again.true)
     (rw c.smaller_split-smaller.ensures at c.list_coeffs.ensures)
 
 pub list_slice-bounds-bounds-n : goal.list_slice-bounds-bounds-n
-list_slice-bounds-bounds-n t c = cuts.room_for_one c.requires.1.0
+list_slice-bounds-bounds-n t c = cuts.room_for_one c.requires.0
 
 pub list_slice-returns : goal.list_slice-returns
 list_slice-returns t c =
-    cuts.place_slice c.requires.1.0 c.requires.1.1.1 (sym c.listed_again.ensures ∙ c.if-listed_again.false)
+    cuts.place_slice c.requires.0 c.requires.1.1 (sym c.listed_again.ensures ∙ c.if-listed_again.false)

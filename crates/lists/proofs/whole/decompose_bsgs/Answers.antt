@@ -24,29 +24,37 @@ pub returns-then-answer-gt0 : goal.returns-then-answer-gt0
 returns-then-answer-gt0 c = calls.call_refused (shaped (goal.at.returns-then-answer-gt0 c).After-shape_for-shape) c.if-answer-gt0.true
 
 pub copy_coeffs-requires : goal.copy_coeffs-requires
-copy_coeffs-requires c = (calls.early (shaped (goal.at.copy_coeffs-requires c).After-shape_for-shape) (none (goal.at.copy_coeffs-requires c).Else-answer-gt0)).holds
+copy_coeffs-requires c =
+    let here = goal.at.copy_coeffs-requires c in
+    (calls.early (shaped here.After-shape_for-shape) (none here.Else-answer-gt0)).holds
 
 pub overflow_sub-n : goal.overflow_sub-n
-overflow_sub-n c = omega (arith, (calls.early (shaped (goal.at.overflow_sub-n c).After-shape_for-shape) (none (goal.at.overflow_sub-n c).Else-answer-gt0)).degree)
+overflow_sub-n c =
+    let here = goal.at.overflow_sub-n c in
+    omega (arith, (calls.early (shaped here.After-shape_for-shape) (none here.Else-answer-gt0)).degree)
 
 pub slice_bounds-list_coeffs-end : goal.slice_bounds-list_coeffs-end
 slice_bounds-list_coeffs-end c =
-    omega (arith, c.copy_coeffs.auto.out, (calls.early (shaped (goal.at.slice_bounds-list_coeffs-end c).After-shape_for-shape) (none (goal.at.slice_bounds-list_coeffs-end c).Else-answer-gt0)).holds)
+    let here = goal.at.slice_bounds-list_coeffs-end c in
+    omega (arith, c.copy_coeffs.auto.out, (calls.early (shaped here.After-shape_for-shape) (none here.Else-answer-gt0)).holds)
 
 pub slice_bounds-list_coeffs-end-2 : goal.slice_bounds-list_coeffs-end-2
 slice_bounds-list_coeffs-end-2 c =
-    sym (ap length (calls.part_is (shaped (goal.at.slice_bounds-list_coeffs-end-2 c).After-shape_for-shape) (none (goal.at.slice_bounds-list_coeffs-end-2 c).Else-answer-gt0) c.copy_coeffs.ensures refl))
+    let here = goal.at.slice_bounds-list_coeffs-end-2 c in
+    sym (ap length (calls.part_is (shaped here.After-shape_for-shape) (none here.Else-answer-gt0) c.copy_coeffs.ensures refl))
 
 pub list_coeffs-requires : goal.list_coeffs-requires
 list_coeffs-requires c =
-    let shape = shaped (goal.at.list_coeffs-requires c).After-shape_for-shape in
-    let passed = calls.early shape (none (goal.at.list_coeffs-requires c).Else-answer-gt0) in (
-      calls.listable shape (none (goal.at.list_coeffs-requires c).Else-answer-gt0) c.copy_coeffs.ensures c.relists.ensures,
-      rw (calls.part_is shape (none (goal.at.list_coeffs-requires c).Else-answer-gt0) c.copy_coeffs.ensures c.relists.ensures)
+    let here = goal.at.list_coeffs-requires c in
+    let shape = shaped here.After-shape_for-shape in
+    let passed = calls.early shape (none here.Else-answer-gt0) in (
+      calls.listable shape (none here.Else-answer-gt0) c.copy_coeffs.ensures c.relists.ensures,
+      rw (calls.part_is shape (none here.Else-answer-gt0) c.copy_coeffs.ensures c.relists.ensures)
           (sum_by_length_start _ (leb-true _ _ passed.is_small) passed.degree.to),
     )
 
 pub returns : goal.returns
 returns c =
-    calls.call_listed (shaped (goal.at.returns c).After-shape_for-shape) (none (goal.at.returns c).Else-answer-gt0) c.copy_coeffs.ensures c.relists.ensures
+    let here = goal.at.returns c in
+    calls.call_listed (shaped here.After-shape_for-shape) (none here.Else-answer-gt0) c.copy_coeffs.ensures c.relists.ensures
     c.list_coeffs.auto.c c.list_coeffs.ensures
