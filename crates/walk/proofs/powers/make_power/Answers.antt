@@ -52,10 +52,10 @@ pub offset_bounds-powers-n : goal.offset_bounds-powers-n
 offset_bounds-powers-n c = omega (arith, small (goal.at.offset_bounds-powers-n c).In-Number-power_from)
 
 pub bounds-powers-n : goal.bounds-powers-n
-bounds-powers-n c = omega (arith, small (goal.at.bounds-powers-n c).After-way_told-1)
+bounds-powers-n c = omega (arith, small (goal.at.bounds-powers-n c).In-Number-power_from)
 
 pub bounds-made-n : goal.bounds-made-n
-bounds-made-n c = omega (arith, small (goal.at.bounds-made-n c).After-way_told-2-1)
+bounds-made-n c = omega (arith, small (goal.at.bounds-made-n c).In-Number-power_from)
 
 pub returns : goal.returns
 returns c =
@@ -64,7 +64,7 @@ returns c =
     let powers = powers_of a.powers.now a.made.now in
     let makeable = sym c.is_makeable.ensures ∙ not-false _ c.if-not-is_makeable.false-raw in
     let sized = c.power_at.ensures in
-    let within = small (goal.at.returns c).After-way_told-2-1 in
+    let within = small (goal.at.returns c).In-Number-power_from in
     ap some (powers_set a.powers.now a.made.now a.n c.in-Number-power_from.v (omega arith) (omega arith))
     ∙ make_is 𝓡 a.basis powers a.n a.a a.b _ makeable
     (sym c.power_at.ensures.is ∙ ap found c.in_default.is)
