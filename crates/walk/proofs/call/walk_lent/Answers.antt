@@ -5,7 +5,6 @@ use mathlib.Core.Bool.{true}
 use mathlib.Core.Option.{some}
 use Prim.Native.Nat.{ℕ}
 use native.Mathlib.Omega.{arith}
-use borrow.Author.Tests.{not-true, not-false}
 use lib.ListN.{length, take}
 use lib.Seq.{length-take-le}
 use mir.Facts.{to_z-of_z}
@@ -25,7 +24,7 @@ fits c = record { coefficients = c.if-coefficients-n.false; lists = c.if-bounds-
 
 -- past the fourth the boundaries rise
 rising : (c : Else-not-bounds_rise) → let a = c.args in bounds_rise a.head a.bounds.now ≡ true
-rising c = sym c.bounds_rise.ensures ∙ not-false _ c.if-not-bounds_rise.false-raw
+rising c = sym c.bounds_rise.ensures ∙ c.if-not-bounds_rise.false
 
 -- the point as a number
 reduced : (c : After-run_steps) → let a = c.args in c.point_of-x.result ≡ (rules_of a.arithmetic).point a.point
@@ -69,7 +68,7 @@ pub returns-then-not-bounds_rise : goal.returns-then-not-bounds_rise
 returns-then-not-bounds_rise c =
     let a = c.args in
     not_rising (rules_of a.arithmetic) a.head a.coefficients.now a.bounds.now a.steps.now a.point (fits (goal.at.returns-then-not-bounds_rise c).Else-steps-count)
-    (sym c.bounds_rise.ensures ∙ not-true _ c.if-not-bounds_rise.true-raw)
+    (sym c.bounds_rise.ensures ∙ c.if-not-bounds_rise.true)
 
 pub slice_bounds-run_steps-end : goal.slice_bounds-run_steps-end
 slice_bounds-run_steps-end c =
