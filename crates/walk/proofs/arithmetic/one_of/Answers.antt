@@ -3,12 +3,6 @@ use native.Mathlib.Omega.{arith}
 use Rattle.walk.proofs.ArithmeticLaws.{modulus_of}
 use Rattle.walk.proofs.arithmetic.one_of.Goals as goal
 
--- TODO need nonzero-rem-result
-rem_result : tie.Need-nonzero-rem-result
-rem_result c =
-    let is_modulus = modulus_of c.before.arithmetic.given.1 c.before.before.before.requires in
-    omega arith
-
 pub returns-in-Remainders : goal.returns-in-Remainders
 returns-in-Remainders c = rw c.in-Remainders.is
 

@@ -5,7 +5,6 @@ use mathlib.Core.Bool.{true}
 use mathlib.Core.Option.{some}
 use Prim.Native.Nat.{ℕ}
 use native.Mathlib.Omega.{arith}
-use borrow.Author.Tests.{not-true, not-false}
 use lib.ListN.{length, take}
 use lib.Seq.{length-take-le}
 use mir.Facts.{to_z-of_z}
@@ -16,7 +15,7 @@ use Rattle.walk.specs.Walk.{walk_of}
 use Rattle.walk.specs.inside.Arrays.{found}
 use Rattle.walk.proofs.LentLaws.{Counts, few_coefficients, few_bounds, few_steps, not_rising, stuck, walked}
 use Rattle.walk.proofs.call.walk_lent.Goals as goal
-use Rattle.walk.proofs.call.walk_lent.Goals.{After-point_of-x, After-run_steps, Else-not-bounds_rise, Else-steps-count}
+use Rattle.walk.proofs.call.walk_lent.Goals.{After-run_steps, Else-not-bounds_rise, Else-steps-count}
 
 -- past the first three tests the counts are within their buffers
 fits : (c : Else-steps-count) → let a = c.args in
@@ -25,12 +24,12 @@ fits c = record { coefficients = c.if-coefficients-n.false; lists = c.if-bounds-
 
 -- past the fourth the boundaries rise
 rising : (c : Else-not-bounds_rise) → let a = c.args in bounds_rise a.head a.bounds.now ≡ true
-rising c = sym c.bounds_rise.ensures ∙ not-false _ c.if-not-bounds_rise.false-raw
+rising c = sym c.bounds_rise.ensures ∙ c.if-not-bounds_rise.false
 
 -- the point as a number
-reduced : (c : After-point_of-x) → let a = c.args in c.point_of-x.result ≡ (rules_of a.arithmetic).point a.point
+reduced : (c : After-run_steps) → let a = c.args in c.point_of-x.result ≡ (rules_of a.arithmetic).point a.point
 reduced c =
-    c.point_of-x.ensures ∙ ap (rules_of c.args.arithmetic).point (to_z-of_z c.fits.point)
+    c.point_of-x.ensures ∙ ap (rules_of c.args.arithmetic).point (to_z-of_z c.ranges.point)
 
 -- the steps ran from the input that the point gives
 ran : (c : After-run_steps) → let a = c.args in
@@ -42,7 +41,7 @@ ran c =
     c.run_steps.ensures
     ∙ ap (walk_of (rules_of a.arithmetic) a.head.parity a.head.basis (lent_lists a.head a.coefficients.now a.bounds.now)
     (lent_steps a.head a.steps.now))
-    (c.Input-of.ensures ∙ ap ((rules_of a.arithmetic).input a.head.transform) (reduced c.before.before.before))
+    (c.input_of-y.ensures ∙ ap ((rules_of a.arithmetic).input a.head.transform) (reduced c))
 
 pub returns-then-coefficients-n : goal.returns-then-coefficients-n
 returns-then-coefficients-n c = let a = c.args in
@@ -68,8 +67,8 @@ slice_bounds-used-end c =
 pub returns-then-not-bounds_rise : goal.returns-then-not-bounds_rise
 returns-then-not-bounds_rise c =
     let a = c.args in
-    not_rising (rules_of a.arithmetic) a.head a.coefficients.now a.bounds.now a.steps.now a.point (fits (goal.at.returns-then-not-bounds_rise c).Else-bounds-lists)
-    (sym c.bounds_rise.ensures ∙ not-true _ c.if-not-bounds_rise.true-raw)
+    not_rising (rules_of a.arithmetic) a.head a.coefficients.now a.bounds.now a.steps.now a.point (fits (goal.at.returns-then-not-bounds_rise c).Else-steps-count)
+    (sym c.bounds_rise.ensures ∙ c.if-not-bounds_rise.true)
 
 pub slice_bounds-run_steps-end : goal.slice_bounds-run_steps-end
 slice_bounds-run_steps-end c =
@@ -83,7 +82,7 @@ run_steps-requires c =
         usable = c.requires;
         rising = ap (λ (n : ℕ). rises 0 n (take a.head.lists a.bounds.now))
             (length-take-le a.head.coefficients a.coefficients.now c.if-coefficients-n.false)
-            ∙ rising (goal.at.run_steps-requires c).After-bounds_rise;
+            ∙ rising (goal.at.run_steps-requires c).Else-not-bounds_rise;
       },
       omega (arith, c.if-steps-count.false),
     )
@@ -91,12 +90,12 @@ run_steps-requires c =
 pub returns-in_default : goal.returns-in_default
 returns-in_default c =
     let a = c.args in
-    stuck (rules_of a.arithmetic) a.head a.coefficients.now a.bounds.now a.steps.now a.point (fits (goal.at.returns-in_default c).Else-coefficients-n) (rising (goal.at.returns-in_default c).After-bounds_rise)
+    stuck (rules_of a.arithmetic) a.head a.coefficients.now a.bounds.now a.steps.now a.point (fits (goal.at.returns-in_default c).Else-steps-count) (rising (goal.at.returns-in_default c).Else-not-bounds_rise)
     (sym (ran (goal.at.returns-in_default c).After-run_steps) ∙ ap found c.in_default.is)
 
 pub returns : goal.returns
 returns c =
     let a = c.args in
-    ap some (c.output_of.ensures ∙ ap (λ (x : ℕ). (rules_of a.arithmetic).output a.head.transform x c.in-Number.v) (reduced (goal.at.returns c).Else-not-bounds_rise))
-    ∙ walked (rules_of a.arithmetic) a.head a.coefficients.now a.bounds.now a.steps.now a.point (fits (goal.at.returns c).Else-coefficients-n)
-    c.in-Number.v (rising (goal.at.returns c).After-bounds_rise) (sym (ran (goal.at.returns c).After-run_steps) ∙ ap found c.in-Number.is)
+    ap some (c.output_of.ensures ∙ ap (λ (x : ℕ). (rules_of a.arithmetic).output a.head.transform x c.in-Number.v) (reduced (goal.at.returns c).After-run_steps))
+    ∙ walked (rules_of a.arithmetic) a.head a.coefficients.now a.bounds.now a.steps.now a.point (fits (goal.at.returns c).Else-steps-count)
+    c.in-Number.v (rising (goal.at.returns c).Else-not-bounds_rise) (sym (ran (goal.at.returns c).After-run_steps) ∙ ap found c.in-Number.is)

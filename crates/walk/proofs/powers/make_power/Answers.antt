@@ -4,7 +4,6 @@ use mathlib.Core.Path.{sym, ◌∙◌, ap}
 use mathlib.Core.Option.{some}
 use Prim.Native.Nat.{◌≤◌}
 use native.Mathlib.Omega.{arith}
-use borrow.Author.Tests.{not-true, not-false}
 use Rattle.number.specs.Limits.{plan_limit}
 use Rattle.number.specs.declared.split.Parts.{Parts}
 use Rattle.walk.specs.Make.{power_from}
@@ -21,13 +20,13 @@ pub returns-then-not-is_makeable : goal.returns-then-not-is_makeable
 returns-then-not-is_makeable c =
     let a = c.args in
     make_wrong (rules_of a.arithmetic) a.basis (powers_of a.powers.now a.made.now) a.n a.a a.b
-    (sym c.is_makeable.ensures ∙ not-true _ c.if-not-is_makeable.true-raw)
+    (sym c.is_makeable.ensures ∙ c.if-not-is_makeable.true)
 
 pub returns-in-Number : goal.returns-in-Number
 returns-in-Number c =
     let a = c.args in
     let powers = powers_of a.powers.now a.made.now in
-    let makeable = sym c.is_makeable.ensures ∙ not-false _ c.if-not-is_makeable.false-raw in
+    let makeable = sym c.is_makeable.ensures ∙ c.if-not-is_makeable.false in
     make_again (rules_of a.arithmetic) a.basis powers a.n a.a a.b _ makeable
     (sym c.power_at.ensures.is ∙ ap found c.in-Number.is)
 
@@ -36,7 +35,7 @@ returns-in_default-power_from c =
     let a = c.args in
     let 𝓡 = rules_of a.arithmetic in
     let powers = powers_of a.powers.now a.made.now in
-    let makeable = sym c.is_makeable.ensures ∙ not-false _ c.if-not-is_makeable.false-raw in
+    let makeable = sym c.is_makeable.ensures ∙ c.if-not-is_makeable.false in
     make_without 𝓡 a.basis powers a.n a.a a.b makeable
     (sym c.power_at.ensures.is ∙ ap found c.in_default.is)
     (ap (λ (x : Parts). power_from 𝓡 a.basis powers a.a a.b x.distance) (sym c.split_degree-parts.ensures)
@@ -46,25 +45,25 @@ returns-in_default-power_from c =
 small : (c : In-Number-power_from) → c.args.n ≤ plan_limit
 small c =
     let a = c.args in
-    makeable_within a.n a.a a.b (sym c.is_makeable.ensures ∙ not-false _ c.if-not-is_makeable.false-raw)
+    makeable_within a.n a.a a.b (sym c.is_makeable.ensures ∙ c.if-not-is_makeable.false)
 
 pub offset_bounds-powers-n : goal.offset_bounds-powers-n
 offset_bounds-powers-n c = omega (arith, small (goal.at.offset_bounds-powers-n c).In-Number-power_from)
 
 pub bounds-powers-n : goal.bounds-powers-n
-bounds-powers-n c = omega (arith, small (goal.at.bounds-powers-n c).After-way_told-1)
+bounds-powers-n c = omega (arith, small (goal.at.bounds-powers-n c).In-Number-power_from)
 
 pub bounds-made-n : goal.bounds-made-n
-bounds-made-n c = omega (arith, small (goal.at.bounds-made-n c).After-way_told-2-1)
+bounds-made-n c = omega (arith, small (goal.at.bounds-made-n c).In-Number-power_from)
 
 pub returns : goal.returns
 returns c =
     let a = c.args in
     let 𝓡 = rules_of a.arithmetic in
     let powers = powers_of a.powers.now a.made.now in
-    let makeable = sym c.is_makeable.ensures ∙ not-false _ c.if-not-is_makeable.false-raw in
+    let makeable = sym c.is_makeable.ensures ∙ c.if-not-is_makeable.false in
     let sized = c.power_at.ensures in
-    let within = small (goal.at.returns c).After-way_told-2-1 in
+    let within = small (goal.at.returns c).In-Number-power_from in
     ap some (powers_set a.powers.now a.made.now a.n c.in-Number-power_from.v (omega arith) (omega arith))
     ∙ make_is 𝓡 a.basis powers a.n a.a a.b _ makeable
     (sym c.power_at.ensures.is ∙ ap found c.in_default.is)

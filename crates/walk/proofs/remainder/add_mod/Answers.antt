@@ -5,20 +5,8 @@ use Rattle.walk.proofs.Modular.{below, add_reduced}
 use borrow.Author.Rules.{rules}
 use Rattle.walk.proofs.remainder.add_mod.Goals as goal
 
--- TODO need nonzero-rem-result
-rem_result : tie.Need-nonzero-rem-result
-rem_result c = search rules
-
--- TODO need nonzero-rem-result-2
-rem_result_2 : tie.Need-nonzero-rem-result-2
-rem_result_2 c = search rules
-
 pub overflow_add-result : goal.overflow_add-result
 overflow_add-result c = omega (arith, below c.args.a c.requires, below c.args.b c.requires)
-
--- TODO need nonzero-rem-result-3
-rem_result_3 : tie.Need-nonzero-rem-result-3
-rem_result_3 c = search rules
 
 pub returns : goal.returns
 returns c = add_reduced c.args.a c.args.b c.args.m

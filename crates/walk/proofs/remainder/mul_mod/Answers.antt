@@ -4,20 +4,8 @@ use Rattle.walk.proofs.Modular.{product_fits, mul_reduced}
 use borrow.Author.Rules.{rules}
 use Rattle.walk.proofs.remainder.mul_mod.Goals as goal
 
--- TODO need nonzero-rem-result
-rem_result : tie.Need-nonzero-rem-result
-rem_result c = search rules
-
--- TODO need nonzero-rem-result-2
-rem_result_2 : tie.Need-nonzero-rem-result-2
-rem_result_2 c = search rules
-
 pub overflow_mul-result : goal.overflow_mul-result
 overflow_mul-result c = record { fits = product_fits c.args.a c.args.b c.requires }
-
--- TODO need nonzero-rem-result-3
-rem_result_3 : tie.Need-nonzero-rem-result-3
-rem_result_3 c = search rules
 
 pub returns : goal.returns
 returns c = mul_reduced c.args.a c.args.b c.args.m

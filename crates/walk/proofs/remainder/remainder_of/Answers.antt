@@ -14,10 +14,6 @@ pub overflow_cast-result : goal.overflow_cast-result
 overflow_cast-result c = let p = as_pos c.args.x c.ranges.x c.if-x-ge0.true in
     rw p.1 (tt, record { fits = omega (arith, p.2) })
 
--- TODO need nonzero-rem-result
-rem_result : tie.Need-nonzero-rem-result
-rem_result c = search rules
-
 pub overflow_add-y : goal.overflow_add-y
 overflow_add-y c = let p = as_neg c.args.x c.ranges.x c.if-x-ge0.false in
     let t = turned c.args.x p.0 p.1 p.2 in
@@ -32,10 +28,6 @@ pub overflow_cast-result-else-x-ge0 : goal.overflow_cast-result-else-x-ge0
 overflow_cast-result-else-x-ge0 c = let p = as_neg c.args.x c.ranges.x c.if-x-ge0.false in
     let t = turned c.args.x p.0 p.1 p.2 in
     rw t.is (tt, record { fits = omega (arith, p.2) })
-
--- TODO need nonzero-rem-result-2
-rem_result_2 : tie.Need-nonzero-rem-result-2
-rem_result_2 c = search rules
 
 pub overflow_sub-result-else-x-ge0 : goal.overflow_sub-result-else-x-ge0
 overflow_sub-result-else-x-ge0 c = let p = as_neg c.args.x c.ranges.x c.if-x-ge0.false in

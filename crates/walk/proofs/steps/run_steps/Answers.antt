@@ -15,7 +15,7 @@ pub loop-i-init : goal.loop-i-init
 loop-i-init c =
     let a = c.args in
     let lists = list_at a.coefficients.now a.bounds.now in
-    let first = ap₂ powers_of c.first_powers-powers.ensures c.first_Marks.ensures ∙ powers_first (rules_of a.arithmetic) 4096 a.y
+    let first = ap₂ powers_of c.first_powers-powers.ensures c.first_marks-made.ensures ∙ powers_first (rules_of a.arithmetic) 4096 a.y
     (omega arith) in (
       search rules,
       (

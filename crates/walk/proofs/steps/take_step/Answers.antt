@@ -1,6 +1,7 @@
 -- `walk::steps::take_step` meets its contract. Kind by kind: each branch is a case of the definition, and each refusal one of its tests.
 use mathlib.Core.Path.{refl, ap}
 use mathlib.Core.Bool.{true, false}
+use Rattle.walk.specs.Kinds.{kind_of}
 use Rattle.walk.specs.inside.Arrays.{powers_of}
 use Rattle.walk.specs.inside.Taken.{state_of}
 use Rattle.walk.specs.inside.Arithmetic.{rules_of}

@@ -11,9 +11,6 @@ use Rattle.walk.proofs.sums.bounds_rise.Goals as goal
 pub loop-i-init : goal.loop-i-init
 loop-i-init c = (search rules, refl)
 
-pub overflow_cast-bound : goal.overflow_cast-bound
-overflow_cast-bound c = omega (arith, c.shared_slice_known-1.given c.loop-i.i)
-
 pub returns-then-bound-last : goal.returns-then-bound-last
 returns-then-bound-last c = let a = c.args in
     sym (sym c.loop-i.invariant.1 ∙ rises_not a.bounds.now a.most c.loop-i.last c.loop-i.i c.loop-i-test.true

@@ -5,9 +5,6 @@ use lib.ListN.{length}
 use Rattle.walk.proofs.BoundaryLaws.{within}
 use Rattle.walk.proofs.sums.list_of.Goals as goal
 
-pub overflow_cast-end : goal.overflow_cast-end
-overflow_cast-end c = omega (arith, c.shared_slice_known-2-1.given c.args.i)
-
 pub offset_bounds-coefficients-start : goal.offset_bounds-coefficients-start
 offset_bounds-coefficients-start c = let a = c.args in
     let fits = within (length a.coefficients.now) a.bounds.now a.i c.requires.1 c.requires.0 in

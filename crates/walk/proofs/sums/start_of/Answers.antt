@@ -6,9 +6,6 @@ use Rattle.walk.specs.Boundaries.{start_of}
 use Rattle.walk.proofs.BoundaryLaws.{start_later}
 use Rattle.walk.proofs.sums.start_of.Goals as goal
 
-pub overflow_cast-result : goal.overflow_cast-result
-overflow_cast-result c = omega (arith, c.shared_slice_known-1.given (c.args.i - 1))
-
 pub returns-then-i-eq0 : goal.returns-then-i-eq0
 returns-then-i-eq0 c = ap (start_of c.args.bounds.now) (sym c.if-i-eq0.true)
 

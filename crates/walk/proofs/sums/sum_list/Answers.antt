@@ -24,7 +24,7 @@ added c =
     let a = c.args in
     let z = get_or a.list.now c.loop-j.j (pos 0) in
     ap (add_place (rules_of a.arithmetic) a.parity (powers_of a.powers.now a.made.now) c.loop-j.j c.loop-j.sum)
-    (sym (to_z-of_z {w = w64} {z = z} (record { sfits = c.add_place-arg-1.given })))
+    (sym (to_z-of_z {w = w64} {z = z} (search rules)))
     ∙ sym c.add_place.ensures
 
 pub loop-j-init : goal.loop-j-init

@@ -9,7 +9,7 @@ use Rattle.walk.proofs.StackLaws.{join_is, join_few}
 use Rattle.walk.proofs.waiting.join.Goals as goal
 
 pub returns-then-at-lt2 : goal.returns-then-at-lt2
-returns-then-at-lt2 c = let w = c.args.t1 in
+returns-then-at-lt2 c = let w = c.args.w in
     record {
       is = c.refused.ensures.is ∙ join_few (rules_of c.args.arithmetic) c.args.plain c.args.power w.values w.count
           c.if-at-lt2.true;
@@ -18,7 +18,7 @@ returns-then-at-lt2 c = let w = c.args.t1 in
 
 pub returns : goal.returns
 returns c =
-    let w = c.args.t1 in
+    let w = c.args.w in
     let inside : w.count ≤ length w.values = omega arith in
     record {
       is = rw c.combined.ensures

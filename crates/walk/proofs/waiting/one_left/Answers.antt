@@ -5,7 +5,7 @@ use Rattle.walk.proofs.StackLaws.{left_one, left_other}
 use Rattle.walk.proofs.waiting.one_left.Goals as goal
 
 pub returns-then-left-ne1 : goal.returns-then-left-ne1
-returns-then-left-ne1 c = let w = c.args.t1 in sym (left_other w.values w.count c.if-left-ne1.true)
+returns-then-left-ne1 c = let w = c.args.w in sym (left_other w.values w.count c.if-left-ne1.true)
 
 pub returns : goal.returns
-returns c = let w = c.args.t1 in sym (left_one w.values w.count c.if-left-ne1.false)
+returns c = let w = c.args.w in sym (left_one w.values w.count c.if-left-ne1.false)
