@@ -2,9 +2,8 @@
 -- rest is still to have it, which together is what is to be left. The measure is what is left of the length.
 use mathlib.Core.Path.{refl, sym, ◌∙◌}
 use mathlib.Core.List.{List}
-use Prim.Native.Nat.{ℕ, ◌+◌, ◌-◌}
+use Prim.Native.Nat.{ℕ, ◌+◌}
 use lib.Ieee.{Float, nan}
-use Rattle.algebra.specs.Power.{cheb}
 use Rattle.number.specs.Numbers.{float_ops}
 use Rattle.interpolation.specs.Interpolate.{add_node}
 use Rattle.number.proofs.Literals.{one_is}

@@ -1,7 +1,7 @@
 -- The loop's invariant: the nodes from place k on, added to what stands in the sums now, give what all nodes added to the first sums give.
 -- The measure is what is left of the nodes.
 use mathlib.Core.Path.{refl, sym, ap, ◌∙◌}
-use Prim.Native.Nat.{◌+◌, ◌-◌}
+use Prim.Native.Nat.{◌+◌}
 use lib.ListN.{drop}
 use lib.Ieee.{nan}
 use Rattle.number.specs.Numbers.{float_ops}

@@ -1,7 +1,6 @@
 -- The places before i hold +0 and the rest is still to be cleared, which together is what is to be left. The measure is what is left of the length.
 use mathlib.Core.Path.{refl, sym, ◌∙◌}
 use mathlib.Core.List.{List}
-use Prim.Native.Nat.{◌-◌}
 use lib.ListN.{length, replicate}
 use lib.Ieee.{Float, nan}
 use Rattle.number.specs.Numbers.{float_ops}

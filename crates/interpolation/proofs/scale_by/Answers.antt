@@ -1,6 +1,5 @@
 -- The places before i are scaled and the rest is still to be, which together is what is to be left. The measure is what is left of the length.
 use mathlib.Core.Path.{refl, sym, ◌∙◌}
-use Prim.Native.Nat.{◌-◌}
 use lib.Ieee.{nan}
 use Rattle.number.specs.Numbers.{float_ops}
 use Rattle.interpolation.specs.Interpolate.{scaled_by}
