@@ -67,7 +67,8 @@ every_none test = refl
 pub every_next : (xs : List ℤ) (i : ℕ) → i < length xs → every fits_i64 (take i xs) ≡ true → mag (get_or xs i (pos 0)) < 2 ^ 63
     → every fits_i64 (take (i + 1) xs) ≡ true
 every_next xs i inside first small =
-    let one : every fits_i64 (get_or xs i (pos 0) ∷ []) ≡ true = every_one fits_i64 (get_or xs i (pos 0)) ∙ lt-ltb (mag (get_or xs i (pos 0))) (2 ^ 63) small in
+    let one : every fits_i64 (get_or xs i (pos 0) ∷ []) ≡ true =
+    every_one fits_i64 (get_or xs i (pos 0)) ∙ lt-ltb (mag (get_or xs i (pos 0))) (2 ^ 63) small in
     ap (λ (k : ℕ). every fits_i64 (take k xs)) (add-one i)
     ∙ ap (every fits_i64) (take-suc xs i (pos 0) inside)
     ∙ every_both fits_i64 (take i xs) (get_or xs i (pos 0) ∷ []) first one

@@ -1,11 +1,11 @@
 -- The rebuild call over plain values: the answer and the buffer at each of its ways out, and what a call that isn't refused has passed.
 use mathlib.Core.Path.{◌≡◌, refl, sym, ◌∙◌, ap}
-use mathlib.Core.Bool.{Bool, true, false, not, ◌&&◌}
+use mathlib.Core.Bool.{Bool, true, false, ◌&&◌}
 use mathlib.Core.List.{List}
 use mathlib.Core.Option.{Option, some}
 use Prim.Native.Nat.{ℕ, zero, suc, ◌≤◌, ◌<◌, ◌^◌}
 use native.Mathlib.Omega.{arith}
-use borrow.Author.Tests.{lt-ltb, le-ltb, ltb-false, eqb-true, eqb-false, eq-eqb, ne_eqb, leb-true, le-leb, not-true, not-false}
+use borrow.Author.Tests.{lt-ltb, le-ltb, ltb-false, eqb-true, eqb-false, eq-eqb, ne_eqb, leb-true, le-leb, not-false}
 use lib.Dec.{eqb, ltb, leb}
 use lib.IntN.{ℤ}
 use lib.ListN.{length, take}
@@ -156,23 +156,23 @@ module _ (strategy : SplitStrategy) (parity : Parity) (basis : Basis) (degree ba
 -- ---- the last two tests, of what was rebuilt, where it is there
 
 module _ {found : Option (List ℤ)} {count : ℕ} {out : List ℤ} (there : Bool) (c : List ℤ) (found-is : found ≡ when there (some c)) where
-  pub cannot_undo_lem : not there ≡ true → Written found count out 34 out
+  pub cannot_undo_lem : there ≡ false → Written found count out 34 out
   cannot_undo_lem missed = record {
-    refusal = rw (found-is, not-true there missed);
+    refusal = rw (found-is, missed);
     coefficients = when_refused _ _ _ (omega arith);
   }
 
-  module _ (held : not there ≡ false) where
+  module _ (held : there ≡ true) where
     pub too_short : length out < count → Written found count out 21 out
     too_short short = record {
-      refusal = rw (found-is, not-false there held, lt-ltb (length out) count short);
+      refusal = rw (found-is, held, lt-ltb (length out) count short);
       coefficients = when_refused _ _ _ (omega arith);
     }
 
     pub found_written : {out' : List ℤ} → count ≤ length out → out' ≡ sets out 0 c → Written found count out 0 out'
     found_written long out_is = record {
-      refusal = rw (found-is, not-false there held, le-ltb (length out) count long);
-      coefficients = out_is ∙ rw (found-is, not-false there held) (when_accepted _ _ refl);
+      refusal = rw (found-is, held, le-ltb (length out) count long);
+      coefficients = out_is ∙ rw (found-is, held) (when_accepted _ _ refl);
     }
 
 -- ---- what a call that isn't refused has passed

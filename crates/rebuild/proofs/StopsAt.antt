@@ -1,9 +1,9 @@
 -- Refusal 34 exactly if rebuilding stops at some cut. By induction over the tree: where both parts are rebuilt, the two tests of the cut decide.
 use mathlib.Core.Path.{◌≡◌, refl, sym, ◌∙◌, ap}
-use mathlib.Core.Bool.{Bool, true, false, not, ◌&&◌, and-false, true≢false, false≢true}
+use mathlib.Core.Bool.{Bool, true, false, not, ◌&&◌, and-false, true≢false}
 use mathlib.Core.List.{List, [], ◌∷◌}
 use mathlib.Core.Option.{Option, some, none, none-ne-some}
-use Prim.Native.Nat.{ℕ, zero, suc, ◌≤◌, ◌<◌}
+use Prim.Native.Nat.{ℕ, zero, suc, ◌<◌}
 use native.Mathlib.Omega.{arith}
 use borrow.Author.Tests.{ltb-false, eqb-false, le-ltb, ne_eqb, not-false}
 use lib.Dec.{eqb, ltb}
@@ -19,7 +19,7 @@ use Rattle.counts.specs.declared.choice.SplitStrategy.{SplitStrategy}
 use Rattle.lists.specs.Tree.{Tree, leaf, cut, plan_tree}
 use Rattle.rebuild.specs.Undo.{is_even, fits_i64, every, doubled_in, before_cut, can_undo, undone}
 use Rattle.rebuild.specs.Rebuild.{rebuilt}
-use Rattle.rebuild.specs.RebuildCall.{matches_settings, coefficients_from, rebuild_refusal, RebuildCall}
+use Rattle.rebuild.specs.RebuildCall.{matches_settings, coefficients_from, rebuild_refusal}
 use Rattle.rebuild.specs.StopsAt.{Fails, StopsAt, odd, beyond, in_first, in_second, Stopped, StoppedRefused}
 use Rattle.rebuild.specs.declared.call.Rebuilt.{Rebuilt}
 use Rattle.rebuild.proofs.RebuildTests.{answer_refusal_lem}
@@ -88,6 +88,7 @@ then_none none f none_is = refl
 
 stopped : (basis : Basis) (tree : Tree) (lists : List ℤ) → StopsAt basis tree lists → rebuilt basis tree lists ≡ none
 unfolding rebuilt undone can_undo
+stopped basis leaf lists stop = elim stop [ ]
 stopped basis (cut p first second) lists (odd {low = low} {high = high} low_is high_is fails) =
     rw (low_is, high_is, at_fails is_even (doubled_in basis high) fails.place fails.inside fails.fails)
 stopped basis (cut p first second) lists (beyond {low = low} {high = high} low_is high_is fails) =

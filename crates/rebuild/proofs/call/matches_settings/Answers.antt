@@ -5,7 +5,10 @@ use mathlib.Core.List.{List}
 use Prim.Native.Nat.{ℕ, suc, ◌≤◌, ◌<◌, ◌^◌}
 use native.Mathlib.Omega.{arith}
 use lib.ListN.{length}
+use Rattle.algebra.specs.declared.Basis.{Basis}
+use Rattle.algebra.specs.declared.Parity.{Parity}
 use Rattle.counts.specs.Choice.{split_for}
+use Rattle.counts.specs.declared.choice.SplitStrategy.{SplitStrategy}
 use Rattle.counts.proofs.ChoiceLaws.{split_range}
 use Rattle.lists.specs.Tree.{tree_of, relists, plan_tree}
 use Rattle.lists.specs.Arrange.{ends_of}
@@ -16,10 +19,8 @@ use Rattle.rebuild.proofs.call.matches_settings.Goals as goal
 use Rattle.rebuild.proofs.call.matches_settings.Goals.{After-match_ends, Else-base-power_of_two, Start}
 
 -- the boundaries of the settings
-abbrev ends : Start → List ℕ
-ends c =
-    let asked = c.args in
-    ends_of (plan_tree asked.strategy asked.parity asked.basis asked.degree) 0 (suc asked.degree)
+abbrev ends : SplitStrategy → Parity → Basis → (degree : ℕ) → List ℕ
+ends strategy parity basis degree = ends_of (plan_tree strategy parity basis degree) 0 (suc degree)
 
 -- the split is small
 small : (c : Start) → c.args.split ≤ 12
@@ -33,14 +34,15 @@ base_is : (c : Else-base-power_of_two) → let asked = c.args in
 base_is c = c.if-base-power_of_two.false ∙ c.power_of_two.ensures ∙ ap (2 ^◌) c.requires.1
 
 -- the boundaries are looked for by the plan tree, and there are some
-match_is : (c : After-match_ends) → c.match_ends.result ≡ match_from (ends c.before.before.before.before.before) c.args.bounds.now 0
+match_is : (c : After-match_ends) → let asked = c.args in
+    c.match_ends.result ≡ match_from (ends asked.strategy asked.parity asked.basis asked.degree) asked.bounds.now 0
 match_is c =
     let degree = c.args.degree in
     c.match_ends.ensures
     ∙ ap₂ (λ leading split. match_from (ends_of (tree_of leading degree degree split) 0 (suc degree)) c.args.bounds.now 0) c.relists.ensures
     c.requires.1
 
-some_ends : (c : Start) → 0 < length (ends c)
+some_ends : (c : Start) → let asked = c.args in 0 < length (ends asked.strategy asked.parity asked.basis asked.degree)
 some_ends c =
     let asked = c.args in
     steps.some_ends (relists asked.strategy) asked.degree asked.degree
@@ -64,12 +66,14 @@ match_ends-requires c =
 
 pub returns-then-match_ends-lt1 : goal.returns-then-match_ends-lt1
 returns-then-match_ends-lt1 c =
+    let here = goal.at.returns-then-match_ends-lt1 c in
     let asked = c.args in
     tests.other_ends asked.strategy asked.parity asked.basis asked.degree asked.base asked.lists.now asked.bounds.now
-    (base_is (goal.at.returns-then-match_ends-lt1 c).Else-base-power_of_two) (steps.front_other _ _ (some_ends (goal.at.returns-then-match_ends-lt1 c).Start) (match_is (goal.at.returns-then-match_ends-lt1 c).After-match_ends) c.if-match_ends-lt1.true)
+    (base_is here.Else-base-power_of_two) (steps.front_other _ _ (some_ends here.Start) (match_is here.After-match_ends) c.if-match_ends-lt1.true)
 
 pub returns : goal.returns
 returns c =
+    let here = goal.at.returns c in
     let asked = c.args in
     tests.by_places asked.strategy asked.parity asked.basis asked.degree asked.base asked.lists.now asked.bounds.now
-    (base_is (goal.at.returns c).Else-base-power_of_two) (steps.front_same _ _ (some_ends (goal.at.returns c).Start) (match_is (goal.at.returns c).After-match_ends) c.if-match_ends-lt1.false)
+    (base_is here.Else-base-power_of_two) (steps.front_same _ _ (some_ends here.Start) (match_is here.After-match_ends) c.if-match_ends-lt1.false)

@@ -5,7 +5,6 @@ use mathlib.Core.Bool.{true}
 use Prim.Native.Nat.{suc, ◌+◌, ◌≤◌}
 use native.Mathlib.Numerals.{add-one}
 use native.Mathlib.Omega.{arith}
-use borrow.Author.Tests.{not-true, not-false}
 use lib.ListN.{length, take}
 use lib.Seq.{length-take-le}
 use Rattle.number.specs.Limits.{plan_limit}
@@ -24,7 +23,7 @@ degrees c = record { from = omega arith; to = omega arith }
 -- the lists have the settings
 has : (c : Else-not-matches_settings) → let asked = c.args in
     matches_settings asked.strategy asked.parity asked.basis asked.degree asked.base asked.lists.now asked.bounds.now ≡ true
-has c = sym c.matches_settings.ensures ∙ not-false _ c.if-not-matches_settings.false-raw
+has c = sym c.matches_settings.ensures ∙ c.if-not-matches_settings.false
 
 -- so there is a number for each coefficient
 places : (c : Else-not-matches_settings) → let asked = c.args in asked.degree + 1 ≤ length asked.lists.now
@@ -39,13 +38,13 @@ size : (c : Else-not-matches_settings) → let asked = c.args in length (take (a
 size c = let asked = c.args in length-take-le (asked.degree + 1) asked.lists.now (places c)
 
 -- what the call below answers and writes
-written : (c : After-rebuild_in_scratch-refusal) → let asked = c.args in
+written : (c : After-rebuild_in_scratch-refusal) → let asked = c.args in asked.degree + 1 ≤ length asked.lists.now →
     Written (coefficients_from asked.strategy asked.parity asked.basis asked.degree asked.lists.now) (suc asked.degree) asked.out.now
     c.rebuild_in_scratch-refusal.result c.rebuild_in_scratch-refusal.new.out
-written c =
+written c enough =
     let asked = c.args in
     tests.written_from asked.strategy asked.parity asked.basis asked.degree asked.base asked.lists.now asked.bounds.now
-    (add-one asked.degree) (places c.before.before) c.split_for_strategy-split.ensures c.rebuild_in_scratch-refusal.ensures
+    (add-one asked.degree) enough c.split_for_strategy-split.ensures c.rebuild_in_scratch-refusal.ensures
 
 pub returns-then-degree-gt-PLAN_LIMIT : goal.returns-then-degree-gt-PLAN_LIMIT
 returns-then-degree-gt-PLAN_LIMIT c =
@@ -69,21 +68,22 @@ pub returns-then-not-matches_settings : goal.returns-then-not-matches_settings
 returns-then-not-matches_settings c =
     let asked = c.args in
     tests.refused_settings asked.strategy asked.parity asked.basis asked.degree asked.base asked.lists.now asked.bounds.now
-    asked.out.now (degrees (goal.at.returns-then-not-matches_settings c).Else-degree-eq0) (sym c.matches_settings.ensures ∙ not-true _ c.if-not-matches_settings.true-raw)
+    asked.out.now (degrees (goal.at.returns-then-not-matches_settings c).Else-degree-eq0) (sym c.matches_settings.ensures ∙ c.if-not-matches_settings.true)
     c.refused-then-not-matches_settings.ensures
 
 pub overflow_add-n : goal.overflow_add-n
 overflow_add-n c = let few = degrees (goal.at.overflow_add-n c).Else-degree-eq0 in record { fits = omega (arith, few.to) }
 
 pub slice_bounds-rebuild_in_scratch-end : goal.slice_bounds-rebuild_in_scratch-end
-slice_bounds-rebuild_in_scratch-end c = sym (size (goal.at.slice_bounds-rebuild_in_scratch-end c).After-matches_settings)
+slice_bounds-rebuild_in_scratch-end c = sym (size (goal.at.slice_bounds-rebuild_in_scratch-end c).Else-not-matches_settings)
 
 pub rebuild_in_scratch-refusal-requires : goal.rebuild_in_scratch-refusal-requires
 rebuild_in_scratch-refusal-requires c =
+    let here = goal.at.rebuild_in_scratch-refusal-requires c in
     let asked = c.args in
-    let few = degrees (goal.at.rebuild_in_scratch-refusal-requires c).Else-degree-eq0 in
+    let few = degrees here.Else-degree-eq0 in
     let range = split_range asked.strategy asked.parity asked.basis asked.degree few in
-    let count = size (goal.at.rebuild_in_scratch-refusal-requires c).After-matches_settings in
+    let count = size here.Else-not-matches_settings in
     record {
       degrees = record { from = omega (arith, count, few.from); to = omega (arith, count, few.to) };
       split_limit = omega (arith, c.split_for_strategy-split.ensures, range.to);
@@ -91,13 +91,17 @@ rebuild_in_scratch-refusal-requires c =
 
 pub returns-then-refusal-gt0 : goal.returns-then-refusal-gt0
 returns-then-refusal-gt0 c =
+    let here = goal.at.returns-then-refusal-gt0 c in
     let asked = c.args in
+    let wrote = written here.After-rebuild_in_scratch-refusal (places here.Else-not-matches_settings) in
     tests.refused_last asked.strategy asked.parity asked.basis asked.degree asked.base asked.lists.now asked.bounds.now
-    asked.out.now (degrees (goal.at.returns-then-refusal-gt0 c).Else-degree-eq0) (has (goal.at.returns-then-refusal-gt0 c).Else-not-matches_settings) (written (goal.at.returns-then-refusal-gt0 c).After-rebuild_in_scratch-refusal) c.if-refusal-gt0.true c.refused-then-refusal-gt0.ensures
+    asked.out.now (degrees here.Else-degree-eq0) (has here.Else-not-matches_settings) wrote c.if-refusal-gt0.true c.refused-then-refusal-gt0.ensures
 
 pub returns : goal.returns
 returns c =
+    let here = goal.at.returns c in
     let asked = c.args in
+    let wrote = written here.After-rebuild_in_scratch-refusal (places here.Else-not-matches_settings) in
     tests.call_made asked.strategy asked.parity asked.basis asked.degree asked.base asked.lists.now asked.bounds.now
-    asked.out.now (degrees (goal.at.returns c).Else-degree-eq0) (has (goal.at.returns c).Else-not-matches_settings) (written (goal.at.returns c).After-rebuild_in_scratch-refusal) (omega arith)
+    asked.out.now (degrees here.Else-degree-eq0) (has here.Else-not-matches_settings) wrote (omega arith)
     (ap (λ n. record { refusal = 0; coefficients = n }) (add-one asked.degree))

@@ -40,7 +40,8 @@ rebuild_part-requires c =
 pub returns : goal.returns
 unfolding coefficients_at
 returns c =
+    let here = goal.at.returns c in
     let size : length c.rebuild_part.new.c ≡ length c.args.lists.now =
-    c.rebuild_part.auto.c ∙ ap length (at_front (goal.at.returns c).After-take_lists) in
+    c.rebuild_part.auto.c ∙ ap length (at_front here.After-take_lists) in
     rw (take_at c.rebuild_part.new.c _ (length c.args.lists.now) size)
-    (rw (at_front (goal.at.returns c).After-take_lists, c.relists.ensures) at c.rebuild_part.ensures)
+    (rw (at_front here.After-take_lists, c.relists.ensures) at c.rebuild_part.ensures)

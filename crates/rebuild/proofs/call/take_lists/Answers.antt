@@ -1,14 +1,13 @@
 -- `rebuild::call::take_lists` meets its contract. At each turn the first i places hold the first i numbers, each of which fits, as it was read; those
 -- beyond are as they were.
 use mathlib.Core.Path.{refl, ◌∙◌}
-use Prim.Native.Nat.{◌-◌}
 use native.Mathlib.Omega.{arith}
 use lib.IntN.{pos}
-use lib.ListN.{length, take, length-set}
+use lib.ListN.{length-set}
 use lib.Seq.{take_all}
 use Rattle.algebra.proofs.Filling.{copy_step, copy_end}
 use Rattle.number.proofs.Signed.{back}
-use Rattle.rebuild.specs.Undo.{every, fits_i64}
+use Rattle.rebuild.specs.Undo.{fits_i64}
 use Rattle.rebuild.proofs.Every.{every_next, every_none}
 use Rattle.rebuild.proofs.call.take_lists.Goals as goal
 

@@ -16,19 +16,19 @@ size c =
 
 pub returns-then-not-rebuild_lists : goal.returns-then-not-rebuild_lists
 returns-then-not-rebuild_lists c =
-    tests.cannot_undo_lem c.rebuild_lists.result _ c.rebuild_lists.ensures c.if-not-rebuild_lists.true-raw
+    tests.cannot_undo_lem c.rebuild_lists.result _ c.rebuild_lists.ensures c.if-not-rebuild_lists.true
 
 pub returns-then-out-n : goal.returns-then-out-n
 returns-then-out-n c =
-    tests.too_short c.rebuild_lists.result _ c.rebuild_lists.ensures c.if-not-rebuild_lists.false-raw c.if-out-n.true
+    tests.too_short c.rebuild_lists.result _ c.rebuild_lists.ensures c.if-not-rebuild_lists.false c.if-out-n.true
 
 pub slice_bounds-copy_coeffs-end-2 : goal.slice_bounds-copy_coeffs-end-2
-slice_bounds-copy_coeffs-end-2 c = sym (size (goal.at.slice_bounds-copy_coeffs-end-2 c).After-room-1)
+slice_bounds-copy_coeffs-end-2 c = sym (size (goal.at.slice_bounds-copy_coeffs-end-2 c).Else-not-rebuild_lists)
 
 pub copy_coeffs-requires : goal.copy_coeffs-requires
-copy_coeffs-requires c = let places = size (goal.at.copy_coeffs-requires c).After-room-1 in omega (arith, places)
+copy_coeffs-requires c = let places = size (goal.at.copy_coeffs-requires c).Else-not-rebuild_lists in omega (arith, places)
 
 pub returns : goal.returns
 returns c =
-    tests.found_written c.rebuild_lists.result _ c.rebuild_lists.ensures c.if-not-rebuild_lists.false-raw c.if-out-n.false
+    tests.found_written c.rebuild_lists.result _ c.rebuild_lists.ensures c.if-not-rebuild_lists.false c.if-out-n.false
     c.copy_coeffs.ensures

@@ -2,6 +2,7 @@
 -- those of high behind them. The measure is that of `rebuild_part`, by the degree.
 use mathlib.Core.Path.{◌≡◌, sym, ◌∙◌}
 use mathlib.Core.Bool.{true, false, ◌&&◌}
+use Prim.Native.Nat.{ℕ}
 use native.Mathlib.Omega.{arith}
 use lib.Pow.{pow_pos}
 use Rattle.lists.specs.Tree.{listed_again}
@@ -13,7 +14,7 @@ use Rattle.rebuild.proofs.ends.+match_ends_match_slice.Goals as goal
 use Rattle.rebuild.proofs.ends.+match_ends_match_slice.Goals.{match_ends-After-top_power-p, match_slice-After-listed_again, match_slice-Else-listed_again}
 
 -- the cut whose parts are looked for
-cut_of : (c : match_ends-After-top_power-p t)
+cut_of : {t : ℕ} (c : match_ends-After-top_power-p t)
     → let args = c.args in
     EndsCut args.leading args.whole args.degree args.split args.at args.n c.top_power-p.result args.bounds.now
 cut_of c =
@@ -21,12 +22,12 @@ cut_of c =
     record { from = omega arith; power = c.top_power-p.ensures }
 
 pub match_ends-power_of_two-base-requires : goal.match_ends-power_of_two-base-requires
-match_ends-power_of_two-base-requires t c = let few = c.requires.1.0.split_limit in omega arith
+match_ends-power_of_two-base-requires t c = let few = c.requires.0.split_limit in omega arith
 
 pub match_ends-match_slice-requires : goal.match_ends-match_slice-requires
 match_ends-match_slice-requires t c =
     let base_is = c.power_of_two-base.ensures in
-    (omega (arith, c.requires.0), (c.requires.1.0, (c.requires.1.1, omega arith)))
+    (omega arith, (c.requires.0, (c.requires.1, omega arith)))
 
 pub match_ends-returns-then-degree-base : goal.match_ends-returns-then-degree-base
 match_ends-returns-then-degree-base t c = c.match_slice.ensures
@@ -37,91 +38,91 @@ match_ends-top_power-p-requires t c =
     omega (arith, pow_pos c.args.split)
 
 pub match_ends-overflow_sub-p : goal.match_ends-overflow_sub-p
-match_ends-overflow_sub-p t c = steps.positive (cut_of (goal.at.match_ends-overflow_sub-p c).After-top_power-p)
+match_ends-overflow_sub-p t c = steps.positive (cut_of (goal.at.match_ends-overflow_sub-p t c).After-top_power-p)
 
 pub match_ends-match_ends-m-requires : goal.match_ends-match_ends-m-requires
 match_ends-match_ends-m-requires t c =
-    let some = steps.positive (cut_of (goal.at.match_ends-match_ends-m-requires c).After-top_power-p) in
-    let under = steps.under (cut_of (goal.at.match_ends-match_ends-m-requires c).After-top_power-p) in
-    let place = c.requires.1.1 in
-    (omega (arith, c.requires.0), (smaller_part c.requires.1.0 (omega arith), omega arith))
+    let here = goal.at.match_ends-match_ends-m-requires t c in
+    let some = steps.positive (cut_of here.After-top_power-p) in
+    let under = steps.under (cut_of here.After-top_power-p) in
+    let place = c.requires.1 in
+    (omega arith, (smaller_part c.requires.0 (omega arith), omega arith))
 
 pub match_ends-returns-then-m-lt1 : goal.match_ends-returns-then-m-lt1
 match_ends-returns-then-m-lt1 t c =
-    steps.cut_none (cut_of (goal.at.match_ends-returns-then-m-lt1 c).After-top_power-p) c.match_ends-m.result c.match_ends-m.ensures c.if-m-lt1.true
+    steps.cut_none (cut_of (goal.at.match_ends-returns-then-m-lt1 t c).After-top_power-p) c.match_ends-m.result c.match_ends-m.ensures c.if-m-lt1.true
 
 pub match_ends-overflow_sub-degree : goal.match_ends-overflow_sub-degree
-match_ends-overflow_sub-degree t c = steps.under (cut_of (goal.at.match_ends-overflow_sub-degree c).After-top_power-p)
+match_ends-overflow_sub-degree t c = steps.under (cut_of (goal.at.match_ends-overflow_sub-degree t c).After-top_power-p)
 
 pub match_ends-overflow_add-at : goal.match_ends-overflow_add-at
 match_ends-overflow_add-at t c =
-    let under = steps.under (cut_of (goal.at.match_ends-overflow_add-at c).After-top_power-p) in
-    let place = c.requires.1.1 in
+    let under = steps.under (cut_of (goal.at.match_ends-overflow_add-at t c).After-top_power-p) in
+    let place = c.requires.1 in
     record { fits = omega arith }
 
 pub match_ends-match_ends-requires : goal.match_ends-match_ends-requires
 match_ends-match_ends-requires t c =
-    let some = steps.positive (cut_of (goal.at.match_ends-match_ends-requires c).After-top_power-p) in
-    let under = steps.under (cut_of (goal.at.match_ends-match_ends-requires c).After-top_power-p) in
-    let place = c.requires.1.1 in
-    (omega (arith, c.requires.0), (smaller_part c.requires.1.0 (omega arith), omega arith))
+    let here = goal.at.match_ends-match_ends-requires t c in
+    let some = steps.positive (cut_of here.After-top_power-p) in
+    let under = steps.under (cut_of here.After-top_power-p) in
+    let place = c.requires.1 in
+    (omega arith, (smaller_part c.requires.0 (omega arith), omega arith))
 
 pub match_ends-returns : goal.match_ends-returns
 match_ends-returns t c =
-    steps.cut_both (cut_of (goal.at.match_ends-returns c).After-top_power-p) c.match_ends-m.result c.match_ends-m.ensures c.if-m-lt1.false c.match_ends.ensures
+    let here = goal.at.match_ends-returns t c in
+    steps.cut_both (cut_of here.After-top_power-p) c.match_ends-m.result c.match_ends-m.ensures c.if-m-lt1.false c.match_ends.ensures
 
 -- a slice that the test says is listed again, and one that it says is not
-told_again : (c : match_slice-After-listed_again t) → c.listed_again.result ≡ true
+told_again : {t : ℕ} (c : match_slice-After-listed_again t) → c.listed_again.result ≡ true
     → let args = c.args in (args.leading && listed_again args.whole args.degree args.split) ≡ true
 told_again c told = sym c.listed_again.ensures ∙ told
 
-again : (c : match_slice-After-listed_again t) → c.listed_again.result ≡ true
+again : {t : ℕ} (c : match_slice-After-listed_again t) → c.listed_again.result ≡ true
     → let args = c.args in Again args.whole args.degree args.split
 again c told = leading_again c.args.leading _ _ _ (told_again c told)
 
-once : (c : match_slice-Else-listed_again t)
+once : {t : ℕ} (c : match_slice-Else-listed_again t)
     → let args = c.args in (args.leading && listed_again args.whole args.degree args.split) ≡ false
 once c = sym c.listed_again.ensures ∙ c.if-listed_again.false
 
 pub match_slice-listed_again-requires : goal.match_slice-listed_again-requires
-match_slice-listed_again-requires t c = c.requires.1.0
+match_slice-listed_again-requires t c = c.requires.0
 
 pub match_slice-smaller_split-requires : goal.match_slice-smaller_split-requires
 match_slice-smaller_split-requires t c =
-    record { from = (again (goal.at.match_slice-smaller_split-requires c).After-listed_again c.if-listed_again.true).positive; to = c.requires.1.0.part_limit }
+    record { from = (again (goal.at.match_slice-smaller_split-requires t c).After-listed_again c.if-listed_again.true).positive; to = c.requires.0.part_limit }
 
 pub match_slice-match_ends-requires : goal.match_slice-match_ends-requires
 match_slice-match_ends-requires t c =
-    let smaller = (again (goal.at.match_slice-match_ends-requires c).After-listed_again c.if-listed_again.true).smaller in
+    let smaller = (again (goal.at.match_slice-match_ends-requires t c).After-listed_again c.if-listed_again.true).smaller in
     let split_is = c.smaller_split.ensures in
-    (omega (arith, c.requires.0), (smaller_split c.requires.1.0 (omega arith), c.requires.1.1.0))
+    (omega arith, (smaller_split c.requires.0 (omega arith), c.requires.1.0))
 
 pub match_slice-returns-then-listed_again : goal.match_slice-returns-then-listed_again
 match_slice-returns-then-listed_again t c =
     steps.slice_again c.args.leading c.args.whole c.args.degree c.args.split c.args.at c.args.n
-    c.args.bounds.now c.requires.1.1.1 (told_again (goal.at.match_slice-returns-then-listed_again c).After-listed_again c.if-listed_again.true)
+    c.args.bounds.now c.requires.1.1 (told_again (goal.at.match_slice-returns-then-listed_again t c).After-listed_again c.if-listed_again.true)
     (rw c.smaller_split.ensures at c.match_ends.ensures)
 
 pub match_slice-returns-then-bounds-n : goal.match_slice-returns-then-bounds-n
 match_slice-returns-then-bounds-n t c =
     steps.slice_short c.args.leading c.args.whole c.args.degree c.args.split c.args.at c.args.n
-    c.args.bounds.now c.requires.1.1.1 (once (goal.at.match_slice-returns-then-bounds-n c).Else-listed_again) c.if-bounds-n.true
-
-pub match_slice-overflow_cast-end : goal.match_slice-overflow_cast-end
-match_slice-overflow_cast-end t c = omega (arith, c.shared_slice_known-2-1.given c.args.n)
+    c.args.bounds.now c.requires.1.1 (once (goal.at.match_slice-returns-then-bounds-n t c).Else-listed_again) c.if-bounds-n.true
 
 pub match_slice-overflow_add-at : goal.match_slice-overflow_add-at
-match_slice-overflow_add-at t c = let place = c.requires.1.1.0 in record { fits = omega arith }
+match_slice-overflow_add-at t c = let place = c.requires.1.0 in record { fits = omega arith }
 
 pub match_slice-overflow_add-at-2 : goal.match_slice-overflow_add-at-2
-match_slice-overflow_add-at-2 t c = let place = c.requires.1.1.0 in record { fits = omega arith }
+match_slice-overflow_add-at-2 t c = let place = c.requires.1.0 in record { fits = omega arith }
 
 pub match_slice-returns-then-end-at : goal.match_slice-returns-then-end-at
 match_slice-returns-then-end-at t c =
     steps.slice_one c.args.leading c.args.whole c.args.degree c.args.split c.args.at c.args.n
-    c.args.bounds.now c.requires.1.1.1 (once (goal.at.match_slice-returns-then-end-at c).Else-listed_again) c.if-bounds-n.false c.if-end-at.true
+    c.args.bounds.now c.requires.1.1 (once (goal.at.match_slice-returns-then-end-at t c).Else-listed_again) c.if-bounds-n.false c.if-end-at.true
 
 pub match_slice-returns-else-end-at : goal.match_slice-returns-else-end-at
 match_slice-returns-else-end-at t c =
     steps.slice_other c.args.leading c.args.whole c.args.degree c.args.split c.args.at c.args.n
-    c.args.bounds.now c.requires.1.1.1 (once (goal.at.match_slice-returns-else-end-at c).Else-listed_again) c.if-bounds-n.false c.if-end-at.false
+    c.args.bounds.now c.requires.1.1 (once (goal.at.match_slice-returns-else-end-at t c).Else-listed_again) c.if-bounds-n.false c.if-end-at.false

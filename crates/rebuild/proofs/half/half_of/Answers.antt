@@ -6,9 +6,8 @@ use mir.Facts.{to_z-of_z}
 use Rattle.rebuild.proofs.Machine.{half_fits, half_near}
 use Rattle.rebuild.proofs.half.half_of.Goals as goal
 
--- TODO need nonzero-div-result
-div_result : tie.Need-nonzero-div-result
-div_result c = (omega arith, rw (to_z-of_z c.ranges.x) (half_fits c.args.x c.ranges.x))
+pub nonzero_div-result : goal.nonzero_div-result
+nonzero_div-result c = (omega arith, rw (to_z-of_z c.ranges.x) (half_fits c.args.x c.ranges.x))
 
 pub returns : goal.returns
 returns c =

@@ -4,9 +4,8 @@ use mir.Facts.{to_z-of_z}
 use Rattle.rebuild.proofs.Machine.{half_fits, even_bits}
 use Rattle.rebuild.proofs.half.is_even.Goals as goal
 
--- TODO need nonzero-rem-result
-rem_result : tie.Need-nonzero-rem-result
-rem_result c = (omega arith, rw (to_z-of_z c.ranges.x) (half_fits c.args.x c.ranges.x))
+pub nonzero_rem-result : goal.nonzero_rem-result
+nonzero_rem-result c = (omega arith, rw (to_z-of_z c.ranges.x) (half_fits c.args.x c.ranges.x))
 
 pub returns : goal.returns
 returns c = rw (to_z-of_z c.ranges.x) (even_bits c.args.x)
