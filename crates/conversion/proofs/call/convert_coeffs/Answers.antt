@@ -33,4 +33,5 @@ slice_bounds-convert_passed-end c = sym (length-take-le _ (replicate 21 (pos 0))
 
 pub convert_passed-requires : goal.convert_passed-requires
 convert_passed-requires c =
-    (passed (goal.at.convert_passed-requires c).Else-refusal-gt0, take_replicate (pos 0) _ 21 (few (goal.at.convert_passed-requires c).Else-refusal-gt0))
+    let here = goal.at.convert_passed-requires c in
+    (passed here.Else-refusal-gt0, take_replicate (pos 0) _ 21 (few here.Else-refusal-gt0))

@@ -25,8 +25,10 @@ new_coeffs-requires c =
 
 pub returns-then-refusal-gt0 : goal.returns-then-refusal-gt0
 returns-then-refusal-gt0 c =
+    let here = goal.at.returns-then-refusal-gt0 c in
     rw c.refused.ensures
-    (call.call_refused c.args.to c.args.c.now c.args.out.now c.output_refusal-refusal.result (refusal_is (goal.at.returns-then-refusal-gt0 c).After-output_refusal-refusal) c.if-refusal-gt0.true)
+    (call.call_refused c.args.to c.args.c.now c.args.out.now c.output_refusal-refusal.result
+    (refusal_is here.After-output_refusal-refusal) c.if-refusal-gt0.true)
 
 pub copy_coeffs-requires : goal.copy_coeffs-requires
 copy_coeffs-requires c =
@@ -36,5 +38,5 @@ copy_coeffs-requires c =
 pub returns : goal.returns
 returns c =
     let none : c.output_refusal-refusal.result ≡ 0 = omega (arith, c.if-refusal-gt0.false) in
-    call.call_done c.args.to c.args.c.now c.args.out.now _ (sym (refusal_is (goal.at.returns c).After-new-1) ∙ none)
+    call.call_done c.args.to c.args.c.now c.args.out.now _ (sym (refusal_is (goal.at.returns c).After-output_refusal-refusal) ∙ none)
     (c.copy_coeffs.ensures ∙ ap (sets c.args.out.now 0) c.new_coeffs.ensures)

@@ -15,9 +15,9 @@ use Rattle.conversion.proofs.call.input_refusal.Goals.{After-sum_fits, Else-degr
 low : (c : Else-degree_of-gt-CONVERT_LIMIT) → ltb 20 (length c.args.c.now - 1) ≡ false
 low c = le-ltb 20 (length c.args.c.now - 1) (omega (arith, c.degree_of.ensures, c.if-degree_of-gt-CONVERT_LIMIT.false))
 
-small : {flag : Bool} (c : After-sum_fits) → not c.sum_fits.result ≡ flag
-    → not (whole_numbers.small c.args.c.now) ≡ flag
-small c e = ap not (sym c.sum_fits.ensures) ∙ e
+small : {flag : Bool} (c : After-sum_fits) → c.sum_fits.result ≡ flag
+    → not (whole_numbers.small c.args.c.now) ≡ not flag
+small c e = ap not (sym c.sum_fits.ensures ∙ e)
 
 pub returns-then-degree_of-gt-CONVERT_LIMIT : goal.returns-then-degree_of-gt-CONVERT_LIMIT
 returns-then-degree_of-gt-CONVERT_LIMIT c =
@@ -26,7 +26,8 @@ returns-then-degree_of-gt-CONVERT_LIMIT c =
 
 pub returns-then-not-sum_fits : goal.returns-then-not-sum_fits
 returns-then-not-sum_fits c =
-    call.too_large_lem c.args.to c.args.c.now (low (goal.at.returns-then-not-sum_fits c).Else-degree_of-gt-CONVERT_LIMIT) (small (goal.at.returns-then-not-sum_fits c).After-sum_fits c.if-not-sum_fits.true-raw)
+    let here = goal.at.returns-then-not-sum_fits c in
+    call.too_large_lem c.args.to c.args.c.now (low here.Else-degree_of-gt-CONVERT_LIMIT) (small here.After-sum_fits c.if-not-sum_fits.true)
 
 pub is_whole-requires : goal.is_whole-requires
 is_whole-requires c =
@@ -34,10 +35,12 @@ is_whole-requires c =
 
 pub returns-then-is_whole : goal.returns-then-is_whole
 returns-then-is_whole c =
-    call.whole c.args.to c.args.c.now (low (goal.at.returns-then-is_whole c).Else-degree_of-gt-CONVERT_LIMIT) (small (goal.at.returns-then-is_whole c).After-sum_fits c.if-not-sum_fits.false-raw)
+    let here = goal.at.returns-then-is_whole c in
+    call.whole c.args.to c.args.c.now (low here.Else-degree_of-gt-CONVERT_LIMIT) (small here.After-sum_fits c.if-not-sum_fits.false)
     (sym c.is_whole.ensures ∙ c.if-is_whole.true)
 
 pub returns-else-is_whole : goal.returns-else-is_whole
 returns-else-is_whole c =
-    call.not_whole_lem c.args.to c.args.c.now (low (goal.at.returns-else-is_whole c).Else-degree_of-gt-CONVERT_LIMIT) (small (goal.at.returns-else-is_whole c).After-sum_fits c.if-not-sum_fits.false-raw)
+    let here = goal.at.returns-else-is_whole c in
+    call.not_whole_lem c.args.to c.args.c.now (low here.Else-degree_of-gt-CONVERT_LIMIT) (small here.After-sum_fits c.if-not-sum_fits.false)
     (sym c.is_whole.ensures ∙ c.if-is_whole.false)

@@ -8,18 +8,18 @@ use Rattle.conversion.proofs.TestedLaws as call
 use Rattle.conversion.proofs.call.output_refusal.Goals as goal
 use Rattle.conversion.proofs.call.output_refusal.Goals.{After-sum_fits}
 
-small : {flag : Bool} (c : After-sum_fits) → not c.sum_fits.result ≡ flag → not (whole_numbers.small c.args.new.now) ≡ flag
-small c e = ap not (sym c.sum_fits.ensures) ∙ e
+small : {flag : Bool} (c : After-sum_fits) → c.sum_fits.result ≡ flag → not (whole_numbers.small c.args.new.now) ≡ not flag
+small c e = ap not (sym c.sum_fits.ensures ∙ e)
 
 pub returns-then-not-sum_fits : goal.returns-then-not-sum_fits
-returns-then-not-sum_fits c = call.new_too_large c.args.new.now c.args.room (small (goal.at.returns-then-not-sum_fits c).After-sum_fits c.if-not-sum_fits.true-raw)
+returns-then-not-sum_fits c = call.new_too_large c.args.new.now c.args.room (small (goal.at.returns-then-not-sum_fits c).After-sum_fits c.if-not-sum_fits.true)
 
 pub returns-then-room-new : goal.returns-then-room-new
 returns-then-room-new c =
-    call.no_room_lem c.args.new.now c.args.room (small (goal.at.returns-then-room-new c).After-sum_fits c.if-not-sum_fits.false-raw)
+    call.no_room_lem c.args.new.now c.args.room (small (goal.at.returns-then-room-new c).After-sum_fits c.if-not-sum_fits.false)
     (lt-ltb c.args.room (length c.args.new.now) c.if-room-new.true)
 
 pub returns-else-room-new : goal.returns-else-room-new
 returns-else-room-new c =
-    call.enough_room c.args.new.now c.args.room (small (goal.at.returns-else-room-new c).After-sum_fits c.if-not-sum_fits.false-raw)
+    call.enough_room c.args.new.now c.args.room (small (goal.at.returns-else-room-new c).After-sum_fits c.if-not-sum_fits.false)
     (le-ltb c.args.room (length c.args.new.now) c.if-room-new.false)

@@ -25,7 +25,11 @@ pub overflow_mul-result : goal.overflow_mul-result
 overflow_mul-result c = asked w64 ◌*ℤ◌ c.ranges.q c.ranges.r (product_fits (goal.at.overflow_mul-result c).Start)
 
 pub overflow_add-result : goal.overflow_add-result
-overflow_add-result c = rw (product_is (goal.at.overflow_add-result c).Start, to_z-of_z c.ranges.sum) (sum_fits (goal.at.overflow_add-result c).Start)
+overflow_add-result c =
+    let here = goal.at.overflow_add-result c in
+    rw (product_is here.Start, to_z-of_z c.ranges.sum) (sum_fits here.Start)
 
 pub returns : goal.returns
-returns c = rw (product_is (goal.at.returns c).Start, to_z-of_z c.ranges.sum) (to_z-of_z (sum_fits (goal.at.returns c).Start))
+returns c =
+    let here = goal.at.returns c in
+    rw (product_is here.Start, to_z-of_z c.ranges.sum) (to_z-of_z (sum_fits here.Start))

@@ -7,10 +7,9 @@ use mir.Facts.{to_z-of_z}
 use Rattle.conversion.proofs.Terms.{denominator_some}
 use Rattle.conversion.proofs.whole.is_multiple.Goals as goal
 
--- TODO need nonzero-rem-result
-rem_result : tie.Need-nonzero-rem-result
-rem_result c = let start = c.before.before in
-    subst (λ (k : ℕ). 0 < k) (sym c.denominator.ensures) (denominator_some start.args.to start.args.n)
+pub nonzero_rem-result : goal.nonzero_rem-result
+nonzero_rem-result c =
+    subst (λ (k : ℕ). 0 < k) (sym c.denominator.ensures) (denominator_some c.args.to c.args.n)
 
 pub returns : goal.returns
 returns c =

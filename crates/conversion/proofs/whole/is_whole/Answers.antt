@@ -1,7 +1,6 @@
 -- `conversion::whole::is_whole` meets its contract. The loop's invariant: the places from n on decide.
 use mathlib.Core.Path.{◌≡◌, refl, sym, ◌∙◌, ap}
-use Prim.Native.Nat.{◌-◌, ◌%◌}
-use borrow.Author.Tests.{not-true, not-false}
+use Prim.Native.Nat.{◌%◌}
 use lib.Dec.{eqb}
 use lib.IntN.{ℤ, pos, nat_abs}
 use lib.ListN.{get_or}
@@ -21,7 +20,7 @@ returns-then-not-is_multiple c =
     let read : to_z w64 (of_z w64 x) ≡ x = back c.is_multiple-arg-1.given refl in
     test_fails c.args.to c.args.c.now c.loop-n.invariant c.loop-n-test.true
     (ap (λ (z : ℤ). eqb (nat_abs z % denominator c.args.to c.loop-n.n) 0) (sym read)
-    ∙ sym c.is_multiple.ensures ∙ not-true c.is_multiple.result c.if-not-is_multiple.true-raw)
+    ∙ sym c.is_multiple.ensures ∙ c.if-not-is_multiple.true)
 
 pub loop-n-preserved : goal.loop-n-preserved
 loop-n-preserved c =
@@ -29,7 +28,7 @@ loop-n-preserved c =
     let read : to_z w64 (of_z w64 x) ≡ x = back c.is_multiple-arg-1.given refl in
     test_step c.args.to c.args.c.now c.loop-n.invariant c.loop-n-test.true
     (ap (λ (z : ℤ). eqb (nat_abs z % denominator c.args.to c.loop-n.n) 0) (sym read)
-    ∙ sym c.is_multiple.ensures ∙ not-false c.is_multiple.result c.if-not-is_multiple.false-raw)
+    ∙ sym c.is_multiple.ensures ∙ c.if-not-is_multiple.false)
 
 pub returns : goal.returns
 returns c =

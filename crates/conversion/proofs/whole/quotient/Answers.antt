@@ -11,30 +11,31 @@ use Rattle.conversion.proofs.Terms.{denominator_some, denominator_small, quotien
 use Rattle.conversion.proofs.whole.quotient.Goals as goal
 use Rattle.conversion.proofs.whole.quotient.Goals.{After-denominator-d}
 
-module _ (c : After-denominator-d (denominator_reads.Asked, denominator_reads.Learnt) reads.Pre reads.Post) where
-  small : c.denominator.result ≤ 2 ^ 20
-  small = omega (arith, c.denominator.ensures, denominator_small c.before.args.to c.before.args.n c.before.requires)
+module _ (c : After-denominator-d) where
+  small : c.denominator-d.result ≤ 2 ^ 20
+  small = omega (arith, c.denominator-d.ensures, denominator_small c.args.to c.args.n c.requires)
 
-  denominator_fits : SFits w64 (pos c.denominator.result)
+  denominator_fits : SFits w64 (pos c.denominator-d.result)
   denominator_fits = record { sfits = omega (arith, small) }
 
-  denominator_is : to_z w64 c.denominator.result ≡ pos c.denominator.result
+  denominator_is : to_z w64 c.denominator-d.result ≡ pos c.denominator-d.result
   denominator_is = to_z-of_z denominator_fits
 
-  quotient_fits : SFits w64 (quot_z c.before.args.z (pos c.denominator.result))
-  quotient_fits = record { sfits = omega (arith, quotient_mag c.before.args.z c.denominator.result, c.before.ranges.z.sfits) }
+  quotient_fits : SFits w64 (quot_z c.args.z (pos c.denominator-d.result))
+  quotient_fits = record { sfits = omega (arith, quotient_mag c.args.z c.denominator-d.result, c.ranges.z.sfits) }
 
 pub overflow_cast-d : goal.overflow_cast-d
 overflow_cast-d c = denominator_fits (goal.at.overflow_cast-d c).After-denominator-d
 
--- TODO need nonzero-div-result
-div_result : tie.Need-nonzero-div-result
-div_result c =
-    let start = c.before in (
-      subst (λ (k : ℕ). 0 < k) (sym c.denominator.ensures) (denominator_some start.args.to start.args.n),
-      rw (to_z-of_z start.ranges.z, denominator_is c) (quotient_fits c),
+pub nonzero_div-result : goal.nonzero_div-result
+nonzero_div-result c =
+    let here = goal.at.nonzero_div-result c in (
+      subst (λ (k : ℕ). 0 < k) (sym c.denominator-d.ensures) (denominator_some c.args.to c.args.n),
+      rw (to_z-of_z c.ranges.z, denominator_is here.After-denominator-d) (quotient_fits here.After-denominator-d),
     )
 
 pub returns : goal.returns
 returns c =
-    rw (to_z-of_z c.ranges.z, denominator_is (goal.at.returns c).After-denominator-d) (to_z-of_z (quotient_fits (goal.at.returns c).After-denominator-d) ∙ ap (λ (k : ℕ). quot_z c.args.z (pos k)) c.denominator-d.ensures)
+    let here = goal.at.returns c in
+    rw (to_z-of_z c.ranges.z, denominator_is here.After-denominator-d)
+    (to_z-of_z (quotient_fits here.After-denominator-d) ∙ ap (λ (k : ℕ). quot_z c.args.z (pos k)) c.denominator-d.ensures)
