@@ -104,7 +104,8 @@ module _ (𝓡 : Rules ℕ) (basis : Basis) (powers : Powers ℕ) (n a b : ℕ) 
   unfolding make_of
   make_again u e f = rw (e, f)
 
-  pub make_without : is_makeable n a b ≡ true → powers n ≡ none → power_from 𝓡 basis powers a b (split_of n).distance ≡ none → none ≡ make_of 𝓡 basis powers n a b
+  pub make_without : is_makeable n a b ≡ true → powers n ≡ none → power_from 𝓡 basis powers a b (split_of n).distance ≡ none
+      → none ≡ make_of 𝓡 basis powers n a b
   unfolding make_of
   make_without e f g = rw (e, f, g)
 

@@ -1,7 +1,7 @@
 -- The parts of the split of an index up to 2^(j+1) are at most 2^j, and so is their distance. Those of a power of two are its halves. Any other
 -- index n lies between a power of two p, at most 2^j, and 2p: its parts p - 1 and n + 1 - p are at most p.
 use mathlib.Core.Path.{◌≡◌}
-use Prim.Native.Nat.{ℕ, suc, ◌+◌, ◌-◌, ◌^◌, ◌≤◌, ◌<◌}
+use Prim.Native.Nat.{ℕ, suc, ◌+◌, ◌^◌, ◌≤◌, ◌<◌}
 use native.Mathlib.Decide.{ℕ_discrete}
 use native.Mathlib.Nat.{two-pow-succ, lt_of_not-le}
 use native.Mathlib.Numerals.{lt_of_le_of_ne}

@@ -32,7 +32,8 @@ stack_push : (values : List ℕ) (k v : ℕ) → k < length values → last_firs
 unfolding last_first
 stack_push values k v h = ap₂ ◌∷◌ (get_or-set_same values k v 0 h) (stack_set values k v k (omega arith))
 
-pub push_is : (values : List ℕ) (k v : ℕ) → k < length values → k < waiting_limit → some (last_first (set values k v) (k + 1)) ≡ push_of (last_first values k) v
+pub push_is : (values : List ℕ) (k v : ℕ) → k < length values → k < waiting_limit
+    → some (last_first (set values k v) (k + 1)) ≡ push_of (last_first values k) v
 unfolding push_of
 push_is values k v h g = rw (length_stack values k, lt-ltb k waiting_limit g, add-one) (ap some (stack_push values k v h))
 

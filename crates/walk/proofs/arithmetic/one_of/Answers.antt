@@ -1,6 +1,4 @@
 -- `walk::arithmetic::one_of` meets its contract. A remainder is that of 1, and the number 1 weighs nothing.
-use native.Mathlib.Omega.{arith}
-use Rattle.walk.proofs.ArithmeticLaws.{modulus_of}
 use Rattle.walk.proofs.arithmetic.one_of.Goals as goal
 
 pub returns-in-Remainders : goal.returns-in-Remainders

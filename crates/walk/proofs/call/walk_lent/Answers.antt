@@ -67,7 +67,8 @@ slice_bounds-used-end c =
 pub returns-then-not-bounds_rise : goal.returns-then-not-bounds_rise
 returns-then-not-bounds_rise c =
     let a = c.args in
-    not_rising (rules_of a.arithmetic) a.head a.coefficients.now a.bounds.now a.steps.now a.point (fits (goal.at.returns-then-not-bounds_rise c).Else-steps-count)
+    not_rising (rules_of a.arithmetic) a.head a.coefficients.now a.bounds.now a.steps.now a.point
+    (fits (goal.at.returns-then-not-bounds_rise c).Else-steps-count)
     (sym c.bounds_rise.ensures ∙ c.if-not-bounds_rise.true)
 
 pub slice_bounds-run_steps-end : goal.slice_bounds-run_steps-end
@@ -90,12 +91,15 @@ run_steps-requires c =
 pub returns-in_default : goal.returns-in_default
 returns-in_default c =
     let a = c.args in
-    stuck (rules_of a.arithmetic) a.head a.coefficients.now a.bounds.now a.steps.now a.point (fits (goal.at.returns-in_default c).Else-steps-count) (rising (goal.at.returns-in_default c).Else-not-bounds_rise)
+    let counts = fits (goal.at.returns-in_default c).Else-steps-count in
+    let rise = rising (goal.at.returns-in_default c).Else-not-bounds_rise in
+    stuck (rules_of a.arithmetic) a.head a.coefficients.now a.bounds.now a.steps.now a.point counts rise
     (sym (ran (goal.at.returns-in_default c).After-run_steps) ∙ ap found c.in_default.is)
 
 pub returns : goal.returns
 returns c =
     let a = c.args in
-    ap some (c.output_of.ensures ∙ ap (λ (x : ℕ). (rules_of a.arithmetic).output a.head.transform x c.in-Number.v) (reduced (goal.at.returns c).After-run_steps))
+    ap some (c.output_of.ensures
+    ∙ ap (λ (x : ℕ). (rules_of a.arithmetic).output a.head.transform x c.in-Number.v) (reduced (goal.at.returns c).After-run_steps))
     ∙ walked (rules_of a.arithmetic) a.head a.coefficients.now a.bounds.now a.steps.now a.point (fits (goal.at.returns c).Else-steps-count)
     c.in-Number.v (rising (goal.at.returns c).Else-not-bounds_rise) (sym (ran (goal.at.returns c).After-run_steps) ∙ ap found c.in-Number.is)

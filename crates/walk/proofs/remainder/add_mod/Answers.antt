@@ -2,7 +2,6 @@
 -- result.
 use native.Mathlib.Omega.{arith}
 use Rattle.walk.proofs.Modular.{below, add_reduced}
-use borrow.Author.Rules.{rules}
 use Rattle.walk.proofs.remainder.add_mod.Goals as goal
 
 pub overflow_add-result : goal.overflow_add-result

@@ -1,7 +1,6 @@
 -- `walk::remainder::mul_mod` meets its contract. The remainders are below m, so their product fits. Reducing them first does not change the
 -- result.
 use Rattle.walk.proofs.Modular.{product_fits, mul_reduced}
-use borrow.Author.Rules.{rules}
 use Rattle.walk.proofs.remainder.mul_mod.Goals as goal
 
 pub overflow_mul-result : goal.overflow_mul-result

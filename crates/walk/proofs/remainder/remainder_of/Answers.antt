@@ -7,7 +7,6 @@ use lib.IntN.{ℤ, nat_abs}
 use Rattle.algebra.specs.Remainder.{rem}
 use Rattle.walk.proofs.Modular.{below}
 use Rattle.walk.proofs.SignedParts.{as_pos, as_neg, turned}
-use borrow.Author.Rules.{rules}
 use Rattle.walk.proofs.remainder.remainder_of.Goals as goal
 
 pub overflow_cast-result : goal.overflow_cast-result

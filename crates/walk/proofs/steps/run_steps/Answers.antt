@@ -1,7 +1,6 @@
 -- `walk::steps::run_steps` meets its contract. The loop's invariant: the steps from here on, run on the state that the arrays hold, leave
 -- what the walk leaves. A step that is refused refuses the walk. The measure is the number of steps left.
 use mathlib.Core.Path.{sym, ◌∙◌, ap₂}
-use Prim.Native.Nat.{◌-◌}
 use native.Mathlib.Omega.{arith}
 use Rattle.walk.specs.inside.Arrays.{powers_of}
 use Rattle.walk.specs.inside.Taken.{state_of}

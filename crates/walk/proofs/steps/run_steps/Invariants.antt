@@ -1,6 +1,5 @@
 use mathlib.Core.Path.{◌≡◌}
 use Prim.Native.Nat.{◌-◌, ◌≤◌}
-use native.Mathlib.Omega.{arith}
 use Rattle.walk.specs.inside.Taken.{state_of}
 use Rattle.walk.specs.inside.Waits.{FitsSixteen}
 use Rattle.walk.specs.inside.Arithmetic.{rules_of}

@@ -1,9 +1,6 @@
 -- `walk::sums::bounds_rise` meets its contract. The loop's invariant: the boundaries rise if those from here on rise from the last one.
 -- Each test is the definition's at the next boundary. The measure is the number of boundaries left.
 use mathlib.Core.Path.{refl, sym, ◌∙◌}
-use Prim.Native.Nat.{◌-◌}
-use native.Mathlib.Omega.{arith}
-use Rattle.walk.specs.Boundaries.{rises}
 use Rattle.walk.proofs.BoundaryLaws.{rises_not, rises_past, rises_next, rises_done}
 use borrow.Author.Rules.{rules}
 use Rattle.walk.proofs.sums.bounds_rise.Goals as goal

@@ -1,7 +1,5 @@
 -- `walk::sums::start_of` meets its contract. The first list starts at 0, and any other where the one before it ends.
 use mathlib.Core.Path.{sym, ap}
-use Prim.Native.Nat.{◌-◌}
-use native.Mathlib.Omega.{arith}
 use Rattle.walk.specs.Boundaries.{start_of}
 use Rattle.walk.proofs.BoundaryLaws.{start_later}
 use Rattle.walk.proofs.sums.start_of.Goals as goal

@@ -1,7 +1,7 @@
 -- `walk::sums::sum_list` meets its contract. The loop's invariant: the sum so far with the places from here on is the whole. A place that
 -- is refused refuses the whole. The measure is the number of places left.
 use mathlib.Core.Path.{◌≡◌, sym, ◌∙◌, ap}
-use Prim.Native.Nat.{ℕ, ◌-◌}
+use Prim.Native.Nat.{ℕ}
 use lib.IntN.{pos}
 use lib.ListN.{get_or}
 use mir.Syntax.{w64}
