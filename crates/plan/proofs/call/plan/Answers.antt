@@ -24,7 +24,7 @@ outlined : (c : After-planned_outline-outline) →
     OutlinePlanned c.args.strategy c.args.parity c.args.basis c.args.fold c.args.c.now c.planned_outline-outline.result
 outlined c =
     outline_planned c.args.strategy c.args.parity c.args.basis c.args.fold c.args.c.now
-    (accepted c.before.before.before) c.degree_of.ensures c.planned_outline-outline.ensures
+    (omega (arith, c.input_refusal-wrong.ensures, c.if-wrong-gt0.false)) c.degree_of.ensures c.planned_outline-outline.ensures
 
 pub returns-then-wrong-gt0 : goal.returns-then-wrong-gt0
 returns-then-wrong-gt0 c =
