@@ -13,7 +13,7 @@ use Rattle.set_plan.proofs.call.plan_set.Goals.{After-total_sizes-sizes, Else-wr
 
 -- an array of members has all its places
 members_size : (c : Start) → length c.args.members.members ≡ member_limit
-members_size c = sym (length-map c.args.members.members _) ∙ c.well-formed.0.1.1.1.0.1.0.1
+members_size c = c.well_formed.0.1.1.1.0.1.0.1
 
 -- no test ahead of the buffers' holds
 accepted : (c : Else-wrong-gt0) → SetAccepted c.args.members c.args.c.now

@@ -13,7 +13,7 @@ use Rattle.set_plan.proofs.sizes.set_sizes.Goals.{Else-wrong-gt0, Start}
 
 -- an array of members has all its places
 members_size : (c : Start) → length c.args.members.members ≡ member_limit
-members_size c = sym (length-map c.args.members.members _) ∙ c.well-formed.0.1.1.1.0.1.0.1
+members_size c = c.well_formed.0.1.1.1.0.1.0.1
 
 accepted : (c : Else-wrong-gt0) → first_refusal (set_sizes_tests c.args.members) ≡ 0
 accepted c = omega (arith, c.sizes_refusal-wrong.ensures, c.if-wrong-gt0.false)

@@ -9,7 +9,7 @@ use Rattle.set_plan.proofs.sizes.sizes_refusal.Goals.{Start}
 
 -- an array of members has all its places
 members_size : (c : Start) → length c.args.handed.members ≡ member_limit
-members_size c = sym (length-map c.args.handed.members _) ∙ c.well-formed.0.1.1.1.0.1.0.1
+members_size c = c.well_formed.0.1.1.1.0.1.0.1
 
 pub returns-then-count-eq0 : goal.returns-then-count-eq0
 returns-then-count-eq0 c = sizes_none c.args.handed c.if-count-eq0.true
@@ -24,7 +24,7 @@ members_alike-requires c =
 
 pub returns-then-not-members_alike : goal.returns-then-not-members_alike
 returns-then-not-members_alike c =
-    sizes_unlike c.args.handed c.if-count-eq0.false c.if-count-gt-MEMBERS.false c.Members-Alike.ensures c.if-not-members_alike.true-raw
+    sizes_unlike c.args.handed c.if-count-eq0.false c.if-count-gt-MEMBERS.false c.members_alike.ensures c.if-not-members_alike.true-raw
 
 pub settings_refusals-requires : goal.settings_refusals-requires
 settings_refusals-requires c =
@@ -32,5 +32,5 @@ settings_refusals-requires c =
 
 pub returns : goal.returns
 returns c =
-    sizes_own c.args.handed c.if-count-eq0.false c.if-count-gt-MEMBERS.false c.Members-Alike.ensures c.if-not-members_alike.false-raw
+    sizes_own c.args.handed c.if-count-eq0.false c.if-count-gt-MEMBERS.false c.members_alike.ensures c.if-not-members_alike.false-raw
     c.settings_refusals.ensures
