@@ -1,7 +1,7 @@
 -- `set_plan::sizes::sizes_refusal` meets its contract: it makes the definition's tests in the definition's order.
-use mathlib.Core.Path.{◌≡◌, sym, ◌∙◌}
+use mathlib.Core.Path.{◌≡◌}
 use native.Mathlib.Omega.{arith}
-use lib.ListN.{length, length-map}
+use lib.ListN.{length}
 use Rattle.sets.specs.SetPlan.{member_limit}
 use Rattle.set_plan.proofs.SizesLaws.{sizes_none, sizes_many, sizes_unlike, sizes_own}
 use Rattle.set_plan.proofs.sizes.sizes_refusal.Goals as goal
