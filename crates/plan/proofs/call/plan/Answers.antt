@@ -1,7 +1,6 @@
 -- `plan::call::plan` meets its contract. Each test is one of the definition, in its order; past them the head is that of the planned degree on its
 -- interval, and the buffers hold what the writer leaves.
 use native.Mathlib.Omega.{arith}
-use borrow.Author.Tests.{not-true, not-false}
 use Rattle.number.specs.Interval.{Ordered}
 use Rattle.plan.specs.PlanCall.{Accepted}
 use Rattle.plan.proofs.PlanTests.{settings_accepted}
@@ -17,7 +16,7 @@ accepted c = omega (arith, c.input_refusal-wrong.ensures, c.if-wrong-gt0.false)
 -- nor that of the interval
 ordered : (c : Else-not-a-b) →
     Ordered c.args.a c.args.b
-ordered c = not-false _ c.if-not-a-b.false-raw
+ordered c = c.if-not-a-b.false
 
 -- so the outline is that of what is planned
 outlined : (c : After-planned_outline-outline) →
@@ -35,7 +34,7 @@ returns-then-wrong-gt0 c =
 pub returns-then-not-a-b : goal.returns-then-not-a-b
 returns-then-not-a-b c =
     refused_interval c.args.strategy c.args.parity c.args.basis c.args.fold c.args.c.now c.args.a
-    c.args.b c.args.out.now c.args.bounds.now c.args.steps.now (accepted (goal.at.returns-then-not-a-b c).Else-wrong-gt0) (not-true _ c.if-not-a-b.true-raw)
+    c.args.b c.args.out.now c.args.bounds.now c.args.steps.now (accepted (goal.at.returns-then-not-a-b c).Else-wrong-gt0) c.if-not-a-b.true
     c.refused-then-not-a-b.ensures
 
 pub planned_outline-outline-requires : goal.planned_outline-outline-requires

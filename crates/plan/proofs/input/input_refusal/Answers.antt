@@ -3,7 +3,6 @@
 use mathlib.Core.Path.{◌≡◌, sym, ap, ◌∙◌}
 use Prim.Native.Nat.{ℕ}
 use native.Mathlib.Omega.{arith}
-use borrow.Author.Tests.{not-true, not-false}
 use Rattle.number.specs.Refusal.{first_refusal}
 use Rattle.number.specs.Tests.{degree_of}
 use Rattle.number.proofs.Refusal.{first_kept}
@@ -34,14 +33,14 @@ returns-then-early-gt0 c =
 
 pub returns-then-not-has_parity : goal.returns-then-not-has_parity
 returns-then-not-has_parity c =
-    sym (late_is (goal.at.returns-then-not-has_parity c).Else-early-gt0 ∙ rw (sym c.has_parity.ensures ∙ not-true _ c.if-not-has_parity.true-raw))
+    sym (late_is (goal.at.returns-then-not-has_parity c).Else-early-gt0 ∙ rw (sym c.has_parity.ensures ∙ c.if-not-has_parity.true))
 
 pub returns-then-sum_fits : goal.returns-then-sum_fits
 returns-then-sum_fits c =
     sym (late_is (goal.at.returns-then-sum_fits c).Else-early-gt0
-    ∙ rw (sym c.has_parity.ensures ∙ not-false _ c.if-not-has_parity.false-raw, sym c.sum_fits.ensures ∙ c.if-sum_fits.true))
+    ∙ rw (sym c.has_parity.ensures ∙ c.if-not-has_parity.false, sym c.sum_fits.ensures ∙ c.if-sum_fits.true))
 
 pub returns-else-sum_fits : goal.returns-else-sum_fits
 returns-else-sum_fits c =
     sym (late_is (goal.at.returns-else-sum_fits c).Else-early-gt0
-    ∙ rw (sym c.has_parity.ensures ∙ not-false _ c.if-not-has_parity.false-raw, sym c.sum_fits.ensures ∙ c.if-sum_fits.false))
+    ∙ rw (sym c.has_parity.ensures ∙ c.if-not-has_parity.false, sym c.sum_fits.ensures ∙ c.if-sum_fits.false))

@@ -24,7 +24,7 @@ members_alike-requires c =
 
 pub returns-then-not-members_alike : goal.returns-then-not-members_alike
 returns-then-not-members_alike c =
-    sizes_unlike c.args.handed c.if-count-eq0.false c.if-count-gt-MEMBERS.false c.members_alike.ensures c.if-not-members_alike.true-raw
+    sizes_unlike c.args.handed c.if-count-eq0.false c.if-count-gt-MEMBERS.false c.members_alike.ensures c.if-not-members_alike.true
 
 pub settings_refusals-requires : goal.settings_refusals-requires
 settings_refusals-requires c =
@@ -32,5 +32,5 @@ settings_refusals-requires c =
 
 pub returns : goal.returns
 returns c =
-    sizes_own c.args.handed c.if-count-eq0.false c.if-count-gt-MEMBERS.false c.members_alike.ensures c.if-not-members_alike.false-raw
+    sizes_own c.args.handed c.if-count-eq0.false c.if-count-gt-MEMBERS.false c.members_alike.ensures c.if-not-members_alike.false
     c.settings_refusals.ensures

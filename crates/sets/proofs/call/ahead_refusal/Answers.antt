@@ -24,7 +24,7 @@ lengths_fit-requires c = record { most = c.if-count-gt-MEMBERS.false; size = mem
 pub returns-then-not-lengths_fit : goal.returns-then-not-lengths_fit
 returns-then-not-lengths_fit c =
     ahead_long c.args.handed c.args.c.now c.if-count-eq0.false c.if-count-gt-MEMBERS.false refl
-    c.lengths_fit.ensures c.if-not-lengths_fit.true-raw
+    c.lengths_fit.ensures c.if-not-lengths_fit.true
 
 pub members_alike-requires : goal.members_alike-requires
 members_alike-requires c =
@@ -34,18 +34,18 @@ members_alike-requires c =
 pub returns-then-not-members_alike : goal.returns-then-not-members_alike
 returns-then-not-members_alike c =
     ahead_unlike c.args.handed c.args.c.now c.if-count-eq0.false c.if-count-gt-MEMBERS.false refl
-    c.lengths_fit.ensures c.if-not-lengths_fit.false-raw c.members_alike.ensures c.if-not-members_alike.true-raw
+    c.lengths_fit.ensures c.if-not-lengths_fit.false c.members_alike.ensures c.if-not-members_alike.true
 
 pub own_refusals-requires : goal.own_refusals-requires
 own_refusals-requires c =
     record {
       few = record { most = c.if-count-gt-MEMBERS.false; size = members_size (goal.at.own_refusals-requires c).Start };
       within = ahead_within c.args.handed c.args.c.now c.if-count-eq0.false c.if-count-gt-MEMBERS.false refl
-          c.lengths_fit.ensures c.if-not-lengths_fit.false-raw;
+          c.lengths_fit.ensures c.if-not-lengths_fit.false;
       slice_is = refl;
     }
 
 pub returns : goal.returns
 returns c =
     ahead_own c.args.handed c.args.c.now c.if-count-eq0.false c.if-count-gt-MEMBERS.false refl
-    c.lengths_fit.ensures c.if-not-lengths_fit.false-raw c.members_alike.ensures c.if-not-members_alike.false-raw c.own_refusals.ensures
+    c.lengths_fit.ensures c.if-not-lengths_fit.false c.members_alike.ensures c.if-not-members_alike.false c.own_refusals.ensures
