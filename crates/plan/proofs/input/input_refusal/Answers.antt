@@ -28,8 +28,8 @@ late_is c =
 pub returns-then-early-gt0 : goal.returns-then-early-gt0
 returns-then-early-gt0 c =
     let settings = settings_tests c.args.fold c.args.parity (degree_of c.args.c.now) in
-    early_is (goal.at.returns-then-early-gt0 c).After-settings_refusal-early
-    ∙ sym (first_kept settings (coefficient_tests c.args.parity c.args.c.now) (omega (arith, early_is (goal.at.returns-then-early-gt0 c).After-settings_refusal-early, c.if-early-gt0.true)))
+    let is = early_is (goal.at.returns-then-early-gt0 c).After-settings_refusal-early in
+    is ∙ sym (first_kept settings (coefficient_tests c.args.parity c.args.c.now) (omega (arith, is, c.if-early-gt0.true)))
 
 pub returns-then-not-has_parity : goal.returns-then-not-has_parity
 returns-then-not-has_parity c =

@@ -28,14 +28,18 @@ with_folding c =
     ∙ rw (le-ltb _ _ c.if-degree-gt-PLAN_LIMIT.false, ne_eqb _ _ c.if-degree-eq0.false, c.if-not-fold.false)
 
 pub returns-then-degree-gt-PLAN_LIMIT : goal.returns-then-degree-gt-PLAN_LIMIT
-returns-then-degree-gt-PLAN_LIMIT c = sym (found (goal.at.returns-then-degree-gt-PLAN_LIMIT c).After-least_folded ∙ rw (lt-ltb _ _ c.if-degree-gt-PLAN_LIMIT.true))
+returns-then-degree-gt-PLAN_LIMIT c =
+    sym (found (goal.at.returns-then-degree-gt-PLAN_LIMIT c).After-least_folded ∙ rw (lt-ltb _ _ c.if-degree-gt-PLAN_LIMIT.true))
 
 pub returns-then-degree-eq0 : goal.returns-then-degree-eq0
-returns-then-degree-eq0 c = sym (found (goal.at.returns-then-degree-eq0 c).After-least_folded ∙ rw (le-ltb _ _ c.if-degree-gt-PLAN_LIMIT.false, eq-eqb _ _ c.if-degree-eq0.true))
+returns-then-degree-eq0 c =
+    sym (found (goal.at.returns-then-degree-eq0 c).After-least_folded
+    ∙ rw (le-ltb _ _ c.if-degree-gt-PLAN_LIMIT.false, eq-eqb _ _ c.if-degree-eq0.true))
 
 pub returns-then-not-fold : goal.returns-then-not-fold
 returns-then-not-fold c =
-    sym (found (goal.at.returns-then-not-fold c).After-least_folded ∙ rw (le-ltb _ _ c.if-degree-gt-PLAN_LIMIT.false, ne_eqb _ _ c.if-degree-eq0.false, c.if-not-fold.true))
+    sym (found (goal.at.returns-then-not-fold c).After-least_folded
+    ∙ rw (le-ltb _ _ c.if-degree-gt-PLAN_LIMIT.false, ne_eqb _ _ c.if-degree-eq0.false, c.if-not-fold.true))
 
 pub returns-then-full : goal.returns-then-full
 returns-then-full c = sym (with_folding (goal.at.returns-then-full c).Else-not-fold ∙ rw c.if-full.true)

@@ -13,7 +13,8 @@ use Rattle.lists.proofs.TreeRule.{Again, leading_again}
 use Rattle.plan.specs.inside.Outlines.{totals_of}
 use Rattle.plan.proofs.ListTotals.{totals_cut, totals_again, totals_one, totals_range, low_totals_lem}
 use Rattle.plan.proofs.outline.+total_lists_total_slice.Goals as goal
-use Rattle.plan.proofs.outline.+total_lists_total_slice.Goals.{total_lists-After-total_lists-high, total_lists-Else-degree-base, total_slice-After-listed_again}
+use Rattle.plan.proofs.outline.+total_lists_total_slice.Goals.{total_lists-After-total_lists-high, total_lists-Else-degree-base}
+use Rattle.plan.proofs.outline.+total_lists_total_slice.Goals.{total_slice-After-listed_again}
 
 -- from the base on
 from_base : {t : ℕ} (c : total_lists-Else-degree-base t)
@@ -38,7 +39,8 @@ pub total_lists-total_low-low-requires : goal.total_lists-total_low-low-requires
 total_lists-total_low-low-requires t c = (from_base (goal.at.total_lists-total_low-low-requires t c).Else-degree-base, c.requires.part_limit)
 
 pub total_lists-overflow_sub-degree : goal.total_lists-overflow_sub-degree
-total_lists-overflow_sub-degree t c = omega (arith, bounds c.args.degree c.args.split (from_base (goal.at.total_lists-overflow_sub-degree t c).Else-degree-base))
+total_lists-overflow_sub-degree t c =
+    omega (arith, bounds c.args.degree c.args.split (from_base (goal.at.total_lists-overflow_sub-degree t c).Else-degree-base))
 
 pub total_lists-total_lists-high-requires : goal.total_lists-total_lists-high-requires
 total_lists-total_lists-high-requires t c =

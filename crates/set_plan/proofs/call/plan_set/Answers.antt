@@ -54,26 +54,31 @@ total_sizes-sizes-requires c = c.count_common-powers.ensures
 
 pub returns-then-short-gt0 : goal.returns-then-short-gt0
 returns-then-short-gt0 c =
-    refused_room c.args.members c.args.c.now c.args.out.now c.args.bounds.now c.args.steps.now (worked (goal.at.returns-then-short-gt0 c).After-total_sizes-sizes)
+    refused_room c.args.members c.args.c.now c.args.out.now c.args.bounds.now c.args.steps.now
+    (worked (goal.at.returns-then-short-gt0 c).After-total_sizes-sizes)
     c.buffer_refusal-short.ensures c.if-short-gt0.true c.refused_set-then-short-gt0.ensures
 
 pub write_all_lists-requires : goal.write_all_lists-requires
 write_all_lists-requires c =
-    lists_room c.args.members c.args.c.now c.args.out.now c.args.bounds.now c.args.steps.now (worked (goal.at.write_all_lists-requires c).After-total_sizes-sizes)
+    lists_room c.args.members c.args.c.now c.args.out.now c.args.bounds.now c.args.steps.now
+    (worked (goal.at.write_all_lists-requires c).After-total_sizes-sizes)
     c.buffer_refusal-short.ensures (omega (arith, c.if-short-gt0.false))
 
 pub write_set-requires : goal.write_set-requires
 write_set-requires c =
-    steps_room c.args.members c.args.c.now c.args.out.now c.args.bounds.now c.args.steps.now (worked (goal.at.write_set-requires c).After-total_sizes-sizes)
+    steps_room c.args.members c.args.c.now c.args.out.now c.args.bounds.now c.args.steps.now
+    (worked (goal.at.write_set-requires c).After-total_sizes-sizes)
     c.buffer_refusal-short.ensures (omega (arith, c.if-short-gt0.false))
 
 pub set_record-set-requires : goal.set_record-set-requires
 set_record-set-requires c =
-    record_asked c.args.members c.args.c.now c.args.out.now c.args.bounds.now c.args.steps.now (worked (goal.at.set_record-set-requires c).After-total_sizes-sizes)
+    record_asked c.args.members c.args.c.now c.args.out.now c.args.bounds.now c.args.steps.now
+    (worked (goal.at.set_record-set-requires c).After-total_sizes-sizes)
     c.buffer_refusal-short.ensures
 
 pub returns : goal.returns
 returns c =
-    planned_set_lem c.args.members c.args.c.now c.args.out.now c.args.bounds.now c.args.steps.now (worked (goal.at.returns c).After-total_sizes-sizes)
+    planned_set_lem c.args.members c.args.c.now c.args.out.now c.args.bounds.now c.args.steps.now
+    (worked (goal.at.returns c).After-total_sizes-sizes)
     c.buffer_refusal-short.ensures (omega (arith, c.if-short-gt0.false)) c.write_all_lists.ensures c.write_set.ensures
     c.set_record-set.ensures
