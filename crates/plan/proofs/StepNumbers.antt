@@ -1,6 +1,6 @@
 -- Steps as numbers in a buffer: four a step, one step behind the other; and the step of a power, where it is marked.
 use mathlib.Core.Path.{◌≡◌, refl, ap, sym, ◌∙◌}
-use mathlib.Core.Bool.{Bool, true, false, not, true≢false}
+use mathlib.Core.Bool.{Bool, true, false, true≢false}
 use mathlib.Core.List.{List, [], ◌∷◌}
 use Prim.Native.Nat.{ℕ, suc, ◌+◌, ◌*◌}
 use native.Mathlib.Omega.{arith}
@@ -23,16 +23,16 @@ put_four b at k' x' y' z' k_is x-is y_is z_is =
 
 -- ---- the step of a power
 
-pub power_unmarked : (marked : Bool) (n step : ℕ) (b : List ℕ) → not marked ≡ true → PowerPut marked n step b step b
-power_unmarked true n step b none = absurd (true≢false (sym none))
+pub power_unmarked : (marked : Bool) (n step : ℕ) (b : List ℕ) → marked ≡ false → PowerPut marked n step b step b
+power_unmarked true n step b none = absurd (true≢false none)
 power_unmarked false n step b none = record { numbers = refl; next = omega arith }
 
-module _ (marked : Bool) {n step : ℕ} {b : List ℕ} {parts : Parts} (fits : PowerFits marked n step b) (is_marked : not marked ≡ false)
+module _ (marked : Bool) {n step : ℕ} {b : List ℕ} {parts : Parts} (fits : PowerFits marked n step b) (is_marked : marked ≡ true)
     (parts_are : parts ≡ split_of n) where
   pub power_fits : StepFits step 1 n parts.a parts.b b
   power_fits = by_mark marked fits is_marked
     where
-      by_mark : (t : Bool) → PowerFits t n step b → not t ≡ false → StepFits step 1 n parts.a parts.b b
+      by_mark : (t : Bool) → PowerFits t n step b → t ≡ true → StepFits step 1 n parts.a parts.b b
       by_mark true known is =
           let from = known.from_two refl in
           let within = known.limit in
@@ -45,15 +45,15 @@ module _ (marked : Bool) {n step : ℕ} {b : List ℕ} {parts : Parts} (fits : P
             y_limit = omega arith;
             z_limit = omega arith;
           })
-      by_mark false known is = absurd (true≢false is)
+      by_mark false known is = absurd (true≢false (sym is))
 
   pub power_marked : {b' : List ℕ} → b' ≡ sets b (4 * step) (1 ∷ n ∷ parts.a ∷ parts.b ∷ []) → PowerPut marked n step b (step + 1) b'
   unfolding flat
   power_marked {b'} put = by_mark marked fits is_marked
     where
-      by_mark : (t : Bool) → PowerFits t n step b → not t ≡ false → PowerPut t n step b (step + 1) b'
+      by_mark : (t : Bool) → PowerFits t n step b → t ≡ true → PowerPut t n step b (step + 1) b'
       by_mark true known is =
           let within = known.limit in
           let accepted = parts_are ∙ split_accepted n (known.from_two refl) (omega arith) in
           record { numbers = put ∙ ap (λ (p : Parts). sets b (4 * step) (1 ∷ n ∷ p.a ∷ p.b ∷ [])) accepted; next = refl }
-      by_mark false known is = absurd (true≢false is)
+      by_mark false known is = absurd (true≢false (sym is))

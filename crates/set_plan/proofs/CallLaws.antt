@@ -26,7 +26,8 @@ use Rattle.plan.specs.declared.sizes.PlanSizes.{PlanSizes}
 use Rattle.plan.proofs.PlanTests.{early_numbered, early_accepted, settings_accepted, buffers_fit}
 use Rattle.sets.specs.Members.{Curve, members_in, curves_in, handed_count, all_alike, total}
 use Rattle.sets.specs.Own.{own_steps}
-use Rattle.sets.specs.SetPlan.{member_limit, heads_of, set_powers, common_steps, member_steps, set_steps, set_of, set_ct, set_pt, own_step_count, set_step_count}
+use Rattle.sets.specs.SetPlan.{member_limit, heads_of, set_powers, common_steps, member_steps, set_steps, set_of, set_ct, set_pt}
+use Rattle.sets.specs.SetPlan.{own_step_count, set_step_count}
 use Rattle.sets.specs.SetCall.{bad_set, unlike_members, own_tests, room_tests, no_set, curves, ahead_tests}
 use Rattle.sets.specs.SetCall.{SetAccepted, set_refusal, SetCall, set_answer, set_coefficients_left, set_boundaries_left, set_numbers_left}
 use Rattle.sets.specs.SetSizes.{set_sizes_of}

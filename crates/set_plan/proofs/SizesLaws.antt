@@ -85,12 +85,12 @@ module _ (handed : Members) where
   sizes_many some many = sym (rw (ne_eqb handed.count 0 some, lt-ltb member_limit handed.count many))
 
   module _ (some : handed.count ≡ 0 → ⊥) (few : handed.count ≤ member_limit) {same : Bool} (same_is : same ≡ all_alike (members_in handed)) where
-    pub sizes_unlike : not same ≡ true → 36 ≡ answer
-    sizes_unlike fails = sym (rw (ne_eqb handed.count 0 some, le-ltb member_limit handed.count few, sym same_is ∙ not-true same fails))
+    pub sizes_unlike : same ≡ false → 36 ≡ answer
+    sizes_unlike fails = sym (rw (ne_eqb handed.count 0 some, le-ltb member_limit handed.count few, sym same_is ∙ fails))
 
-    pub sizes_own : {k : ℕ} → not same ≡ false → k ≡ first_refusal (joined (map member_settings_tests (members_in handed))) → k ≡ answer
+    pub sizes_own : {k : ℕ} → same ≡ true → k ≡ first_refusal (joined (map member_settings_tests (members_in handed))) → k ≡ answer
     sizes_own alike k_is =
-        k_is ∙ sym (rw (ne_eqb handed.count 0 some, le-ltb member_limit handed.count few, sym same_is ∙ not-false same alike))
+        k_is ∙ sym (rw (ne_eqb handed.count 0 some, le-ltb member_limit handed.count few, sym same_is ∙ alike))
 
   -- ---- past the tests
 

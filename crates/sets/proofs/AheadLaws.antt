@@ -26,25 +26,25 @@ module _ (handed : Members) (c : List ℤ) where
 
   module _ (some : handed.count ≡ 0 → ⊥) (few : handed.count ≤ member_limit) {slice : ℕ} (slice_is : slice ≡ length c) {fit : Bool}
       (fit_is : fit ≡ not (ltb slice (handed_count (members_in handed)))) where
-    passes : not fit ≡ false → ltb (length c) (handed_count (members_in handed)) ≡ false
+    passes : fit ≡ true → ltb (length c) (handed_count (members_in handed)) ≡ false
     passes fits =
-        let none : ltb slice (handed_count (members_in handed)) ≡ false = not-true _ (sym fit_is ∙ not-false fit fits) in
+        let none : ltb slice (handed_count (members_in handed)) ≡ false = not-true _ (sym fit_is ∙ fits) in
         ap (λ (n : ℕ). ltb n (handed_count (members_in handed))) (sym slice_is) ∙ none
 
-    pub ahead_long : not fit ≡ true → 35 ≡ answer
+    pub ahead_long : fit ≡ false → 35 ≡ answer
     ahead_long fails =
-        let over : ltb slice (handed_count (members_in handed)) ≡ true = not-false _ (sym fit_is ∙ not-true fit fails) in
+        let over : ltb slice (handed_count (members_in handed)) ≡ true = not-false _ (sym fit_is ∙ fails) in
         let long = ap (λ (n : ℕ). ltb n (handed_count (members_in handed))) (sym slice_is) ∙ over in
         sym (rw (ne_eqb handed.count 0 some, le-ltb member_limit handed.count few, long))
 
-    pub ahead_within : not fit ≡ false → handed_count (members_in handed) ≤ length c
+    pub ahead_within : fit ≡ true → handed_count (members_in handed) ≤ length c
     ahead_within fits = ltb-false (length c) (handed_count (members_in handed)) (passes fits)
 
-    pub ahead_unlike : {same : Bool} → not fit ≡ false → same ≡ all_alike (members_in handed) → not same ≡ true → 36 ≡ answer
+    pub ahead_unlike : {same : Bool} → fit ≡ true → same ≡ all_alike (members_in handed) → same ≡ false → 36 ≡ answer
     ahead_unlike {same} fits same_is fails =
-        sym (rw (ne_eqb handed.count 0 some, le-ltb member_limit handed.count few, passes fits, sym same_is ∙ not-true same fails))
+        sym (rw (ne_eqb handed.count 0 some, le-ltb member_limit handed.count few, passes fits, sym same_is ∙ fails))
 
-    pub ahead_own : {same : Bool} {k : ℕ} → not fit ≡ false → same ≡ all_alike (members_in handed) → not same ≡ false
+    pub ahead_own : {same : Bool} {k : ℕ} → fit ≡ true → same ≡ all_alike (members_in handed) → same ≡ true
         → k ≡ first_refusal (joined (map own_tests (curves handed c))) → k ≡ answer
     ahead_own {same} fits same_is alike k_is =
-        k_is ∙ sym (rw (ne_eqb handed.count 0 some, le-ltb member_limit handed.count few, passes fits, sym same_is ∙ not-false same alike))
+        k_is ∙ sym (rw (ne_eqb handed.count 0 some, le-ltb member_limit handed.count few, passes fits, sym same_is ∙ alike))

@@ -170,10 +170,12 @@ target_more xs head n = (forth xs, back xs)
   where
     forth : (ys : List Head) → TargetIn (ys ++ (head ∷ [])) n → TargetIn ys n ⊎ OwnTarget head n
     forth [] (inl own) = inr own
+    forth [] (inr rest) = elim rest [ ]
     forth (y ∷ ys) (inl first) = inl (inl first)
     forth (y ∷ ys) (inr rest) = ⊎_elim (λ old. inl (inr old)) (λ new. inr new) (forth ys rest)
 
     back : (ys : List Head) → TargetIn ys n ⊎ OwnTarget head n → TargetIn (ys ++ (head ∷ [])) n
+    back [] (inl none) = elim none [ ]
     back [] (inr own) = inl own
     back (y ∷ ys) (inl (inl first)) = inl first
     back (y ∷ ys) (inl (inr rest)) = inr (back ys (inl rest))
@@ -246,6 +248,7 @@ own_to head m needed =
 -- so no power that one of them needs at once is above the greatest
 targets_to : (n : ℕ) (heads : List Head) → Each HeadFits heads → Each (λ (head : Head). greatest_target head.degree (own_split head) ≤ n) heads
     → (m : ℕ) → TargetIn heads m → m ≤ n
+targets_to n [] fit to m none = elim none [ ]
 targets_to n (head ∷ heads) fit to m (inl own) =
     omega (arith, own_to head m ((needed_powers head.parity head.basis head.degree (own_split head)).least.holds m own), to.0)
 targets_to n (head ∷ heads) fit to m (inr rest) = targets_to n heads fit.1 to.1 m rest

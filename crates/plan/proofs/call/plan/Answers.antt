@@ -1,7 +1,6 @@
 -- `plan::call::plan` meets its contract. Each test is one of the definition, in its order; past them the head is that of the planned degree on its
 -- interval, and the buffers hold what the writer leaves.
 use native.Mathlib.Omega.{arith}
-use borrow.Author.Tests.{not-true, not-false}
 use Rattle.number.specs.Interval.{Ordered}
 use Rattle.plan.specs.PlanCall.{Accepted}
 use Rattle.plan.proofs.PlanTests.{settings_accepted}
@@ -17,14 +16,14 @@ accepted c = omega (arith, c.input_refusal-wrong.ensures, c.if-wrong-gt0.false)
 -- nor that of the interval
 ordered : (c : Else-not-a-b) →
     Ordered c.args.a c.args.b
-ordered c = not-false _ c.if-not-a-b.false-raw
+ordered c = c.if-not-a-b.false
 
 -- so the outline is that of what is planned
 outlined : (c : After-planned_outline-outline) →
     OutlinePlanned c.args.strategy c.args.parity c.args.basis c.args.fold c.args.c.now c.planned_outline-outline.result
 outlined c =
     outline_planned c.args.strategy c.args.parity c.args.basis c.args.fold c.args.c.now
-    (accepted c.before.before.before) c.degree_of.ensures c.planned_outline-outline.ensures
+    (omega (arith, c.input_refusal-wrong.ensures, c.if-wrong-gt0.false)) c.degree_of.ensures c.planned_outline-outline.ensures
 
 pub returns-then-wrong-gt0 : goal.returns-then-wrong-gt0
 returns-then-wrong-gt0 c =
@@ -34,37 +33,45 @@ returns-then-wrong-gt0 c =
 
 pub returns-then-not-a-b : goal.returns-then-not-a-b
 returns-then-not-a-b c =
+    let at = goal.at.returns-then-not-a-b c in
     refused_interval c.args.strategy c.args.parity c.args.basis c.args.fold c.args.c.now c.args.a
-    c.args.b c.args.out.now c.args.bounds.now c.args.steps.now (accepted (goal.at.returns-then-not-a-b c).Else-wrong-gt0) (not-true _ c.if-not-a-b.true-raw)
+    c.args.b c.args.out.now c.args.bounds.now c.args.steps.now (accepted at.Else-wrong-gt0) c.if-not-a-b.true
     c.refused-then-not-a-b.ensures
 
 pub planned_outline-outline-requires : goal.planned_outline-outline-requires
 planned_outline-outline-requires c =
-    rw c.degree_of.ensures (settings_accepted c.args.fold c.args.parity c.args.c.now (accepted (goal.at.planned_outline-outline-requires c).Else-wrong-gt0))
+    let at = goal.at.planned_outline-outline-requires c in
+    rw c.degree_of.ensures (settings_accepted c.args.fold c.args.parity c.args.c.now (accepted at.Else-wrong-gt0))
 
 pub overflow_sub-count : goal.overflow_sub-count
 overflow_sub-count c = omega (arith, (outlined (goal.at.overflow_sub-count c).After-planned_outline-outline).degrees.from)
 
 pub head_of-head-requires : goal.head_of-head-requires
-head_of-head-requires c = ((outlined (goal.at.head_of-head-requires c).After-planned_outline-outline).degrees, (outlined (goal.at.head_of-head-requires c).After-planned_outline-outline).outline_is)
+head_of-head-requires c =
+    let told = outlined (goal.at.head_of-head-requires c).After-planned_outline-outline in
+    (told.degrees, told.outline_is)
 
 pub returns-then-short-gt0 : goal.returns-then-short-gt0
 returns-then-short-gt0 c =
+    let at = goal.at.returns-then-short-gt0 c in
     refused_buffers c.args.strategy c.args.parity c.args.basis c.args.fold c.args.c.now c.args.a
-    c.args.b c.args.out.now c.args.bounds.now c.args.steps.now (accepted (goal.at.returns-then-short-gt0 c).Else-wrong-gt0) (ordered (goal.at.returns-then-short-gt0 c).Else-not-a-b)
-    (outlined (goal.at.returns-then-short-gt0 c).After-planned_outline-outline).count_is c.change_of_basis-interval.ensures c.head_of-head.ensures c.buffer_refusal-short.ensures c.if-short-gt0.true
-    c.refused-then-short-gt0.ensures
+    c.args.b c.args.out.now c.args.bounds.now c.args.steps.now (accepted at.Else-wrong-gt0) (ordered at.Else-not-a-b)
+    (outlined at.After-planned_outline-outline).count_is c.change_of_basis-interval.ensures c.head_of-head.ensures
+    c.buffer_refusal-short.ensures c.if-short-gt0.true c.refused-then-short-gt0.ensures
 
 pub fill-requires : goal.fill-requires
 fill-requires c =
+    let at = goal.at.fill-requires c in
+    let told = outlined at.After-planned_outline-outline in
     plan_fits c.args.strategy c.args.parity c.args.basis c.args.fold c.args.c.now c.args.a
-    c.args.b c.args.out.now c.args.bounds.now c.args.steps.now (accepted (goal.at.fill-requires c).Else-wrong-gt0) (ordered (goal.at.fill-requires c).Else-not-a-b)
-    (outlined (goal.at.fill-requires c).After-planned_outline-outline).count_is c.change_of_basis-interval.ensures c.head_of-head.ensures c.buffer_refusal-short.ensures
-    (omega (arith, c.if-short-gt0.false)) (outlined (goal.at.fill-requires c).After-planned_outline-outline).outline_is
+    c.args.b c.args.out.now c.args.bounds.now c.args.steps.now (accepted at.Else-wrong-gt0) (ordered at.Else-not-a-b)
+    told.count_is c.change_of_basis-interval.ensures c.head_of-head.ensures c.buffer_refusal-short.ensures
+    (omega (arith, c.if-short-gt0.false)) told.outline_is
 
 pub returns : goal.returns
 returns c =
+    let at = goal.at.returns c in
     planned_call c.args.strategy c.args.parity c.args.basis c.args.fold c.args.c.now c.args.a
-    c.args.b c.args.out.now c.args.bounds.now c.args.steps.now (accepted (goal.at.returns c).Else-wrong-gt0) (ordered (goal.at.returns c).Else-not-a-b)
-    (outlined (goal.at.returns c).After-planned_outline-outline).count_is c.change_of_basis-interval.ensures c.head_of-head.ensures c.buffer_refusal-short.ensures
-    (omega (arith, c.if-short-gt0.false)) c.fill.ensures
+    c.args.b c.args.out.now c.args.bounds.now c.args.steps.now (accepted at.Else-wrong-gt0) (ordered at.Else-not-a-b)
+    (outlined at.After-planned_outline-outline).count_is c.change_of_basis-interval.ensures c.head_of-head.ensures
+    c.buffer_refusal-short.ensures (omega (arith, c.if-short-gt0.false)) c.fill.ensures

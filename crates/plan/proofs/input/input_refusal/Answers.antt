@@ -3,7 +3,6 @@
 use mathlib.Core.Path.{◌≡◌, sym, ap, ◌∙◌}
 use Prim.Native.Nat.{ℕ}
 use native.Mathlib.Omega.{arith}
-use borrow.Author.Tests.{not-true, not-false}
 use Rattle.number.specs.Refusal.{first_refusal}
 use Rattle.number.specs.Tests.{degree_of}
 use Rattle.number.proofs.Refusal.{first_kept}
@@ -29,19 +28,19 @@ late_is c =
 pub returns-then-early-gt0 : goal.returns-then-early-gt0
 returns-then-early-gt0 c =
     let settings = settings_tests c.args.fold c.args.parity (degree_of c.args.c.now) in
-    early_is (goal.at.returns-then-early-gt0 c).After-settings_refusal-early
-    ∙ sym (first_kept settings (coefficient_tests c.args.parity c.args.c.now) (omega (arith, early_is (goal.at.returns-then-early-gt0 c).After-settings_refusal-early, c.if-early-gt0.true)))
+    let is = early_is (goal.at.returns-then-early-gt0 c).After-settings_refusal-early in
+    is ∙ sym (first_kept settings (coefficient_tests c.args.parity c.args.c.now) (omega (arith, is, c.if-early-gt0.true)))
 
 pub returns-then-not-has_parity : goal.returns-then-not-has_parity
 returns-then-not-has_parity c =
-    sym (late_is (goal.at.returns-then-not-has_parity c).Else-early-gt0 ∙ rw (sym c.has_parity.ensures ∙ not-true _ c.if-not-has_parity.true-raw))
+    sym (late_is (goal.at.returns-then-not-has_parity c).Else-early-gt0 ∙ rw (sym c.has_parity.ensures ∙ c.if-not-has_parity.true))
 
 pub returns-then-sum_fits : goal.returns-then-sum_fits
 returns-then-sum_fits c =
     sym (late_is (goal.at.returns-then-sum_fits c).Else-early-gt0
-    ∙ rw (sym c.has_parity.ensures ∙ not-false _ c.if-not-has_parity.false-raw, sym c.sum_fits.ensures ∙ c.if-sum_fits.true))
+    ∙ rw (sym c.has_parity.ensures ∙ c.if-not-has_parity.false, sym c.sum_fits.ensures ∙ c.if-sum_fits.true))
 
 pub returns-else-sum_fits : goal.returns-else-sum_fits
 returns-else-sum_fits c =
     sym (late_is (goal.at.returns-else-sum_fits c).Else-early-gt0
-    ∙ rw (sym c.has_parity.ensures ∙ not-false _ c.if-not-has_parity.false-raw, sym c.sum_fits.ensures ∙ c.if-sum_fits.false))
+    ∙ rw (sym c.has_parity.ensures ∙ c.if-not-has_parity.false, sym c.sum_fits.ensures ∙ c.if-sum_fits.false))

@@ -1,4 +1,4 @@
-use Prim.Native.Nat.{◌+◌, ◌-◌, ◌*◌}
+use Prim.Native.Nat.{◌+◌, ◌*◌}
 use Rattle.plan.proofs.outline.+total_lists_total_slice.Given as goal
 
 abbrev pub decreases-total_lists : goal.decreases-total_lists

@@ -39,4 +39,5 @@ outline_of-requires c = degrees (goal.at.outline_of-requires c).After-planned_co
 pub returns : goal.returns
 returns c =
     c.outline_of.ensures
-    ∙ ap₂ (λ (p : Parity) (d : ℕ). outline_for c.args.strategy p c.args.basis d) c.planned_parity-planned.ensures (degree_is (goal.at.returns c).After-planned_count-count)
+    ∙ ap₂ (λ (p : Parity) (d : ℕ). outline_for c.args.strategy p c.args.basis d) c.planned_parity-planned.ensures
+    (degree_is (goal.at.returns c).After-planned_count-count)

@@ -4,12 +4,12 @@ use Rattle.plan.proofs.powers.put_power.Goals as goal
 
 pub returns-then-not-marked : goal.returns-then-not-marked
 returns-then-not-marked c =
-    power_unmarked c.args.marked c.args.n c.args.step c.args.steps.now c.if-not-marked.true-raw
+    power_unmarked c.args.marked c.args.n c.args.step c.args.steps.now c.if-not-marked.true
 
 pub put_step-requires : goal.put_step-requires
 put_step-requires c =
-    power_fits c.args.marked c.requires c.if-not-marked.false-raw c.split_degree-parts.ensures
+    power_fits c.args.marked c.requires c.if-not-marked.false c.split_degree-parts.ensures
 
 pub returns : goal.returns
 returns c =
-    power_marked c.args.marked c.requires c.if-not-marked.false-raw c.split_degree-parts.ensures c.put_step.ensures
+    power_marked c.args.marked c.requires c.if-not-marked.false c.split_degree-parts.ensures c.put_step.ensures

@@ -1,7 +1,7 @@
 -- `plan::powers::write_marked` meets its contract. The invariant: the steps of the marks passed stand in the buffer. No power above the degree is
 -- needed, so the loop ends there. The measure is the number of places that are left.
 use mathlib.Core.Path.{◌≡◌, refl, ◌∙◌}
-use Prim.Native.Nat.{◌-◌, ◌<◌}
+use Prim.Native.Nat.{◌<◌}
 use native.Mathlib.Omega.{arith}
 use lib.ListN.{length}
 use Rattle.number.specs.Limits.{count_limit}
@@ -31,7 +31,8 @@ pub loop-n-preserved : goal.loop-n-preserved
 loop-n-preserved c =
     let loop = c.loop-n in
     let range = c.requires.0.degrees in
-    let inside : loop.n < length c.needed_marks-marks.result = omega (arith, c.loop-n-test.true, marks_all (goal.at.loop-n-preserved c).After-needed_marks-marks, range.to) in
+    let all = marks_all (goal.at.loop-n-preserved c).After-needed_marks-marks in
+    let inside : loop.n < length c.needed_marks-marks.result = omega (arith, c.loop-n-test.true, all, range.to) in
     record {
       within = omega (arith, c.loop-n-test.true);
       same = c.put_power-step.auto.steps ∙ loop.invariant.same;

@@ -18,9 +18,10 @@ overflow_sub-base c = omega (arith, c.power_of_two-base.ensures, pow_pos c.args.
 pub write_marked-step-requires : goal.write_marked-step-requires
 write_marked-step-requires c =
     let power = c.power_of_two-base.ensures in
-    let splits = c.requires.0.splits in (
+    let splits = c.requires.0.splits in
+    let from = from_base (goal.at.write_marked-step-requires c).Else-degree-base in (
       small_planned splits power,
-      room_below c.args.parity c.args.basis c.args.degree c.args.split splits.from (from_base (goal.at.write_marked-step-requires c).Else-degree-base) power c.requires.1,
+      room_below c.args.parity c.args.basis c.args.degree c.args.split splits.from from power c.requires.1,
     )
 
 pub write_two_powers-requires : goal.write_two_powers-requires

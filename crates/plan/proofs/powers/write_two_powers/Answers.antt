@@ -1,7 +1,6 @@
 -- `plan::powers::write_two_powers` meets its contract. The invariant: the powers that are left, from 2^k on, put behind those that stand in the
 -- buffer, give all that is to be put. The measure is the number of those that are left.
 use mathlib.Core.Path.{refl, ◌∙◌}
-use Prim.Native.Nat.{◌-◌}
 use Rattle.plan.proofs.TwoPowerSteps.{left_all, power_fits, left_less, left_none}
 use Rattle.plan.proofs.powers.write_two_powers.Goals as goal
 

@@ -8,7 +8,7 @@ use Rattle.set_plan.proofs.CountLaws.{own_most, fits_here, threes_from, plains_f
 use Rattle.set_plan.proofs.costs.sum_costs.Goals as goal
 
 pub loop-i-init : goal.loop-i-init
-loop-i-init c = let heads = c.args.t1 in
+loop-i-init c = let heads = c.args.heads in
     let count = c.args.count in
     record {
       within = omega arith;
@@ -34,7 +34,7 @@ overflow_add-plains c = let below = c.loop-i-test.true in
 pub loop-i-preserved : goal.loop-i-preserved
 loop-i-preserved c = let inv = c.loop-i.invariant in
     let below = c.loop-i-test.true in
-    let heads = c.args.t1 in
+    let heads = c.args.heads in
     let count = c.args.count in
     let most = own_most (fits_here c.requires c.loop-i.i below) in
     let threes = ap (λ (k : Costs). k.threes) c.own_costs-own.ensures in
@@ -49,7 +49,7 @@ loop-i-preserved c = let inv = c.loop-i.invariant in
 
 pub returns : goal.returns
 returns c = let inv = c.loop-i.invariant in
-    let heads = c.args.t1 in
+    let heads = c.args.heads in
     let count = c.args.count in
     let none = none_from heads count c.loop-i.i c.loop-i-test.false in
     record {

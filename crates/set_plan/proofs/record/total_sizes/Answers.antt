@@ -10,7 +10,7 @@ use Rattle.set_plan.proofs.record.total_sizes.Goals as goal
 
 pub loop-i-init : goal.loop-i-init
 loop-i-init c =
-    let all = all_from c.args.t1 c.args.count in
+    let all = all_from c.args.heads c.args.count in
     record {
       within = omega arith;
       coefficients_left = omega (arith, ap coefficient_count all);
@@ -61,6 +61,6 @@ loop-i-preserved c =
 pub returns : goal.returns
 returns c =
     let inv = c.loop-i.invariant in
-    let none = none_from c.args.t1 c.args.count c.loop-i.i c.loop-i-test.false in
+    let none = none_from c.args.heads c.args.count c.loop-i.i c.loop-i-test.false in
     sizes_summed c.requires (omega (arith, inv.coefficients_left, ap coefficient_count none, counts_none.0))
     (omega (arith, inv.lists_left, ap list_count none, counts_none.1)) (omega (arith, inv.steps_left, ap own_step_count none, counts_none.2))

@@ -1,25 +1,20 @@
 -- `set_plan::sizes::set_sizes` meets its contract: past the tests the heads are those of the members by their settings, and the totals are theirs.
 use mathlib.Core.Path.{◌≡◌, sym, ◌∙◌}
 use native.Mathlib.Omega.{arith}
-use lib.ListN.{length, length-map}
 use Rattle.number.specs.Refusal.{first_refusal}
-use Rattle.sets.specs.SetPlan.{member_limit}
 use Rattle.sets.specs.SetSizes.{set_sizes_tests}
 use Rattle.sets.specs.inside.Planning.{HandedPass}
 use Rattle.sets.proofs.HeadLaws.{heads_fit, one_basis}
 use Rattle.set_plan.proofs.SizesLaws.{settings_alike, settings_pass, sizes_refused, sizes_told}
 use Rattle.set_plan.proofs.sizes.set_sizes.Goals as goal
-use Rattle.set_plan.proofs.sizes.set_sizes.Goals.{Else-wrong-gt0, Start}
-
--- an array of members has all its places
-members_size : (c : Start) → length c.args.members.members ≡ member_limit
-members_size c = sym (length-map c.args.members.members _) ∙ c.well-formed.0.1.1.1.0.1.0.1
+use Rattle.set_plan.proofs.sizes.set_sizes.Goals.{Else-wrong-gt0}
 
 accepted : (c : Else-wrong-gt0) → first_refusal (set_sizes_tests c.args.members) ≡ 0
 accepted c = omega (arith, c.sizes_refusal-wrong.ensures, c.if-wrong-gt0.false)
 
+-- the members pass, of which an array has all its places
 pass : (c : Else-wrong-gt0) → HandedPass c.args.members
-pass c = settings_pass c.args.members (accepted c) (members_size c.before.before)
+pass c = settings_pass c.args.members (accepted c) c.well_formed.0.1.1.1.0.1.0.1
 
 pub returns-then-wrong-gt0 : goal.returns-then-wrong-gt0
 returns-then-wrong-gt0 c =
@@ -30,8 +25,9 @@ set_heads-heads-requires c = pass (goal.at.set_heads-heads-requires c).Else-wron
 
 pub common_marks-marks-requires : goal.common_marks-marks-requires
 common_marks-marks-requires c =
-    let alikes = settings_alike c.args.members (accepted (goal.at.common_marks-marks-requires c).Else-wrong-gt0) in
-    (heads_fit (pass (goal.at.common_marks-marks-requires c).Else-wrong-gt0) c.set_heads-heads.ensures, one_basis (pass (goal.at.common_marks-marks-requires c).Else-wrong-gt0) c.set_heads-heads.ensures alikes.0 alikes.1)
+    let at = (goal.at.common_marks-marks-requires c).Else-wrong-gt0 in
+    let alikes = settings_alike c.args.members (accepted at) in
+    (heads_fit (pass at) c.set_heads-heads.ensures, one_basis (pass at) c.set_heads-heads.ensures alikes.0 alikes.1)
 
 pub count_common-powers-requires : goal.count_common-powers-requires
 count_common-powers-requires c =
@@ -42,4 +38,5 @@ total_sizes-requires c = c.count_common-powers.ensures
 
 pub returns : goal.returns
 returns c =
-    sizes_told c.args.members (accepted (goal.at.returns c).Else-wrong-gt0) (members_size (goal.at.returns c).Start) c.set_heads-heads.ensures c.total_sizes.ensures
+    sizes_told c.args.members (accepted (goal.at.returns c).Else-wrong-gt0) c.well_formed.0.1.1.1.0.1.0.1 c.set_heads-heads.ensures
+    c.total_sizes.ensures

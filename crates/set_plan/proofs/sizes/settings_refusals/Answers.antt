@@ -14,7 +14,7 @@ use Rattle.set_plan.proofs.sizes.settings_refusals.Goals as goal
 pub loop-i-init : goal.loop-i-init
 loop-i-init c = record {
   within = omega arith;
-  rest = ap (λ (l : List Member). first_refusal (joined (map member_settings_tests l))) (from_start c.args.t1);
+  rest = ap (λ (l : List Member). first_refusal (joined (map member_settings_tests l))) (from_start c.args.handed);
 }
 
 pub bounds-handed-i : goal.bounds-handed-i
@@ -43,4 +43,4 @@ loop-i-preserved c =
 
 pub returns : goal.returns
 returns c =
-    sym (c.loop-i.invariant.rest ∙ settings_end c.args.t1 c.loop-i.i c.loop-i-test.false)
+    sym (c.loop-i.invariant.rest ∙ settings_end c.args.handed c.loop-i.i c.loop-i-test.false)

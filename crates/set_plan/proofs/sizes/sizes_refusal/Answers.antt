@@ -1,7 +1,7 @@
 -- `set_plan::sizes::sizes_refusal` meets its contract: it makes the definition's tests in the definition's order.
-use mathlib.Core.Path.{◌≡◌, sym, ◌∙◌}
+use mathlib.Core.Path.{◌≡◌}
 use native.Mathlib.Omega.{arith}
-use lib.ListN.{length, length-map}
+use lib.ListN.{length}
 use Rattle.sets.specs.SetPlan.{member_limit}
 use Rattle.set_plan.proofs.SizesLaws.{sizes_none, sizes_many, sizes_unlike, sizes_own}
 use Rattle.set_plan.proofs.sizes.sizes_refusal.Goals as goal
@@ -9,7 +9,7 @@ use Rattle.set_plan.proofs.sizes.sizes_refusal.Goals.{Start}
 
 -- an array of members has all its places
 members_size : (c : Start) → length c.args.handed.members ≡ member_limit
-members_size c = sym (length-map c.args.handed.members _) ∙ c.well-formed.0.1.1.1.0.1.0.1
+members_size c = c.well_formed.0.1.1.1.0.1.0.1
 
 pub returns-then-count-eq0 : goal.returns-then-count-eq0
 returns-then-count-eq0 c = sizes_none c.args.handed c.if-count-eq0.true
@@ -24,7 +24,7 @@ members_alike-requires c =
 
 pub returns-then-not-members_alike : goal.returns-then-not-members_alike
 returns-then-not-members_alike c =
-    sizes_unlike c.args.handed c.if-count-eq0.false c.if-count-gt-MEMBERS.false c.Members-Alike.ensures c.if-not-members_alike.true-raw
+    sizes_unlike c.args.handed c.if-count-eq0.false c.if-count-gt-MEMBERS.false c.members_alike.ensures c.if-not-members_alike.true
 
 pub settings_refusals-requires : goal.settings_refusals-requires
 settings_refusals-requires c =
@@ -32,5 +32,5 @@ settings_refusals-requires c =
 
 pub returns : goal.returns
 returns c =
-    sizes_own c.args.handed c.if-count-eq0.false c.if-count-gt-MEMBERS.false c.Members-Alike.ensures c.if-not-members_alike.false-raw
+    sizes_own c.args.handed c.if-count-eq0.false c.if-count-gt-MEMBERS.false c.members_alike.ensures c.if-not-members_alike.false
     c.settings_refusals.ensures

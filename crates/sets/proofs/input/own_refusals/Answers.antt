@@ -15,7 +15,7 @@ use Rattle.sets.proofs.input.own_refusals.Goals as goal
 
 pub loop-i-init : goal.loop-i-init
 loop-i-init c =
-    let handed = c.args.t1 in
+    let handed = c.args.handed in
     record {
       within = omega arith;
       room = omega (arith, c.requires.within, ap handed_count (from_start handed));
@@ -24,7 +24,7 @@ loop-i-init c =
 
 pub overflow_add-end : goal.overflow_add-end
 overflow_add-end c =
-    let handed = c.args.t1 in
+    let handed = c.args.handed in
     omega (
       arith,
       count_next c.requires.few c.loop-i.i c.loop-i-test.true,
@@ -35,19 +35,19 @@ overflow_add-end c =
 
 pub slice_bounds-own_refusal-end : goal.slice_bounds-own_refusal-end
 slice_bounds-own_refusal-end c =
-    let handed = c.args.t1 in
+    let handed = c.args.handed in
     omega (arith, count_next c.requires.few c.loop-i.i c.loop-i-test.true, c.loop-i.invariant.room)
 
 pub returns-then-wrong-gt0 : goal.returns-then-wrong-gt0
 returns-then-wrong-gt0 c =
-    let handed = c.args.t1 in
+    let handed = c.args.handed in
     let slice = c.args.c.now in
     refused_here c.requires.few slice c.loop-i.i c.loop-i.at c.loop-i-test.true
     c.own_refusal-wrong.ensures c.if-wrong-gt0.true ∙ sym c.loop-i.invariant.rest
 
 pub loop-i-preserved : goal.loop-i-preserved
 loop-i-preserved c =
-    let handed = c.args.t1 in
+    let handed = c.args.handed in
     let slice = c.args.c.now in
     let below = c.loop-i-test.true in
     record {
@@ -59,5 +59,5 @@ loop-i-preserved c =
 
 pub returns : goal.returns
 returns c =
-    let handed = c.args.t1 in
+    let handed = c.args.handed in
     sym (c.loop-i.invariant.rest ∙ refusal_end handed c.args.c.now c.loop-i.i c.loop-i.at c.loop-i-test.false)

@@ -13,15 +13,15 @@ pub loop-i-init : goal.loop-i-init
 loop-i-init c =
     record {
       within = omega arith;
-      upto = ap (replicate member_limit) c.no_head-none.ensures ∙ heads_none c.args.t1;
+      upto = ap (replicate member_limit) c.no_head-none.ensures ∙ heads_none c.args.handed;
     }
 
 pub member_head-head-requires : goal.member_head-head-requires
 member_head-head-requires c =
     let few = c.requires.few in
     let below = c.loop-i-test.true in
-    let members = c.args.t1.members in
-    each_at no_member SettingsPass c.args.t1.count c.loop-i.i members below (omega (arith, few.most, few.size)) c.requires.passes
+    let members = c.args.handed.members in
+    each_at no_member SettingsPass c.args.handed.count c.loop-i.i members below (omega (arith, few.most, few.size)) c.requires.passes
 
 pub loop-i-preserved : goal.loop-i-preserved
 loop-i-preserved c =
@@ -33,5 +33,5 @@ loop-i-preserved c =
 
 pub returns : goal.returns
 returns c =
-    let all : c.loop-i.i ≡ c.args.t1.count = omega (arith, c.loop-i.invariant.within, c.loop-i-test.false) in
-    c.loop-i.invariant.upto ∙ ap (λ (n : ℕ). heads_upto n c.args.t1) all
+    let all : c.loop-i.i ≡ c.args.handed.count = omega (arith, c.loop-i.invariant.within, c.loop-i-test.false) in
+    c.loop-i.invariant.upto ∙ ap (λ (n : ℕ). heads_upto n c.args.handed) all

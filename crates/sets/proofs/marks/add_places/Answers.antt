@@ -1,11 +1,11 @@
 -- `sets::marks::add_places` meets its contract. The invariant: of the places before n those that are needed at once are marked too, and nothing else.
 use mathlib.Core.Path.{◌≡◌, sym, ◌∙◌, subst}
-use mathlib.Core.Logic.{⊎_elim}
 use Prim.Native.Nat.{ℕ, ◌+◌, ◌-◌}
 use native.Mathlib.Omega.{arith}
 use Rattle.sets.specs.inside.Marking.{PlacesAdded}
 use Rattle.sets.proofs.MarkingLaws.{places_none, places_set, places_skip}
 use Rattle.sets.proofs.marks.add_places.Goals as goal
+use Rattle.sets.proofs.marks.add_places.Goals.{then-is_target, else-is_target}
 
 pub loop-n-init : goal.loop-n-init
 loop-n-init c = record {
@@ -21,13 +21,15 @@ loop-n-preserved c =
     let n = c.loop-n.n in
     record {
       within = omega (arith, below);
-      upto = ⊎_elim
-          (λ came. subst (PlacesAdded a.parity a.top a.limit (n + 1) a.marks.now) (sym came.1)
-          (places_set a.parity a.top a.limit a.marks.now c.loop-n.invariant.upto (omega (arith, below, c.requires.0))
-          (sym is ∙ came.0.taken)))
-          (λ came. subst (PlacesAdded a.parity a.top a.limit (n + 1) a.marks.now) (sym came.1)
-          (places_skip a.parity a.top a.limit a.marks.now c.loop-n.invariant.upto (sym is ∙ came.0.left)))
-          c.if-is_target.either;
+      upto = elim c.if-is_target.branch [
+        | then-is_target w ↦
+            subst (PlacesAdded a.parity a.top a.limit (n + 1) a.marks.now) (sym w.marks-is)
+            (places_set a.parity a.top a.limit a.marks.now c.loop-n.invariant.upto (omega (arith, below, c.requires.0))
+            (sym is ∙ w.if-is_target.true))
+        | else-is_target w ↦
+            subst (PlacesAdded a.parity a.top a.limit (n + 1) a.marks.now) (sym w.marks-is)
+            (places_skip a.parity a.top a.limit a.marks.now c.loop-n.invariant.upto (sym is ∙ w.if-is_target.false))
+      ];
     }
 
 pub returns : goal.returns

@@ -10,13 +10,13 @@ use Rattle.sets.proofs.MarkingLaws.{targets_none, targets_more}
 use Rattle.sets.proofs.marks.common_targets.Goals as goal
 
 pub loop-i-init : goal.loop-i-init
-loop-i-init c = record { within = omega arith; upto = targets_none c.args.t1 }
+loop-i-init c = record { within = omega arith; upto = targets_none c.args.heads }
 
 pub add_targets-requires : goal.add_targets-requires
 add_targets-requires c =
     let below = c.loop-i-test.true in
-    let inside : c.loop-i.i < length c.args.t1 = omega (arith, c.requires.few, c.requires.size) in (
-      each_at any_head HeadFits c.args.count c.loop-i.i c.args.t1 below inside c.requires.each,
+    let inside : c.loop-i.i < length c.args.heads = omega (arith, c.requires.few, c.requires.size) in (
+      each_at any_head HeadFits c.args.count c.loop-i.i c.args.heads below inside c.requires.each,
       c.loop-i.invariant.upto.size,
     )
 
@@ -31,4 +31,4 @@ loop-i-preserved c =
 pub returns : goal.returns
 returns c =
     let all : c.loop-i.i ≡ c.args.count = omega (arith, c.loop-i.invariant.within, c.loop-i-test.false) in
-    subst (λ (n : ℕ). TargetsUpto c.args.t1 n c.loop-i.marks) all c.loop-i.invariant.upto
+    subst (λ (n : ℕ). TargetsUpto c.args.heads n c.loop-i.marks) all c.loop-i.invariant.upto

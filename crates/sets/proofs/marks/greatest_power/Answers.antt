@@ -1,6 +1,5 @@
 -- `sets::marks::greatest_power` meets its contract. The invariant: none of the first i members may need a power above the greatest so far.
 use mathlib.Core.Path.{◌≡◌, ◌∙◌, ap, subst}
-use mathlib.Core.Logic.{⊎_elim}
 use Prim.Native.Nat.{ℕ, ◌-◌, ◌≤◌, ◌<◌}
 use native.Mathlib.Omega.{arith}
 use lib.ListN.{length, get_or, take}
@@ -12,15 +11,15 @@ use Rattle.sets.specs.inside.Heads.{HeadFits, PowersTo}
 use Rattle.sets.proofs.Arrays.{any_head, each_at}
 use Rattle.sets.proofs.MarkingLaws.{powers_none, powers_more}
 use Rattle.sets.proofs.marks.greatest_power.Goals as goal
-use Rattle.sets.proofs.marks.greatest_power.Goals.{After-head-1}
+use Rattle.sets.proofs.marks.greatest_power.Goals.{After-head-1, then-greatest-power, else-greatest-power}
 
 pub loop-i-init : goal.loop-i-init
-loop-i-init c = record { within = omega arith; most = omega arith; upto = powers_none c.args.t1 }
+loop-i-init c = record { within = omega arith; most = omega arith; upto = powers_none c.args.heads }
 
 fits : (c : After-head-1) →
-    HeadFits (get_or c.args.t1 c.loop-i.i any_head)
+    HeadFits (get_or c.args.heads c.loop-i.i any_head)
 fits c =
-    let heads = c.args.t1 in
+    let heads = c.args.heads in
     let i = c.loop-i.i in
     let below = c.loop-i-test.true in
     let inside : i < length heads = omega (arith, c.requires.few, c.requires.size) in
@@ -31,12 +30,12 @@ own_split-requires c = fits (goal.at.own_split-requires c).After-head-1
 
 pub greatest_target-power-requires : goal.greatest_target-power-requires
 greatest_target-power-requires c =
-    let head = get_or c.args.t1 c.loop-i.i any_head in
+    let head = get_or c.args.heads c.loop-i.i any_head in
     planned_at head.strategy head.parity head.basis head.degree (fits (goal.at.greatest_target-power-requires c).After-head-1).degrees c.own_split.ensures
 
 pub loop-i-preserved : goal.loop-i-preserved
 loop-i-preserved c =
-    let heads = c.args.t1 in
+    let heads = c.args.heads in
     let i = c.loop-i.i in
     let head = get_or heads i any_head in
     let below = c.loop-i-test.true in
@@ -44,17 +43,27 @@ loop-i-preserved c =
     let own : c.greatest_target-power.result ≡ greatest_target head.degree (own_split head) =
     c.greatest_target-power.ensures ∙ ap (greatest_target head.degree) c.own_split.ensures in
     let within = greatest_within_lem head.degree (own_split head) (fits (goal.at.loop-i-preserved c).After-head-1).degrees.from in
+    let limit = (fits (goal.at.loop-i-preserved c).After-head-1).degrees.to in
     let grows : c.loop-i.greatest ≤ c.if-greatest-power.greatest =
-    ⊎_elim (λ came. omega (arith, came.0.taken, came.1)) (λ came. omega (arith, came.1)) c.if-greatest-power.either in
+    elim c.if-greatest-power.branch [
+      | then-greatest-power w ↦ omega (arith, w.if-greatest-power.true, w.greatest-is)
+      | else-greatest-power w ↦ omega (arith, w.greatest-is)
+    ] in
     let holds : greatest_target head.degree (own_split head) ≤ c.if-greatest-power.greatest =
-    ⊎_elim (λ came. omega (arith, came.1, own)) (λ came. omega (arith, came.0.left, came.1, own)) c.if-greatest-power.either in
+    elim c.if-greatest-power.branch [
+      | then-greatest-power w ↦ omega (arith, w.greatest-is, own)
+      | else-greatest-power w ↦ omega (arith, w.if-greatest-power.false, w.greatest-is, own)
+    ] in
     record {
       within = omega (arith, below);
-      most = ⊎_elim (λ came. omega (arith, came.1, own, within, (fits (goal.at.loop-i-preserved c).After-head-1).degrees.to)) (λ came. omega (arith, came.1, c.loop-i.invariant.most)) c.if-greatest-power.either;
+      most = elim c.if-greatest-power.branch [
+        | then-greatest-power w ↦ omega (arith, w.greatest-is, own, within, limit)
+        | else-greatest-power w ↦ omega (arith, w.greatest-is, c.loop-i.invariant.most)
+      ];
       upto = powers_more heads i inside c.loop-i.invariant.upto grows holds;
     }
 
 pub returns : goal.returns
 returns c =
     let all : c.loop-i.i ≡ c.args.count = omega (arith, c.loop-i.invariant.within, c.loop-i-test.false) in
-    (subst (λ (n : ℕ). PowersTo c.loop-i.greatest (take n c.args.t1)) all c.loop-i.invariant.upto, c.loop-i.invariant.most)
+    (subst (λ (n : ℕ). PowersTo c.loop-i.greatest (take n c.args.heads)) all c.loop-i.invariant.upto, c.loop-i.invariant.most)

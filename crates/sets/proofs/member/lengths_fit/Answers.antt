@@ -13,20 +13,20 @@ use Rattle.sets.proofs.MemberLaws.{from_start, members_from, count_next, count_e
 use Rattle.sets.proofs.member.lengths_fit.Goals as goal
 
 pub loop-i-init : goal.loop-i-init
-loop-i-init c = (omega arith, ap (λ (l : List Member). ltb c.args.slice (handed_count l)) (from_start c.args.t1))
+loop-i-init c = (omega arith, ap (λ (l : List Member). ltb c.args.slice (handed_count l)) (from_start c.args.handed))
 
 pub returns-then-left-count : goal.returns-then-left-count
-returns-then-left-count c = let handed = c.args.t1 in
+returns-then-left-count c = let handed = c.args.handed in
     let next = count_next c.requires c.loop-i.i c.loop-i-test.true in
     let short = c.if-left-count.true in
     sym (ap not (c.loop-i.invariant.1 ∙ lt-ltb c.loop-i.left (handed_count (members_from c.loop-i.i handed)) (omega arith)))
 
 pub loop-i-preserved : goal.loop-i-preserved
-loop-i-preserved c = let handed = c.args.t1 in
+loop-i-preserved c = let handed = c.args.handed in
     let next = count_next c.requires c.loop-i.i c.loop-i-test.true in
     (omega arith, c.loop-i.invariant.1 ∙ ap (ltb c.loop-i.left) next ∙ less_both c.loop-i.left _ _ c.if-left-count.false)
 
 pub returns : goal.returns
-returns c = let handed = c.args.t1 in
+returns c = let handed = c.args.handed in
     let none = count_end handed c.loop-i.i (omega arith) in
     sym (ap not (c.loop-i.invariant.1 ∙ le-ltb c.loop-i.left (handed_count (members_from c.loop-i.i handed)) (omega (arith, none))))

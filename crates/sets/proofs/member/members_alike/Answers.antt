@@ -3,7 +3,6 @@ use mathlib.Core.Path.{sym, ◌∙◌, ap}
 use mathlib.Core.Bool.{◌&&◌}
 use Prim.Native.Nat.{◌+◌, ◌-◌}
 use native.Mathlib.Omega.{arith}
-use borrow.Author.Tests.{not-true, not-false}
 use lib.ListN.{get_or}
 use Rattle.sets.specs.Members.{alike_to}
 use Rattle.sets.proofs.Arrays.{no_member}
@@ -14,20 +13,20 @@ pub loop-i-init : goal.loop-i-init
 loop-i-init c = (omega arith, c.requires.1, alike_start c.requires.0 c.requires.1)
 
 pub returns-then-not-member_alike : goal.returns-then-not-member_alike
-returns-then-not-member_alike c = let handed = c.args.t1 in
+returns-then-not-member_alike c = let handed = c.args.handed in
     let first = get_or handed.members 0 no_member in
     sym (c.loop-i.invariant.2 ∙ alike_next c.requires.0 first c.loop-i.i c.loop-i-test.true
-    ∙ ap (◌&& alike_to first (members_from (c.loop-i.i + 1) handed)) (sym c.member_alike.ensures ∙ not-true _ c.if-not-member_alike.true-raw))
+    ∙ ap (◌&& alike_to first (members_from (c.loop-i.i + 1) handed)) (sym c.member_alike.ensures ∙ c.if-not-member_alike.true))
 
 pub loop-i-preserved : goal.loop-i-preserved
-loop-i-preserved c = let handed = c.args.t1 in
+loop-i-preserved c = let handed = c.args.handed in
     let first = get_or handed.members 0 no_member in (
       omega arith,
       omega arith,
       c.loop-i.invariant.2 ∙ alike_next c.requires.0 first c.loop-i.i c.loop-i-test.true
-          ∙ ap (◌&& alike_to first (members_from (c.loop-i.i + 1) handed)) (sym c.member_alike.ensures ∙ not-false _ c.if-not-member_alike.false-raw),
+          ∙ ap (◌&& alike_to first (members_from (c.loop-i.i + 1) handed)) (sym c.member_alike.ensures ∙ c.if-not-member_alike.false),
     )
 
 pub returns : goal.returns
-returns c = let handed = c.args.t1 in
+returns c = let handed = c.args.handed in
     sym (c.loop-i.invariant.2 ∙ alike_end (get_or handed.members 0 no_member) handed c.loop-i.i (omega arith))

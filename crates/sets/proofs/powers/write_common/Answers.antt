@@ -11,7 +11,7 @@ use Rattle.sets.proofs.powers.write_common.Goals.{After-slice_known-in-loop-step
 
 pub loop-step-init : goal.loop-step-init
 loop-step-init c =
-    record { within = omega arith; same = refl; upto = upto_none c.args.t1 c.args.steps.now }
+    record { within = omega arith; same = refl; upto = upto_none c.args.marks c.args.steps.now }
 
 pub bounds-marks-n : goal.bounds-marks-n
 bounds-marks-n c =

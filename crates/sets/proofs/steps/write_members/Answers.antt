@@ -9,7 +9,7 @@ use Rattle.sets.proofs.steps.write_members.Goals as goal
 
 pub loop-i-init : goal.loop-i-init
 loop-i-init c =
-    record { within = omega arith; same = refl; upto = members_none c.args.t1 c.args.step c.args.steps.now }
+    record { within = omega arith; same = refl; upto = members_none c.args.heads c.args.step c.args.steps.now }
 
 pub write_own-next-requires : goal.write_own-next-requires
 write_own-next-requires c =
@@ -18,7 +18,7 @@ write_own-next-requires c =
 pub loop-i-preserved : goal.loop-i-preserved
 loop-i-preserved c =
     let fit = c.requires.heads_fit in
-    let inside : c.loop-i.i < length c.args.t1 = omega (arith, c.loop-i-test.true, fit.few, fit.size) in
+    let inside : c.loop-i.i < length c.args.heads = omega (arith, c.loop-i-test.true, fit.few, fit.size) in
     record {
       within = omega arith;
       same = c.write_own-next.auto.steps ∙ c.loop-i.invariant.same;
@@ -28,5 +28,5 @@ loop-i-preserved c =
 pub returns : goal.returns
 returns c =
     let all : c.loop-i.i ≡ c.args.count = omega (arith, c.loop-i.invariant.within, c.loop-i-test.false) in
-    subst (λ (n : ℕ). MembersPut c.args.t1 n c.args.step c.args.steps.now c.loop-i.next c.loop-i.steps) all
+    subst (λ (n : ℕ). MembersPut c.args.heads n c.args.step c.args.steps.now c.loop-i.next c.loop-i.steps) all
     c.loop-i.invariant.upto
