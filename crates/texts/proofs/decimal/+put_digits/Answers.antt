@@ -24,12 +24,8 @@ digit-requires t c = mod-lt c.args.n (lit< tt)
 
 pub put-requires : goal.put-requires
 put-requires t c =
-    let test = (goal.at.put-requires c).After-put_digits-next .before .before in
-    let long = digits_length test.before.before.args.n test.if1.false in
-    omega (arith, (goal.at.put-requires c).After-put_digits-next .put_digits .ensures .next)
+    let long = digits_length c.args.n c.if-n-eq0.false in
+    omega (arith, c.put_digits-next.ensures.next)
 
 pub returns : goal.returns
-returns t c =
-    let test = (goal.at.returns c).After-put_digits-next .before .before in
-    digits_then test.before.before.args.n c.digit.result test.if1.false ((goal.at.returns c).After-put_digits-next .put_digits .ensures) c.digit.ensures
-    c.put.ensures
+returns t c = digits_then c.args.n c.digit.result c.if-n-eq0.false c.put_digits-next.ensures c.digit.ensures c.put.ensures
