@@ -2,7 +2,6 @@
 -- one, with nothing written. With all of them passed the letters say the settings, and the fields behind them are filled in.
 use mathlib.Core.Path.{◌≡◌, sym, ◌∙◌}
 use mathlib.Core.Bool.{true}
-use borrow.Author.Tests.{not-true, not-false}
 use Rattle.lines.specs.Line.{are_settings, are_whole}
 use Rattle.lines.specs.inside.FieldsFrom.{fields_from}
 use Rattle.lines.proofs.LineLaws.{too_long, no_settings, not_whole_lem, answered}
@@ -11,10 +10,10 @@ use Rattle.lines.proofs.read.read_line.Goals.{Else-not-are_settings, Else-not-ar
 
 -- where they are settings, and where whole numbers follow
 settings : (c : Else-not-are_settings) → let o = c.take_opening-opening.result in are_settings o.basis o.parity o.strategy o.fold ≡ true
-settings c = sym c.are_settings.ensures ∙ not-false c.are_settings.result c.if-not-are_settings.false-raw
+settings c = sym c.are_settings.ensures ∙ c.if-not-are_settings.false
 
 whole : (c : Else-not-are_whole) → are_whole (fields_from c.take_opening-opening.result.next c.args.line.now) ≡ true
-whole c = sym c.are_whole.ensures ∙ not-false c.are_whole.result c.if-not-are_whole.false-raw
+whole c = sym c.are_whole.ensures ∙ c.if-not-are_whole.false
 
 pub returns-then-line-gt-LINE_LIMIT : goal.returns-then-line-gt-LINE_LIMIT
 returns-then-line-gt-LINE_LIMIT c =
@@ -23,17 +22,13 @@ returns-then-line-gt-LINE_LIMIT c =
 pub returns-then-not-are_settings : goal.returns-then-not-are_settings
 returns-then-not-are_settings c =
     no_settings c.args.line.now c.args.coefficients.now c.take_opening-opening.result c.if-line-gt-LINE_LIMIT.false c.take_opening-opening.ensures
-    (sym c.are_settings.ensures ∙ not-true c.are_settings.result c.if-not-are_settings.true-raw) c.no_line-then-not-are_settings.ensures
+    (sym c.are_settings.ensures ∙ c.if-not-are_settings.true) c.no_line-then-not-are_settings.ensures
 
 pub returns-then-not-are_whole : goal.returns-then-not-are_whole
 returns-then-not-are_whole c =
     not_whole_lem c.args.line.now c.args.coefficients.now c.take_opening-opening.result c.if-line-gt-LINE_LIMIT.false c.take_opening-opening.ensures
-    (settings (goal.at.returns-then-not-are_whole c).Else-not-are_settings) (sym c.are_whole.ensures ∙ not-true c.are_whole.result c.if-not-are_whole.true-raw)
+    (settings (goal.at.returns-then-not-are_whole c).Else-not-are_settings) (sym c.are_whole.ensures ∙ c.if-not-are_whole.true)
     c.no_line-then-not-are_whole.ensures
-
-pub fill_values-count-requires : goal.fill_values-count-requires
-fill_values-count-requires c =
-    record { few = c.if-line-gt-LINE_LIMIT.false; whole = whole (goal.at.fill_values-count-requires c).Else-not-are_whole }
 
 pub returns : goal.returns
 returns c =

@@ -1,10 +1,7 @@
 -- `texts::decimal::put_digits` meets its contract. The call for a tenth of the number puts all digits but the last, and the last is put behind them.
 -- The number falls at each call.
 use mathlib.Core.Path.{sym}
-use Prim.Native.Nat.{◌<◌}
-use native.Mathlib.Nat.{mod-lt}
 use native.Mathlib.Omega.{arith}
-use lib.Dec.{lit<}
 use Rattle.texts.proofs.PutLaws.{put_none, put_same}
 use Rattle.texts.proofs.DecimalLaws.{no_digits, tenth_less, digits_length, digits_then}
 use Rattle.texts.proofs.decimal.+put_digits.Goals as goal
@@ -18,9 +15,6 @@ put_digits-next-requires t c =
     let less = tenth_less n c.if-n-eq0.false in
     let long = digits_length n c.if-n-eq0.false in
     (omega arith, omega arith)
-
-pub digit-requires : goal.digit-requires
-digit-requires t c = mod-lt c.args.n (lit< tt)
 
 pub put-requires : goal.put-requires
 put-requires t c =
