@@ -1,4 +1,4 @@
--- The part of a list between two places, as far as the list has them: the machine cuts both places down to the length first.
+-- The first places of a list, as far as the list has them.
 use mathlib.Core.Path.{◌≡◌, refl, ap, sym, ◌∙◌}
 use mathlib.Core.List.{List, [], ◌∷◌}
 use Prim.Native.Nat.{ℕ, zero, suc, ◌-◌, min}
