@@ -1,12 +1,11 @@
 -- Laws of a line's form: the letters, a field taken, and the fields behind it.
-use mathlib.Core.Path.{◌≡◌, refl, ap, sym, ◌∙◌}
+use mathlib.Core.Path.{◌≡◌, ap, sym, ◌∙◌}
 use mathlib.Core.Bool.{true, false, ◌&&◌}
-use mathlib.Core.List.{List, [], ◌∷◌, map}
+use mathlib.Core.List.{List, ◌∷◌, map}
 use Prim.Native.Nat.{ℕ, suc, ◌+◌, ◌-◌, ◌<◌, ◌≤◌}
 use native.Mathlib.Numerals.{add-one}
-use native.Mathlib.Omega.{arith}
 use lib.IntN.{ℤ}
-use lib.ListN.{length, get_or, take, drop, set}
+use lib.ListN.{length, take, drop, set}
 use lib.Seq.{sets}
 use Rattle.lines.specs.Fields.{first}
 use Rattle.lines.specs.Whole.{is_whole, value_of}
@@ -34,17 +33,6 @@ module _ (b p s f : ℕ) where
   pub by_fold : is_letter bases b ≡ true → is_letter parities p ≡ true → is_letter strategies s ≡ true → is_letter folds f ≡ are_settings b p s f
   unfolding are_settings
   by_fold e g h = rw (e, g, h)
-
--- a field of one byte, and any other
-pub one_byte : (f : List ℕ) → length f ≡ 1 → get_or f 0 0 ≡ only_byte f
-one_byte [] e = refl
-one_byte (b ∷ []) e = refl
-one_byte (b ∷ d ∷ bs) e = absurd (omega arith)
-
-pub other_bytes : (f : List ℕ) → (length f ≡ 1 → ⊥) → 0 ≡ only_byte f
-other_bytes [] e = refl
-other_bytes (b ∷ []) e = absurd (e refl)
-other_bytes (b ∷ d ∷ bs) e = refl
 
 -- behind the end there is no letter, and no field
 pub taken_past : (line : List ℕ) (at : ℕ) → length line < at → Taken line at (record { byte = 0; next = at })

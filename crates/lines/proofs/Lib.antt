@@ -1,4 +1,3 @@
-mod LetterLaws
 mod FieldLaws
 mod WholeLaws
 mod FormLaws

@@ -3,18 +3,15 @@ use mathlib.Core.Path.{◌≡◌, refl, ap, sym, ◌∙◌}
 use mathlib.Core.List.{List, [], ◌∷◌, ◌++◌, map}
 use Prim.Native.Nat.{ℕ, zero, suc, ◌+◌, ◌-◌, ◌/◌, ◌<◌, ◌≤◌, min}
 use native.Mathlib.Omega.{arith}
-use borrow.Author.Tests.{eq-eqb, ne_eqb}
 use lib.IntN.{ℤ}
-use lib.ListN.{length, get_or, take, drop, length-append, length-take, get_or-append, get_or-eq_default}
+use lib.ListN.{length, get_or, length-append, length-take, get_or-append, get_or-eq_default}
 use lib.Seq.{get_or-take}
 use Rattle.algebra.proofs.Lists.{get_d_right}
-use Rattle.algebra.specs.EnumNumbers.{transform_number}
-use Rattle.walk.specs.Boundaries.{start_of, end_of, part_of}
+use Rattle.walk.specs.Boundaries.{part_of}
 use Rattle.walk.specs.Lent.{step_at, steps_from, lent_steps}
 use Rattle.walk.specs.declared.plan.Head.{Head}
 use Rattle.walk.specs.declared.plan.Step.{Step}
-use Rattle.lines.specs.Bytes.{letter_b, letter_g, letter_h, letter_p, letter_q}
-use Rattle.texts.specs.Text.{numbers_line, list_line}
+use Rattle.texts.specs.Text.{list_line}
 use Rattle.texts.specs.PlanText.{head_line, step_line, lines_of, parts_from, lists_in, shown_steps}
 
 -- ---- the lists and the steps, one for each number
@@ -51,10 +48,6 @@ module _ {A : Type 0} (line : A → List ℕ) where
   map_at [] d i h = absurd (omega arith)
   map_at (x ∷ xs) d zero h = refl
   map_at (x ∷ xs) d (suc i) h = map_at xs d i (omega arith)
-
--- where a list starts that is not the first
-pub start_first : (bounds : List ℕ) (i : ℕ) → i ≡ 0 → 0 ≡ start_of bounds i
-start_first bounds i e = rw e
 
 -- a line that is neither the head's nor a list's
 pub behind_lists : (k lists : ℕ) → (k ≡ 0 → ⊥) → lists ≤ k - 1 → k ≡ suc (lists + (k - 1 - lists))
@@ -118,32 +111,3 @@ module _ (head : Head) (c : List ℤ) (bounds steps : List ℕ) where
         steps_behind j e
         ∙ get_or-eq_default (map step_line (shown_steps head steps)) []
         (omega (arith, map_length step_line (shown_steps head steps), shown_length head steps))
-
--- ---- a step's line by its kind
-
-module _ (kind x y z : ℕ) where
-  abbrev here : Step
-  here = record { kind = kind; x = x; y = y; z = z }
-
-  pub make_line : kind ≡ 1 → numbers_line letter_p (x ∷ y ∷ z ∷ []) ≡ step_line here
-  make_line e = rw (eq-eqb kind 1 e)
-
-  pub load_line : (kind ≡ 1 → ⊥) → kind ≡ 2 → numbers_line letter_b (x ∷ []) ≡ step_line here
-  load_line e f = rw (ne_eqb kind 1 e, eq-eqb kind 2 f)
-
-  pub combine_line : (kind ≡ 1 → ⊥) → (kind ≡ 2 → ⊥) → kind ≡ 3 → numbers_line letter_g (x ∷ []) ≡ step_line here
-  combine_line e f g = rw (ne_eqb kind 1 e, ne_eqb kind 2 f, eq-eqb kind 3 g)
-
-  pub plain_line : (kind ≡ 1 → ⊥) → (kind ≡ 2 → ⊥) → (kind ≡ 3 → ⊥) → numbers_line letter_q (x ∷ []) ≡ step_line here
-  plain_line e f g = rw (ne_eqb kind 1 e, ne_eqb kind 2 f, ne_eqb kind 3 g)
-
--- ---- what is found of a list and of the head, as the code finds it
-
-pub part_line : (c : List ℤ) (bounds : List ℕ) (i s : ℕ) {part : List ℤ} → s ≡ start_of bounds i → part ≡ take (end_of bounds i - s) (drop s c)
-    → list_line part ≡ list_line (part_of c bounds i)
-part_line c bounds i s e f = ap list_line (f ∙ ap (λ (n : ℕ). take (end_of bounds i - n) (drop n c)) e)
-
-pub head_shown : (head : Head) (n : ℕ) → n ≡ transform_number head.transform
-    → numbers_line letter_h (head.degree ∷ head.base ∷ n ∷ head.ct ∷ head.pt ∷ head.depth ∷ []) ≡ head_line head
-head_shown head n e =
-    ap (λ (k : ℕ). numbers_line letter_h (head.degree ∷ head.base ∷ k ∷ head.ct ∷ head.pt ∷ head.depth ∷ [])) e

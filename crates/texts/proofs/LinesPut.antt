@@ -1,18 +1,14 @@
 -- Lines put one after another: the next one goes behind those that are put, none begins behind the end of the whole text, and in the end all are put.
 use mathlib.Core.Path.{◌≡◌, refl, ap, sym, ◌∙◌}
 use mathlib.Core.List.{List, [], ◌∷◌, ◌++◌, append_assoc, append-nil}
-use Prim.Native.Nat.{ℕ, zero, suc, ◌+◌, ◌-◌, ◌<◌, ◌≤◌, ◌^◌}
+use Prim.Native.Nat.{ℕ, zero, suc, ◌+◌, ◌<◌, ◌≤◌, ◌^◌}
 use native.Mathlib.Numerals.{add-one}
 use native.Mathlib.Omega.{arith}
-use lib.IntN.{ℤ}
-use lib.ListN.{length, get_or, take, drop, length-append}
+use lib.ListN.{length, get_or, take, length-append}
 use lib.Seq.{take_all}
 use Rattle.lists.specs.Lists.{joined}
-use Rattle.walk.specs.declared.plan.Head.{Head}
-use Rattle.texts.specs.PlanText.{lines_of, lists_in, shown_steps, plan_text}
 use Rattle.texts.specs.Put.{Put}
 use Rattle.texts.proofs.PutLaws.{put_none, put_then, put_same}
-use Rattle.texts.proofs.PartLaws.{from_first}
 
 -- the lines before line n, and line n behind them
 joined_more : (n : ℕ) (ts : List (List ℕ)) → joined (take n ts) ++ get_or ts n [] ≡ joined (take (suc n) ts)
@@ -45,18 +41,3 @@ module _ (lines : List (List ℕ)) (from k : ℕ) {first out : List ℕ} {at : �
 
   pub lines_end : length lines ≤ k → Put first from (joined lines) out at
   lines_end past = put_same put (ap joined (take_all k lines past))
-
--- ---- the buffers cut down to what the head counts have the plan's lines
-
-module _ (head : Head) (coefficients c : List ℤ) (bounds listed steps : List ℕ)
-    (e : c ≡ take (head.coefficients - 0) (drop 0 coefficients)) (f : listed ≡ take head.lists bounds) where
-  same_text : joined (lines_of head (lists_in c listed) (shown_steps head steps)) ≡ plan_text head coefficients bounds steps
-  same_text = rw (e ∙ from_first coefficients head.coefficients, f)
-
-  pub plan_ends : (at : ℕ) → at + length (plan_text head coefficients bounds steps) < 2 ^ 63
-      → at + length (joined (lines_of head (lists_in c listed) (shown_steps head steps))) < 2 ^ 63
-  plan_ends at h = omega (arith, ap (λ (t : List ℕ). length t) same_text)
-
-  pub plan_put : {out left : List ℕ} {at r : ℕ} → Put out at (joined (lines_of head (lists_in c listed) (shown_steps head steps))) left r
-      → Put out at (plan_text head coefficients bounds steps) left r
-  plan_put put = put_same put same_text

@@ -47,9 +47,6 @@ pub record FieldsSoFar {A : Type 0} (text : A → List ℕ) (xs : List A) (from 
   pub place : at + length (rest_of text xs i) ≡ from + length (fields_text (map text xs))
 
 module _ {A : Type 0} (text : A → List ℕ) (xs : List A) (from : ℕ) where
-  pub fields_start : (out : List ℕ) → FieldsSoFar text xs from out out from 0
-  fields_start out = record { within = omega arith; long = refl; written = refl; place = refl }
-
   module _ {first out : List ℕ} {at i : ℕ} (done : FieldsSoFar text xs from first out at i) where
     -- the next field ends where the whole does, or before
     pub field_ends : (d : A) → i < length xs → EndsIn64Bits from (fields_text (map text xs)) → EndsIn64Bits at (tab ∷ text (get_or xs i d))

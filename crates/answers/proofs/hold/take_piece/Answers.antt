@@ -4,8 +4,8 @@ use Rattle.answers.proofs.hold.take_piece.Goals as goal
 
 pub returns-then-end-block : goal.returns-then-end-block
 returns-then-end-block c =
-    piece_whole c.feed_from-end.ensures c.hold-now_held.ensures c.requires.1.1 c.if-end-block.true
+    piece_whole c.feed_from-end.ensures c.hold-now_held.ensures c.requires.line_len c.if-end-block.true
 
 pub returns : goal.returns
 returns c =
-    piece_rest c.feed_from-end.ensures c.hold-now_held.ensures c.requires.1.1 c.if-end-block.false
+    piece_rest c.feed_from-end.ensures c.hold-now_held.ensures c.requires.line_len c.if-end-block.false

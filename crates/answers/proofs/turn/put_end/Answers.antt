@@ -15,10 +15,10 @@ returns-then-held-eq0 c =
     put_same (put_none a.out.now 0) (sym end_none ∙ ap (λ (n : ℕ). end_text (take n a.line.now)) (sym c.if-held-eq0.true))
 
 pub slice_bounds-put_answer-end : goal.slice_bounds-put_answer-end
-slice_bounds-put_answer-end c = sym (length-take-le _ _ c.requires.1)
+slice_bounds-put_answer-end c = sym (length-take-le _ _ c.requires.held_in_bounds)
 
 pub returns : goal.returns
 returns c =
     let a = c.args in
     put_same c.put_answer.ensures
-    (sym (end_some (take a.held a.line.now) (omega (arith, length-take-le a.held a.line.now c.requires.1, c.if-held-eq0.false))))
+    (sym (end_some (take a.held a.line.now) (omega (arith, length-take-le a.held a.line.now c.requires.held_in_bounds, c.if-held-eq0.false))))

@@ -12,7 +12,7 @@ returns-then-not-piece c =
     put_same (put_none a.out.now a.at) (sym (piece_unended a.piece a.line.now (not-true a.piece.whole c.if-not-piece.true)))
 
 pub slice_bounds-put_answer-end : goal.slice_bounds-put_answer-end
-slice_bounds-put_answer-end c = sym (length-take-le _ _ c.requires.1)
+slice_bounds-put_answer-end c = sym (length-take-le _ _ c.requires.held_in_bounds)
 
 pub returns : goal.returns
 returns c =

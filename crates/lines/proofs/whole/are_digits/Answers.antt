@@ -1,25 +1,20 @@
 -- `lines::whole::are_digits` meets its contract: while only digits have been passed, the bytes from here on are digits exactly if all are. So the
 -- first byte that is none decides, and so does the end.
-use mathlib.Core.Path.{refl, sym, ◌∙◌}
-use Prim.Native.Nat.{◌-◌}
+use mathlib.Core.Path.{sym, ◌∙◌}
 use native.Mathlib.Omega.{arith}
-use borrow.Author.Tests.{not-true, not-false}
 use Rattle.lines.proofs.WholeLaws.{digits_at, digits_end}
 use Rattle.lines.proofs.whole.are_digits.Goals as goal
-
-pub loop-i-init : goal.loop-i-init
-loop-i-init c = refl
 
 pub returns-then-not-is_digit : goal.returns-then-not-is_digit
 returns-then-not-is_digit c =
     let loop = c.loop-i in
-    let other = sym c.is_digit.ensures ∙ not-true c.is_digit.result c.if-not-is_digit.true-raw in
+    let other = sym c.is_digit.ensures ∙ c.if-not-is_digit.true in
     sym (sym loop.invariant ∙ digits_at c.args.field.now loop.i (omega arith) ∙ rw other)
 
 pub loop-i-preserved : goal.loop-i-preserved
 loop-i-preserved c =
     let loop = c.loop-i in
-    let digit = sym c.is_digit.ensures ∙ not-false c.is_digit.result c.if-not-is_digit.false-raw in
+    let digit = sym c.is_digit.ensures ∙ c.if-not-is_digit.false in
     sym (digits_at c.args.field.now loop.i (omega arith) ∙ rw digit) ∙ loop.invariant
 
 pub returns : goal.returns

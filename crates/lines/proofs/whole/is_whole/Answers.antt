@@ -1,10 +1,7 @@
 -- `lines::whole::is_whole` meets its contract: behind the minus, if there is one, there must be a number.
 use mathlib.Core.Path.{◌∙◌}
-use Rattle.lines.proofs.WholeLaws.{sign_within, whole_is}
+use Rattle.lines.proofs.WholeLaws.{whole_is}
 use Rattle.lines.proofs.whole.is_whole.Goals as goal
-
-pub is_number-requires : goal.is_number-requires
-is_number-requires c = sign_within c.args.field.now c.is_minus.ensures c.sign_length-from.ensures
 
 pub returns : goal.returns
 returns c =

@@ -2,12 +2,10 @@
 -- which fits 64 bits.
 use mathlib.Core.Path.{refl, sym}
 use mathlib.Core.List.{[], ◌∷◌}
-use native.Mathlib.Omega.{arith}
 use lib.IntN.{nat_abs}
-use Rattle.number.proofs.Signed.{nonnegative}
 use Rattle.lines.specs.Bytes.{minus}
 use Rattle.texts.specs.Decimal.{decimal}
-use Rattle.texts.proofs.DecimalLaws.{read, magnitude_most, below_text, above_text}
+use Rattle.texts.proofs.DecimalLaws.{read, below_text, above_text}
 use Rattle.texts.proofs.PutLaws.{put_same, put_then, ends_same, ends_first, ends_second}
 use Rattle.texts.proofs.decimal.put_signed.Goals as goal
 
@@ -30,12 +28,6 @@ pub returns-then-z-lt0 : goal.returns-then-z-lt0
 returns-then-z-lt0 c =
     put_same (put_then c.put-next.ensures c.put_number.ensures)
     (below_text c.args.z c.ranges.z c.magnitude_of.result c.if-z-lt0.true c.magnitude_of.ensures)
-
-pub overflow_cast-z : goal.overflow_cast-z
-overflow_cast-z c = (
-  nonnegative {z = read c.args.z} refl c.if-z-lt0.false,
-  record { fits = omega (arith, magnitude_most c.args.z c.ranges.z) },
-)
 
 pub put_number-requires-2 : goal.put_number-requires-2
 put_number-requires-2 c =

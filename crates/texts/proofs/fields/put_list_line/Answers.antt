@@ -1,19 +1,11 @@
 -- `texts::fields::put_list_line` meets its contract. The letter, the fields and the line feed are put one behind another, and the fields take at most
 -- 22 bytes a number, so the line ends within 64 bits.
 use mathlib.Core.List.{map}
-use native.Mathlib.Omega.{arith}
 use Rattle.lines.specs.Bytes.{letter_l}
 use Rattle.texts.specs.Decimal.{signed_decimal}
 use Rattle.texts.proofs.PutLaws.{put_then, put_same}
 use Rattle.texts.proofs.TextLaws.{line_parts}
 use Rattle.texts.proofs.fields.put_list_line.Goals as goal
-
-pub put_signed_fields-behind-requires : goal.put_signed_fields-behind-requires
-put_signed_fields-behind-requires c = omega (arith, c.put-start.ensures.next)
-
-pub put-requires : goal.put-requires
-put-requires c =
-    omega (arith, c.put-start.ensures.next, c.put_signed_fields-behind.ensures.1)
 
 pub returns : goal.returns
 returns c =

@@ -1,12 +1,8 @@
 -- `texts::fields::put_number_fields` meets its contract. The loop's invariant: the first i numbers are put, and what the others put behind them makes
 -- up the whole, so no field ends behind it.
-use Prim.Native.Nat.{◌-◌}
 use Rattle.texts.specs.Decimal.{decimal}
-use Rattle.texts.proofs.TextLaws.{fields_start, field_ends, fields_more, fields_end}
+use Rattle.texts.proofs.TextLaws.{field_ends, fields_more, fields_end}
 use Rattle.texts.proofs.fields.put_number_fields.Goals as goal
-
-pub loop-i-init : goal.loop-i-init
-loop-i-init c = fields_start decimal _ _ _
 
 pub put_number_field-at-requires : goal.put_number_field-at-requires
 put_number_field-at-requires c =

@@ -12,13 +12,13 @@ use Rattle.texts.proofs.fields.put_numbers_line.Goals as goal
 pub put_number_fields-end-requires : goal.put_number_fields-end-requires
 put_number_fields-end-requires c =
     let ns = c.args.ns.now in
-    let few = fields_few decimal 20 0 ns (λ i h. decimal_few 19 (get_or ns i 0) (omega (arith, c.shared_slice_known-1.given i))) in
+    let few = fields_few decimal 20 0 ns (λ i h. decimal_few 19 (get_or ns i 0) (omega (arith, c.type_inv.ns i))) in
     omega (arith, c.put-start.ensures.next)
 
 pub put-requires : goal.put-requires
 put-requires c =
     let ns = c.args.ns.now in
-    let few = fields_few decimal 20 0 ns (λ i h. decimal_few 19 (get_or ns i 0) (omega (arith, c.shared_slice_known-1.given i))) in
+    let few = fields_few decimal 20 0 ns (λ i h. decimal_few 19 (get_or ns i 0) (omega (arith, c.type_inv.ns i))) in
     omega (arith, c.put-start.ensures.next, c.put_number_fields-end.ensures.next)
 
 pub returns : goal.returns

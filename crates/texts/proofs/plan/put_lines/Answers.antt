@@ -1,10 +1,8 @@
 -- `texts::plan::put_lines` meets its contract. The loop's invariant: the lines before line k are put, and end at `at`, which is not behind the end of
 -- the whole text. Each turn puts the next, and the count is that of the lines.
-use Prim.Native.Nat.{◌-◌}
 use native.Mathlib.Omega.{arith}
 use Rattle.texts.proofs.LineLaws.{lines_length}
 use Rattle.texts.proofs.LinesPut.{lines_start, line_begins, lines_more, lines_end}
-use Rattle.texts.proofs.PutLaws.{put_length}
 use Rattle.texts.proofs.plan.put_lines.Goals as goal
 
 pub loop-k-init : goal.loop-k-init
@@ -17,9 +15,6 @@ put_line-at-requires c =
 pub loop-k-preserved : goal.loop-k-preserved
 loop-k-preserved c =
     lines_more _ _ c.loop-k.k c.loop-k.invariant c.put_line-at.ensures
-
-pub shape_of-out : goal.shape_of-out
-shape_of-out c = put_length c.loop-k.invariant
 
 pub returns : goal.returns
 returns c =
