@@ -1,4 +1,5 @@
 -- `flat::kinds::knows_all` meets its contract. An unknown strategy makes it false, and a known one leaves it to parity and basis.
+use Rattle.flat.specs.Kinds.{knows_all}
 use Rattle.flat.proofs.Known.{unknown, known}
 use Rattle.flat.proofs.kinds.knows_all.Goals as goal
 

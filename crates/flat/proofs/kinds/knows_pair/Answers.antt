@@ -1,4 +1,5 @@
 -- `flat::kinds::knows_pair` meets its contract. An unknown parity makes it false, and a known one leaves it to the basis.
+use Rattle.flat.specs.Kinds.{knows_pair}
 use Rattle.flat.proofs.Known.{unknown, known}
 use Rattle.flat.proofs.kinds.knows_pair.Goals as goal
 

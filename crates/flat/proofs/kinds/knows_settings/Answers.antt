@@ -1,4 +1,5 @@
 -- `flat::kinds::knows_settings` meets its contract. An unknown fold makes it false, and a known one leaves it to the three kinds.
+use Rattle.flat.specs.Kinds.{knows_settings}
 use Rattle.flat.proofs.Known.{unknown, known}
 use Rattle.flat.proofs.kinds.knows_settings.Goals as goal
 

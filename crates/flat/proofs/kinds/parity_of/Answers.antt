@@ -1,5 +1,6 @@
 -- `flat::kinds::parity_of` meets its contract. 0, 1 and any other number are the first, the second and the third parity, as the tests found.
 use borrow.Author.Tests.{eq-eqb, ne_eqb}
+use Rattle.flat.specs.Kinds.{parity_numbered}
 use Rattle.flat.proofs.kinds.parity_of.Goals as goal
 
 pub returns-then-n-eq0 : goal.returns-then-n-eq0

@@ -1,5 +1,6 @@
 -- `flat::kinds::strategy_of` meets its contract. 0 is the first strategy, and every other number the second, as the test found.
 use borrow.Author.Tests.{eq-eqb, ne_eqb}
+use Rattle.flat.specs.Kinds.{strategy_numbered}
 use Rattle.flat.proofs.kinds.strategy_of.Goals as goal
 
 pub returns-then-n-eq0 : goal.returns-then-n-eq0

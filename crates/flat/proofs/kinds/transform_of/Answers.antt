@@ -1,5 +1,6 @@
 -- `flat::kinds::transform_of` meets its contract. 0 to 3 and any other number are the five transforms in their order, as the tests found.
 use borrow.Author.Tests.{eq-eqb, ne_eqb}
+use Rattle.flat.specs.Kinds.{transform_numbered}
 use Rattle.flat.proofs.kinds.transform_of.Goals as goal
 
 pub returns-then-n-eq0 : goal.returns-then-n-eq0
