@@ -34,7 +34,14 @@ unfolding lowered
 sum_abs_lowered p c =
     let near = reverse (take p c) in
     let far = drop (suc p) c in
-    omega (arith, sum_abs_reverse (differences whole_ops near far), sum_abs_differences near far, sum_abs_reverse (take p c), sum_abs_tail p c, sum_abs_parts p c)
+    omega (
+      arith,
+      sum_abs_reverse (differences whole_ops near far),
+      sum_abs_differences near far,
+      sum_abs_reverse (take p c),
+      sum_abs_tail p c,
+      sum_abs_parts p c,
+    )
 
 module _ (p : ℕ) (c : List ℤ) (under : p ≤ length c) where
   -- low has no more than the whole

@@ -128,7 +128,8 @@ place_pad basis n marks j from_two = by_place (dec_lt n (length marks))
     by_place (no past) =
         place_unmarked basis n (marks ++ rest) (none_past marks j n (omega arith)) ∙ ap (◌++ rest) (sym (place_past basis n marks (omega arith)))
 
-sweep_pad : (basis : Basis) (n : ℕ) (marks : List Bool) (j : ℕ) → sweep_from basis n (marks ++ replicate j false) ≡ sweep_from basis n marks ++ replicate j false
+sweep_pad : (basis : Basis) (n : ℕ) (marks : List Bool) (j : ℕ)
+    → sweep_from basis n (marks ++ replicate j false) ≡ sweep_from basis n marks ++ replicate j false
 unfolding sweep_from
 sweep_pad basis zero marks j = refl
 sweep_pad basis (suc zero) marks j = refl

@@ -41,7 +41,8 @@ odds_small c h = omega (arith, sum_abs_every_second (drop 1 c), sum_abs_drop 1 c
 
 -- ---- equal numbers
 
-fold_num : (parity : Parity) (basis : Basis) (c : List ℤ) → sum_abs c ≤ 2 ^ 30 → fold float_ops parity basis (map num c) ≡ map num (fold whole_ops parity basis c)
+fold_num : (parity : Parity) (basis : Basis) (c : List ℤ) → sum_abs c ≤ 2 ^ 30
+    → fold float_ops parity basis (map num c) ≡ map num (fold whole_ops parity basis c)
 fold_num parity basis c h =
     fold_by_sums whole_ops float_ops num parity basis c (rows_num 0 (every_second (drop 1 c)) (omega (arith, odds_small c h)))
 

@@ -51,8 +51,9 @@ overflow_add-powers c =
 
 pub overflow_add-ct : goal.overflow_add-ct
 overflow_add-ct c =
+    let here = goal.at.overflow_add-ct c in
     let combines = shr_le c.args.degree c.args.split in
-    omega (arith, few_powers (goal.at.overflow_add-ct c).After-bit_len, c.bit_len.ensures, few_digits c.args.degree c.requires.degrees.to, c.requires.degrees.to)
+    omega (arith, few_powers here.After-bit_len, c.bit_len.ensures, few_digits c.args.degree c.requires.degrees.to, c.requires.degrees.to)
 
 pub overflow_sub-result : goal.overflow_sub-result
 overflow_sub-result c = omega (arith, longer (goal.at.overflow_sub-result c).After-bit_len)

@@ -17,12 +17,18 @@ returns-then-input-gt-SCALE_LIMIT c = rw (le-ltb _ _ c.if-degree-gt-DEGREE_LIMIT
 
 pub returns-then-coeff-gt-SCALE_LIMIT : goal.returns-then-coeff-gt-SCALE_LIMIT
 unfolding bits_call unless_refused
-returns-then-coeff-gt-SCALE_LIMIT c = rw (le-ltb _ _ c.if-degree-gt-DEGREE_LIMIT.false, le-ltb _ _ c.if-input-gt-SCALE_LIMIT.false, lt-ltb _ _ c.if-coeff-gt-SCALE_LIMIT.true)
+returns-then-coeff-gt-SCALE_LIMIT c = rw
+    (le-ltb _ _ c.if-degree-gt-DEGREE_LIMIT.false, le-ltb _ _ c.if-input-gt-SCALE_LIMIT.false, lt-ltb _ _ c.if-coeff-gt-SCALE_LIMIT.true)
 
 pub returns-then-degree-eq0 : goal.returns-then-degree-eq0
 unfolding bits_call bits_of unless_refused
 returns-then-degree-eq0 c =
-    rw (le-ltb _ _ c.if-degree-gt-DEGREE_LIMIT.false, le-ltb _ _ c.if-input-gt-SCALE_LIMIT.false, le-ltb _ _ c.if-coeff-gt-SCALE_LIMIT.false, c.if-degree-eq0.true)
+    rw (
+      le-ltb _ _ c.if-degree-gt-DEGREE_LIMIT.false,
+      le-ltb _ _ c.if-input-gt-SCALE_LIMIT.false,
+      le-ltb _ _ c.if-coeff-gt-SCALE_LIMIT.false,
+      c.if-degree-eq0.true,
+    )
 
 pub bits_from_one-bits-requires : goal.bits_from_one-bits-requires
 bits_from_one-bits-requires c = (

@@ -64,11 +64,12 @@ bounds-c-next_high c = simp length-set (omega arith)
 
 pub returns : goal.returns
 returns c =
+    let here = goal.at.returns c in
     let first_small = c.requires.1.1.1.0 in
     let next_small = c.requires.1.1.1.1 in
     let first = c.twice in
     two_stored whole_ops (pos 0) _ _ _ _ _ _ _ c.requires.0 c.requires.1.0
     (less_made first_small c.minus.type_inv c.minus.ensures)
     (less_made next_small c.minus-2.type_inv c.minus-2.ensures)
-    (double_made first_small (again (goal.at.returns c).After-minus-2) first.type_inv first.ensures)
-    (double_made next_small (next_again (goal.at.returns c).After-minus-2 (to_z w64 (of_z w64 first.result))) c.twice-2.type_inv c.twice-2.ensures)
+    (double_made first_small (again here.After-minus-2) first.type_inv first.ensures)
+    (double_made next_small (next_again here.After-minus-2 (to_z w64 (of_z w64 first.result))) c.twice-2.type_inv c.twice-2.ensures)

@@ -36,22 +36,26 @@ minus-s-requires c =
 
 pub times_lead-requires : goal.times_lead-requires
 times_lead-requires c =
+    let here = goal.at.times_lead-requires c in
     let small = c.requires.1 in
     let next : c.loop-left.left ≡ suc (c.loop-left.left - 1) = omega (arith, c.loop-left-test.true) in
-    let size = sum_abs_next c.args.c.now c.args.out.now (room (goal.at.times_lead-requires c).Start) c.loop-left.invariant (c.loop-left.left - 1) next (difference (goal.at.times_lead-requires c).After-minus-s) in
+    let size = sum_abs_next c.args.c.now c.args.out.now (room here.Start) c.loop-left.invariant (c.loop-left.left - 1) next (difference here.After-minus-s) in
     let s-is : to_z w64 (of_z w64 c.minus-s.result) ≡ c.minus-s.result = back c.minus-s.type_inv refl in
     rw s-is (omega arith)
 
 pub bounds-out-i : goal.bounds-out-i
 bounds-out-i c =
-    let size = sum_length c.args.c.now c.args.out.now (room (goal.at.bounds-out-i c).Start) c.loop-left.invariant in
+    let here = goal.at.bounds-out-i c in
+    let size = sum_length c.args.c.now c.args.out.now (room here.Start) c.loop-left.invariant in
     let taken = c.loop-left-test.true in
-    omega (arith, c.loop-left.invariant.within, room (goal.at.bounds-out-i c).Start)
+    omega (arith, c.loop-left.invariant.within, room here.Start)
 
 pub loop-left-preserved : goal.loop-left-preserved
 loop-left-preserved c =
+    let here = goal.at.loop-left-preserved c in
     let next : c.loop-left.left ≡ suc (c.loop-left.left - 1) = omega (arith, c.loop-left-test.true) in
-    sum_step c.args.c.now c.args.out.now (room (goal.at.loop-left-preserved c).Start) c.loop-left.invariant (c.loop-left.left - 1) next (back c.minus-s.type_inv (difference (goal.at.loop-left-preserved c).After-minus-s))
+    sum_step c.args.c.now c.args.out.now (room here.Start) c.loop-left.invariant (c.loop-left.left - 1) next
+    (back c.minus-s.type_inv (difference here.After-minus-s))
     (back c.times_lead.type_inv c.times_lead.ensures)
 
 pub shape_of-out : goal.shape_of-out

@@ -51,9 +51,11 @@ returns-then-refusal-gt0 c = fold_refused (goal.at.returns-then-refusal-gt0 c).A
 
 pub fold_into-requires : goal.fold_into-requires
 fold_into-requires c =
-    let passed = none (goal.at.fold_into-requires c).Else-refusal-gt0 in
-    (foldable (goal.at.fold_into-requires c).After-fold_refusal-refusal passed, leb-true (sum_abs c.args.c.now) sum_limit (small_enough (goal.at.fold_into-requires c).After-fold_refusal-refusal passed))
+    let here = goal.at.fold_into-requires c in
+    let passed = none here.Else-refusal-gt0 in
+    (foldable here.After-fold_refusal-refusal passed, leb-true (sum_abs c.args.c.now) sum_limit (small_enough here.After-fold_refusal-refusal passed))
 
 pub returns : goal.returns
 returns c =
-    fold_done (goal.at.returns c).After-fold_refusal-refusal (none (goal.at.returns c).Else-refusal-gt0) c.fold_answer-2.ensures c.fold_into.ensures
+    let here = goal.at.returns c in
+    fold_done here.After-fold_refusal-refusal (none here.Else-refusal-gt0) c.fold_answer-2.ensures c.fold_into.ensures

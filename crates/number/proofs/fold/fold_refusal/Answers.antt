@@ -37,22 +37,50 @@ returns-then-is_full c = rw (not_high (goal.at.returns-then-is_full c).Else-degr
 
 pub returns-then-low : goal.returns-then-low
 unfolding refusal_by
-returns-then-low c = rw (passed (goal.at.returns-then-low c).After-least_folded, not_full (goal.at.returns-then-low c).After-least_folded, low (goal.at.returns-then-low c).After-least_folded c.if-low.true-raw)
+returns-then-low c =
+    let here = goal.at.returns-then-low c in
+    rw (passed here.After-least_folded, not_full here.After-least_folded, low here.After-least_folded c.if-low.true-raw)
 
 pub returns-then-wrong : goal.returns-then-wrong
 unfolding refusal_by
-returns-then-wrong c = rw (passed (goal.at.returns-then-wrong c).After-least_folded, not_full (goal.at.returns-then-wrong c).After-least_folded, low (goal.at.returns-then-wrong c).After-least_folded c.if-low.false-raw, c.if-wrong.true-raw)
+returns-then-wrong c =
+    let here = goal.at.returns-then-wrong c in
+    rw (passed here.After-least_folded, not_full here.After-least_folded, low here.After-least_folded c.if-low.false-raw, c.if-wrong.true-raw)
 
 pub returns-then-not-small : goal.returns-then-not-small
 unfolding refusal_by
-returns-then-not-small c = rw (passed (goal.at.returns-then-not-small c).After-least_folded, not_full (goal.at.returns-then-not-small c).After-least_folded, low (goal.at.returns-then-not-small c).After-least_folded c.if-low.false-raw, c.if-wrong.false-raw, c.if-not-small.true-raw)
+returns-then-not-small c =
+    let here = goal.at.returns-then-not-small c in
+    rw (
+      passed here.After-least_folded,
+      not_full here.After-least_folded,
+      low here.After-least_folded c.if-low.false-raw,
+      c.if-wrong.false-raw,
+      c.if-not-small.true-raw,
+    )
 
 pub returns-then-short : goal.returns-then-short
 unfolding refusal_by
 returns-then-short c =
-    rw (passed (goal.at.returns-then-short c).After-least_folded, not_full (goal.at.returns-then-short c).After-least_folded, low (goal.at.returns-then-short c).After-least_folded c.if-low.false-raw, c.if-wrong.false-raw, c.if-not-small.false-raw, c.if-short.true)
+    let here = goal.at.returns-then-short c in
+    rw (
+      passed here.After-least_folded,
+      not_full here.After-least_folded,
+      low here.After-least_folded c.if-low.false-raw,
+      c.if-wrong.false-raw,
+      c.if-not-small.false-raw,
+      c.if-short.true,
+    )
 
 pub returns-else-short : goal.returns-else-short
 unfolding refusal_by
 returns-else-short c =
-    rw (passed (goal.at.returns-else-short c).After-least_folded, not_full (goal.at.returns-else-short c).After-least_folded, low (goal.at.returns-else-short c).After-least_folded c.if-low.false-raw, c.if-wrong.false-raw, c.if-not-small.false-raw, c.if-short.false)
+    let here = goal.at.returns-else-short c in
+    rw (
+      passed here.After-least_folded,
+      not_full here.After-least_folded,
+      low here.After-least_folded c.if-low.false-raw,
+      c.if-wrong.false-raw,
+      c.if-not-small.false-raw,
+      c.if-short.false,
+    )

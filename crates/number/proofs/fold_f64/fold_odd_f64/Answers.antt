@@ -30,16 +30,18 @@ odd_places_f64-two-requires c = omega (arith, c.loop-i-test.true)
 
 pub bounds-out-i : goal.bounds-out-i
 bounds-out-i c =
-    omega (arith, placing_length (room (goal.at.bounds-out-i c).After-slice_known-1) c.loop-i.invariant, c.loop-i-test.true, room (goal.at.bounds-out-i c).After-slice_known-1)
+    let here = goal.at.bounds-out-i c in
+    omega (arith, placing_length (room here.After-slice_known-1) c.loop-i.invariant, c.loop-i-test.true, room here.After-slice_known-1)
 
 pub bounds-out-i-in-loop-i : goal.bounds-out-i-in-loop-i
 bounds-out-i-in-loop-i c =
+    let here = goal.at.bounds-out-i-in-loop-i c in
     omega (
       arith,
       length-set c.loop-i.out c.loop-i.i c.odd_places_f64-two.result.first,
-      placing_length (room (goal.at.bounds-out-i-in-loop-i c).After-slice_known-1) c.loop-i.invariant,
+      placing_length (room here.After-slice_known-1) c.loop-i.invariant,
       c.loop-i-test.true,
-      room (goal.at.bounds-out-i-in-loop-i c).After-slice_known-1,
+      room here.After-slice_known-1,
     )
 
 pub loop-i-preserved : goal.loop-i-preserved
@@ -52,14 +54,18 @@ odd_place_f64-requires c = omega (arith, c.if-i-n.true)
 
 pub bounds-out-i-then-i-n : goal.bounds-out-i-then-i-n
 bounds-out-i-then-i-n c =
-    omega (arith, placing_length (room (goal.at.bounds-out-i-then-i-n c).After-slice_known-1) c.loop-i.invariant, c.if-i-n.true, room (goal.at.bounds-out-i-then-i-n c).After-slice_known-1)
+    let here = goal.at.bounds-out-i-then-i-n c in
+    omega (arith, placing_length (room here.After-slice_known-1) c.loop-i.invariant, c.if-i-n.true, room here.After-slice_known-1)
 
 pub shape_of-out-then-i-n : goal.shape_of-out-then-i-n
-shape_of-out-then-i-n c = placing_length (room (goal.at.shape_of-out-then-i-n c).After-slice_known-1) (last_placed (goal.at.shape_of-out-then-i-n c).After-odd_place_f64 (room (goal.at.shape_of-out-then-i-n c).After-slice_known-1))
+shape_of-out-then-i-n c =
+    let here = goal.at.shape_of-out-then-i-n c in
+    placing_length (room here.After-slice_known-1) (last_placed here.After-odd_place_f64 (room here.After-slice_known-1))
 
 pub returns-then-i-n : goal.returns-then-i-n
 returns-then-i-n c =
-    placing_end (room (goal.at.returns-then-i-n c).After-slice_known-1) (last_placed (goal.at.returns-then-i-n c).After-odd_place_f64 (room (goal.at.returns-then-i-n c).After-slice_known-1)) (omega (arith, c.loop-i-test.false))
+    let here = goal.at.returns-then-i-n c in
+    placing_end (room here.After-slice_known-1) (last_placed here.After-odd_place_f64 (room here.After-slice_known-1)) (omega (arith, c.loop-i-test.false))
 
 pub shape_of-out-else-i-n : goal.shape_of-out-else-i-n
 shape_of-out-else-i-n c = placing_length (room (goal.at.shape_of-out-else-i-n c).After-slice_known-1) c.loop-i.invariant

@@ -42,8 +42,11 @@ pub returns-then-refusal-gt0 : goal.returns-then-refusal-gt0
 returns-then-refusal-gt0 c = fold_refused (goal.at.returns-then-refusal-gt0 c).After-fold_refusal-refusal c.if-refusal-gt0.true c.fold_answer.ensures
 
 pub fold_into_f64-requires : goal.fold_into_f64-requires
-fold_into_f64-requires c = foldable (goal.at.fold_into_f64-requires c).After-fold_refusal-refusal (none (goal.at.fold_into_f64-requires c).Else-refusal-gt0)
+fold_into_f64-requires c =
+    let here = goal.at.fold_into_f64-requires c in
+    foldable here.After-fold_refusal-refusal (none here.Else-refusal-gt0)
 
 pub returns : goal.returns
 returns c =
-    fold_done (goal.at.returns c).After-fold_refusal-refusal (none (goal.at.returns c).Else-refusal-gt0) c.fold_answer-2.ensures c.fold_into_f64.ensures
+    let here = goal.at.returns c in
+    fold_done here.After-fold_refusal-refusal (none here.Else-refusal-gt0) c.fold_answer-2.ensures c.fold_into_f64.ensures

@@ -33,10 +33,14 @@ pub overflow_sub-result : goal.overflow_sub-result
 overflow_sub-result c = taken_fits c.args.x c.ranges.x (below (goal.at.overflow_sub-result c).Then-x-lt0)
 
 pub overflow_cast-result : goal.overflow_cast-result
-overflow_cast-result c = rw (opposite (goal.at.overflow_cast-result c).Then-x-lt0) (tt, record { fits = omega (arith, small (goal.at.overflow_cast-result c).Then-x-lt0) })
+overflow_cast-result c =
+    let here = goal.at.overflow_cast-result c in
+    rw (opposite here.Then-x-lt0) (tt, record { fits = omega (arith, small here.Then-x-lt0) })
 
 pub overflow_add-result-then-x-lt0 : goal.overflow_add-result-then-x-lt0
-overflow_add-result-then-x-lt0 c = rw (opposite (goal.at.overflow_add-result-then-x-lt0 c).Then-x-lt0) (record { fits = omega (arith, small (goal.at.overflow_add-result-then-x-lt0 c).Then-x-lt0) })
+overflow_add-result-then-x-lt0 c =
+    let here = goal.at.overflow_add-result-then-x-lt0 c in
+    rw (opposite here.Then-x-lt0) (record { fits = omega (arith, small here.Then-x-lt0) })
 
 pub overflow_cast-result-else-x-lt0 : goal.overflow_cast-result-else-x-lt0
 overflow_cast-result-else-x-lt0 c =
@@ -45,7 +49,9 @@ overflow_cast-result-else-x-lt0 c =
     rw read (nonnegative read c.if-x-lt0.false, record { fits = omega (arith, nat_abs-le x c.ranges.x.sfits) })
 
 pub returns-then-x-lt0 : goal.returns-then-x-lt0
-returns-then-x-lt0 c = rw (opposite (goal.at.returns-then-x-lt0 c).Then-x-lt0) (size_is c.args.x (below (goal.at.returns-then-x-lt0 c).Then-x-lt0))
+returns-then-x-lt0 c =
+    let here = goal.at.returns-then-x-lt0 c in
+    rw (opposite here.Then-x-lt0) (size_is c.args.x (below here.Then-x-lt0))
 
 pub returns-else-x-lt0 : goal.returns-else-x-lt0
 returns-else-x-lt0 c = ap nat_abs (to_z-of_z c.ranges.x)

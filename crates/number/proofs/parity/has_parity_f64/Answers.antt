@@ -17,7 +17,8 @@ pub loop-j-init : goal.loop-j-init
 loop-j-init c = refl
 
 -- what was found of the coefficient at place j
-found : (c : After-fits_at_f64-fits) → (allows c.args.parity c.loop-j.j || float_numbers.is_zero (get_or c.args.c.now c.loop-j.j nan)) ≡ c.fits_at_f64-fits.result
+found : (c : After-fits_at_f64-fits)
+    → (allows c.args.parity c.loop-j.j || float_numbers.is_zero (get_or c.args.c.now c.loop-j.j nan)) ≡ c.fits_at_f64-fits.result
 found c = sym c.fits_at_f64-fits.ensures
 
 pub returns-then-not-fits : goal.returns-then-not-fits

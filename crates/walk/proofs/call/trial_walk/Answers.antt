@@ -38,13 +38,15 @@ returns-then-modulus-gt-MODULUS_LIMIT c =
 
 pub returns-in_default : goal.returns-in_default
 returns-in_default c =
+    let here = goal.at.returns-in_default c in
     let a = c.args in
     c.no_trial-in_default.ensures
-    ∙ no_walk a.head a.coefficients.now a.bounds.now a.steps.now a.point a.modulus (modulus (goal.at.returns-in_default c).Else-modulus-gt-MODULUS_LIMIT)
-    (sym (walked (goal.at.returns-in_default c).After-walk_lent) ∙ ap found c.in_default.is)
+    ∙ no_walk a.head a.coefficients.now a.bounds.now a.steps.now a.point a.modulus (modulus here.Else-modulus-gt-MODULUS_LIMIT)
+    (sym (walked here.After-walk_lent) ∙ ap found c.in_default.is)
 
 pub returns : goal.returns
 returns c =
+    let here = goal.at.returns c in
     let a = c.args in
-    walk_answers a.head a.coefficients.now a.bounds.now a.steps.now a.point a.modulus (modulus (goal.at.returns c).Else-modulus-gt-MODULUS_LIMIT)
-    c.in-Number.remainder (sym (walked (goal.at.returns c).After-walk_lent) ∙ ap found c.in-Number.is)
+    walk_answers a.head a.coefficients.now a.bounds.now a.steps.now a.point a.modulus (modulus here.Else-modulus-gt-MODULUS_LIMIT)
+    c.in-Number.remainder (sym (walked here.After-walk_lent) ∙ ap found c.in-Number.is)

@@ -90,16 +90,18 @@ run_steps-requires c =
 
 pub returns-in_default : goal.returns-in_default
 returns-in_default c =
+    let here = goal.at.returns-in_default c in
     let a = c.args in
-    let counts = fits (goal.at.returns-in_default c).Else-steps-count in
-    let rise = rising (goal.at.returns-in_default c).Else-not-bounds_rise in
+    let counts = fits here.Else-steps-count in
+    let rise = rising here.Else-not-bounds_rise in
     stuck (rules_of a.arithmetic) a.head a.coefficients.now a.bounds.now a.steps.now a.point counts rise
-    (sym (ran (goal.at.returns-in_default c).After-run_steps) ∙ ap found c.in_default.is)
+    (sym (ran here.After-run_steps) ∙ ap found c.in_default.is)
 
 pub returns : goal.returns
 returns c =
+    let here = goal.at.returns c in
     let a = c.args in
     ap some (c.output_of.ensures
-    ∙ ap (λ (x : ℕ). (rules_of a.arithmetic).output a.head.transform x c.in-Number.v) (reduced (goal.at.returns c).After-run_steps))
-    ∙ walked (rules_of a.arithmetic) a.head a.coefficients.now a.bounds.now a.steps.now a.point (fits (goal.at.returns c).Else-steps-count)
-    c.in-Number.v (rising (goal.at.returns c).Else-not-bounds_rise) (sym (ran (goal.at.returns c).After-run_steps) ∙ ap found c.in-Number.is)
+    ∙ ap (λ (x : ℕ). (rules_of a.arithmetic).output a.head.transform x c.in-Number.v) (reduced here.After-run_steps))
+    ∙ walked (rules_of a.arithmetic) a.head a.coefficients.now a.bounds.now a.steps.now a.point (fits here.Else-steps-count)
+    c.in-Number.v (rising here.Else-not-bounds_rise) (sym (ran here.After-run_steps) ∙ ap found c.in-Number.is)

@@ -35,33 +35,36 @@ returns-in_default-power_at c =
 
 pub returns-in_default-power_at-2 : goal.returns-in_default-power_at-2
 returns-in_default-power_at-2 c =
+    let here = goal.at.returns-in_default-power_at-2 c in
     let a = c.args in
     let 𝓡 = rules_of a.arithmetic in
     let powers = powers_of a.powers.now a.made.now in
-    let u = first (goal.at.returns-in_default-power_at-2 c).In-Number in
-    let v = second (goal.at.returns-in_default-power_at-2 c).In-Number-power_at in
+    let u = first here.In-Number in
+    let v = second here.In-Number-power_at in
     no_third 𝓡 powers a.a a.b a.distance _ _ u v
     (sym c.power_at-in-Chebyshev.ensures.is ∙ ap found c.in_default-power_at-2.is)
     ∙ ap (λ (basis : Basis). power_from 𝓡 basis powers a.a a.b a.distance) (sym c.in-Chebyshev.is)
 
 pub returns-in-Monomial : goal.returns-in-Monomial
 returns-in-Monomial c =
+    let here = goal.at.returns-in-Monomial c in
     let a = c.args in
     let 𝓡 = rules_of a.arithmetic in
     let powers = powers_of a.powers.now a.made.now in
-    let u = first (goal.at.returns-in-Monomial c).In-Number in
-    let v = second (goal.at.returns-in-Monomial c).In-Number-power_at in
+    let u = first here.In-Number in
+    let v = second here.In-Number-power_at in
     ap some c.product.ensures
     ∙ monomial_product 𝓡 powers a.a a.b a.distance _ _ u v
     ∙ ap (λ (basis : Basis). power_from 𝓡 basis powers a.a a.b a.distance) (sym c.in-Monomial.is)
 
 pub returns-in-Number-power_at-2 : goal.returns-in-Number-power_at-2
 returns-in-Number-power_at-2 c =
+    let here = goal.at.returns-in-Number-power_at-2 c in
     let a = c.args in
     let 𝓡 = rules_of a.arithmetic in
     let powers = powers_of a.powers.now a.made.now in
-    let u = first (goal.at.returns-in-Number-power_at-2 c).In-Number in
-    let v = second (goal.at.returns-in-Number-power_at-2 c).In-Number-power_at in
+    let u = first here.In-Number in
+    let v = second here.In-Number-power_at in
     ap some c.product_less.ensures
     ∙ chebyshev_product 𝓡 powers a.a a.b a.distance _ _ _ u v
     (sym c.power_at-in-Chebyshev.ensures.is ∙ ap found c.in-Number-power_at-2.is)
