@@ -1,10 +1,9 @@
 -- `number::copy::copy_coeffs` meets its contract. At each turn the first i places hold the first i coefficients, and those beyond are as they
 -- were; at the end i is the number of coefficients.
 use mathlib.Core.Path.{refl, ◌∙◌}
-use Prim.Native.Nat.{◌-◌}
 use native.Mathlib.Omega.{arith}
 use lib.IntN.{pos}
-use lib.ListN.{length, length-set}
+use lib.ListN.{length-set}
 use Rattle.algebra.proofs.Filling.{copy_step, copy_end}
 use Rattle.number.proofs.Signed.{back}
 use Rattle.number.proofs.copy.copy_coeffs.Goals as goal

@@ -1,9 +1,7 @@
 -- `number::fold::copy_second` meets its contract. The loop's invariant: the first i places hold the first i of every second coefficient,
 -- those beyond are as they were, and j is the place of the next.
 use mathlib.Core.Path.{refl}
-use Prim.Native.Nat.{◌-◌}
 use native.Mathlib.Omega.{arith}
-use lib.ListN.{length}
 use lib.IntN.{pos}
 use Rattle.number.proofs.Signed.{back}
 use Rattle.number.proofs.FoldLoops.{copy_start, copy_inside, copy_step, copy_length, copy_end}

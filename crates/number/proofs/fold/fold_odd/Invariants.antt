@@ -1,4 +1,3 @@
-use Prim.Native.Nat.{◌-◌}
 use Rattle.number.proofs.FoldLoops.{Summing}
 use Rattle.number.proofs.fold.fold_odd.Given as goal
 

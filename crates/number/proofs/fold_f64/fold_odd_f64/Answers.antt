@@ -1,7 +1,7 @@
 -- `number::fold_f64::fold_odd_f64` meets its contract. The loop's invariant: the first i places hold the fold, and those beyond are as they
 -- were. The fold has half as many places as c, and place i sums the odd coefficients from place 2i + 1 on. A turn writes two places; of an odd
 -- number of places one is left after the loop.
-use Prim.Native.Nat.{◌+◌, ◌≤◌, ◌-◌, ◌/◌}
+use Prim.Native.Nat.{◌+◌, ◌≤◌, ◌/◌}
 use native.Mathlib.Omega.{arith}
 use lib.ListN.{length, set, length-set}
 use lib.Ieee.{nan}

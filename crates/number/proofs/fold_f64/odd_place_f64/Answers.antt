@@ -2,7 +2,6 @@
 -- and the sum so far goes on with the coefficients from place j to the sum that is asked for. Down a column each coefficient is the
 -- opposite of the one before, so w = -w keeps it.
 use mathlib.Core.Path.{refl}
-use Prim.Native.Nat.{◌-◌}
 use Rattle.number.proofs.Literals.{zero_is}
 use Rattle.number.proofs.FoldLoops.{adding_start, adding_step, adding_end}
 use Rattle.number.proofs.fold_f64.odd_place_f64.Goals as goal

@@ -1,7 +1,7 @@
 -- `number::fold_f64::odd_places_f64` meets its contract. The loop's invariant is that of `odd_place_f64` twice, for place i and for place i + 1,
 -- at the same j. Ahead of the loop the sum of place i has taken c[2i+1], which place i + 1 has no part in.
 use mathlib.Core.Path.{refl}
-use Prim.Native.Nat.{◌+◌, ◌-◌}
+use Prim.Native.Nat.{◌+◌}
 use native.Mathlib.Omega.{arith}
 use Rattle.number.proofs.Literals.{zero_is}
 use Rattle.number.proofs.FoldLoops.{adding_start, adding_step, adding_end}
