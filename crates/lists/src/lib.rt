@@ -13,4 +13,4 @@ pub use number::{Basis, Parity};
 pub use whole::decompose_bsgs;
 // What serves planning, which calls it within its ranges.
 pub use count::{count_lists, listed_again, low_lists, relists, smaller_split};
-pub use whole::list_coeffs;
+pub use whole::{copy_coeffs, list_coeffs};

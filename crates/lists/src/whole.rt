@@ -13,9 +13,9 @@ ghost use Rattle.lists.specs.inside.Listing.{Listable, InPlace};
 use super::call::{Listed, shape_for};
 use super::count::{listed_again, relists, smaller_split};
 use counts::SplitStrategy;
-use number::{
-    Basis, Parity, copy_coeffs, factorize_coeffs_chebyshev, power_of_two, sum_fits, top_power,
-};
+// It stands in `number`, which conversion needs it from too.
+pub use number::copy_coeffs;
+use number::{Basis, Parity, factorize_coeffs_chebyshev, power_of_two, sum_fits, top_power};
 
 // The coefficients cut at p.
 fn cut_coeffs(basis: Basis, p: usize, c: &mut [i64])
