@@ -1,6 +1,5 @@
 -- `set_plan::costs::sum_costs` meets its contract. The invariant: what is summed, with the costs of the members that are left, is the whole.
 use mathlib.Core.Path.{ap}
-use Prim.Native.Nat.{◌-◌}
 use native.Mathlib.Omega.{arith}
 use Rattle.set_plan.specs.inside.Counting.{threes_of, plains_of}
 use Rattle.set_plan.specs.declared.costs.Costs.{Costs}

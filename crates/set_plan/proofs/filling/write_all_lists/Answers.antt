@@ -1,7 +1,6 @@
 -- `set_plan::filling::write_all_lists` meets its contract. The invariant: what is left to write, from member i on and from the next free places on, put
 -- into the buffers as they are, gives the whole. Each member's lists take it one member further.
 use mathlib.Core.Path.{refl, ◌∙◌}
-use Prim.Native.Nat.{◌-◌}
 use native.Mathlib.Omega.{arith}
 use Rattle.set_plan.proofs.ListLaws.{ends_kept, left_start, at_within, sizes_here, slice_room, fits_here, kept_here, next_here, left_none}
 use Rattle.set_plan.proofs.filling.write_all_lists.Goals as goal

@@ -1,7 +1,6 @@
 -- `set_plan::record::total_sizes` meets its contract. The invariant: what is summed, with the sizes of the members that are left, is the whole; the steps
 -- begin with the common power steps.
 use mathlib.Core.Path.{ap}
-use Prim.Native.Nat.{◌-◌}
 use native.Mathlib.Omega.{arith}
 use Rattle.sets.specs.SetPlan.{coefficient_count, list_count, own_step_count}
 use Rattle.sets.proofs.HeadLaws.{sizes_most}

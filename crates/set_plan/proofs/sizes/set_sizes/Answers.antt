@@ -1,5 +1,5 @@
 -- `set_plan::sizes::set_sizes` meets its contract: past the tests the heads are those of the members by their settings, and the totals are theirs.
-use mathlib.Core.Path.{◌≡◌, sym, ◌∙◌}
+use mathlib.Core.Path.{◌≡◌}
 use native.Mathlib.Omega.{arith}
 use Rattle.number.specs.Refusal.{first_refusal}
 use Rattle.sets.specs.SetSizes.{set_sizes_tests}

@@ -1,7 +1,6 @@
 -- `set_plan::sizes::settings_refusals` meets its contract. The invariant: the refusal of the members from place i on is that of all.
 use mathlib.Core.Path.{sym, ◌∙◌, ap}
 use mathlib.Core.List.{List, map}
-use Prim.Native.Nat.{◌-◌}
 use native.Mathlib.Omega.{arith}
 use Rattle.number.specs.Refusal.{first_refusal}
 use Rattle.lists.specs.Lists.{joined}

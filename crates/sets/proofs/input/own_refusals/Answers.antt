@@ -2,12 +2,11 @@
 -- stand from place `at` on.
 use mathlib.Core.List.{List, map}
 use mathlib.Core.Path.{sym, ◌∙◌, ap}
-use Prim.Native.Nat.{◌-◌}
 use native.Mathlib.Omega.{arith}
 use Rattle.sets.proofs.InputLaws.{refused_here, passed_here, refusal_end}
 use Rattle.sets.proofs.MemberLaws.{from_start, count_next}
 use Rattle.sets.specs.declared.member.Member.{Member}
-use Rattle.sets.specs.SetCall.{own_tests, curves}
+use Rattle.sets.specs.SetCall.{own_tests}
 use Rattle.sets.specs.Members.{handed_count, curves_in}
 use Rattle.lists.specs.Lists.{joined}
 use Rattle.number.specs.Refusal.{first_refusal}

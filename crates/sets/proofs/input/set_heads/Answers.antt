@@ -1,6 +1,6 @@
 -- `sets::input::set_heads` meets its contract. The invariant: the heads of the first i members stand in the array, and zero heads behind them.
 use mathlib.Core.Path.{◌≡◌, refl, ◌∙◌, ap}
-use Prim.Native.Nat.{ℕ, ◌-◌}
+use Prim.Native.Nat.{ℕ}
 use native.Mathlib.Omega.{arith}
 use lib.ListN.{replicate}
 use Rattle.sets.proofs.InputLaws.{heads_upto, heads_none, heads_more}

@@ -1,6 +1,6 @@
 -- `sets::marks::add_places` meets its contract. The invariant: of the places before n those that are needed at once are marked too, and nothing else.
 use mathlib.Core.Path.{◌≡◌, sym, ◌∙◌, subst}
-use Prim.Native.Nat.{ℕ, ◌+◌, ◌-◌}
+use Prim.Native.Nat.{ℕ, ◌+◌}
 use native.Mathlib.Omega.{arith}
 use Rattle.sets.specs.inside.Marking.{PlacesAdded}
 use Rattle.sets.proofs.MarkingLaws.{places_none, places_set, places_skip}

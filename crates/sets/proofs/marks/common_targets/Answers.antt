@@ -1,6 +1,6 @@
 -- `sets::marks::common_targets` meets its contract. The invariant: the powers that one of the first i members needs at once are marked, and no others.
 use mathlib.Core.Path.{◌≡◌, subst}
-use Prim.Native.Nat.{ℕ, ◌-◌, ◌<◌}
+use Prim.Native.Nat.{ℕ, ◌<◌}
 use native.Mathlib.Omega.{arith}
 use lib.ListN.{length}
 use Rattle.sets.specs.inside.Heads.{HeadFits}

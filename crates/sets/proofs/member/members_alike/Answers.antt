@@ -1,7 +1,7 @@
 -- `sets::member::members_alike` meets its contract. The invariant: all are alike exactly if those from place i on are alike to the first.
 use mathlib.Core.Path.{sym, ◌∙◌, ap}
 use mathlib.Core.Bool.{◌&&◌}
-use Prim.Native.Nat.{◌+◌, ◌-◌}
+use Prim.Native.Nat.{◌+◌}
 use native.Mathlib.Omega.{arith}
 use lib.ListN.{get_or}
 use Rattle.sets.specs.Members.{alike_to}

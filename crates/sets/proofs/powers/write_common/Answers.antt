@@ -1,13 +1,10 @@
 -- `sets::powers::write_common` meets its contract. The invariant: the steps of the marks before place n stand in the buffer. While steps are left, so
 -- are marks; and when all are written, no place behind is marked.
 use mathlib.Core.Path.{refl, ◌∙◌}
-use Prim.Native.Nat.{◌-◌, ◌<◌}
 use native.Mathlib.Omega.{arith}
-use Rattle.number.specs.Limits.{count_limit}
 use Rattle.plan.proofs.PowerSteps.{upto_none, upto_more}
 use Rattle.sets.proofs.SetWriting.{place_left, power_fits, common_put}
 use Rattle.sets.proofs.powers.write_common.Goals as goal
-use Rattle.sets.proofs.powers.write_common.Goals.{After-slice_known-in-loop-step-1}
 
 pub loop-step-init : goal.loop-step-init
 loop-step-init c =
@@ -24,16 +21,13 @@ put_power-step-requires c =
     power_fits fits c.loop-step.invariant.upto below c.loop-step.invariant.same
 
 -- a place was left for the step that has been written
-left_place : (c : After-slice_known-in-loop-step-1) → c.loop-step.n < count_limit
-left_place c =
-    place_left c.requires c.loop-step.invariant.upto c.loop-step.invariant.within c.loop-step-test.true
-
 pub loop-step-smaller : goal.loop-step-smaller
-loop-step-smaller c = omega (arith, left_place (goal.at.loop-step-smaller c).After-slice_known-in-loop-step-1)
+loop-step-smaller c =
+    omega (arith, place_left c.requires c.loop-step.invariant.upto c.loop-step.invariant.within c.loop-step-test.true)
 
 pub loop-step-preserved : goal.loop-step-preserved
 loop-step-preserved c =
-    let below = left_place (goal.at.loop-step-preserved c).After-slice_known-in-loop-step-1 in
+    let below = place_left c.requires c.loop-step.invariant.upto c.loop-step.invariant.within c.loop-step-test.true in
     record {
       within = omega (arith, below);
       same = c.put_power-step.auto.steps ∙ c.loop-step.invariant.same;

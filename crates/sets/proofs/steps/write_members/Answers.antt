@@ -1,6 +1,6 @@
 -- `sets::steps::write_members` meets its contract. The invariant: the steps of the first i members stand one member's after another's.
 use mathlib.Core.Path.{◌≡◌, refl, ◌∙◌, subst}
-use Prim.Native.Nat.{ℕ, ◌-◌, ◌<◌}
+use Prim.Native.Nat.{ℕ, ◌<◌}
 use native.Mathlib.Omega.{arith}
 use lib.ListN.{length}
 use Rattle.sets.proofs.WritingLaws.{members_none, own_fits, members_more}
