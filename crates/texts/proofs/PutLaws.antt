@@ -29,12 +29,9 @@ pub put_same : {out out' xs ys : List ℕ} {at r : ℕ} → Put out at xs out' r
 put_same {out} {out'} {xs} {ys} {at} {r} p e =
     record { buffer = p.buffer ∙ ap (λ (t : List ℕ). sets out at t) e; next = p.next ∙ ap (λ (t : List ℕ). at + length t) e }
 
--- where a text ends: said otherwise, and in two parts
+-- where a text ends: said otherwise, and in its first part
 pub ends_same : (at : ℕ) {xs ys : List ℕ} → xs ≡ ys → EndsIn64Bits at xs → EndsIn64Bits at ys
 ends_same at e h = rw e at h
 
 pub ends_first : (at : ℕ) (xs ys : List ℕ) → EndsIn64Bits at (xs ++ ys) → EndsIn64Bits at xs
 ends_first at xs ys h = omega (arith, length-append xs ys)
-
-pub ends_second : {out out' : List ℕ} (at : ℕ) (xs ys : List ℕ) {r : ℕ} → EndsIn64Bits at (xs ++ ys) → Put out at xs out' r → EndsIn64Bits r ys
-ends_second at xs ys h p = omega (arith, length-append xs ys, p.next)

@@ -2,11 +2,12 @@
 -- which fits 64 bits.
 use mathlib.Core.Path.{refl, sym}
 use mathlib.Core.List.{[], ◌∷◌}
+use native.Mathlib.Omega.{arith}
 use lib.IntN.{nat_abs}
 use Rattle.lines.specs.Bytes.{minus}
 use Rattle.texts.specs.Decimal.{decimal}
 use Rattle.texts.proofs.DecimalLaws.{read, below_text, above_text}
-use Rattle.texts.proofs.PutLaws.{put_same, put_then, ends_same, ends_first, ends_second}
+use Rattle.texts.proofs.PutLaws.{put_same, put_then, ends_same, ends_first}
 use Rattle.texts.proofs.decimal.put_signed.Goals as goal
 
 pub put-next-requires : goal.put-next-requires
@@ -19,10 +20,8 @@ put-next-requires c =
 pub put_number-requires : goal.put_number-requires
 put_number-requires c =
     let a = c.args in
-    let n = c.magnitude_of.result in
-    ends_second a.at (minus ∷ []) (decimal n)
-    (ends_same a.at (sym (below_text a.z c.ranges.z n c.if-z-lt0.true c.magnitude_of.ensures)) c.requires)
-    c.put-next.ensures
+    let text = below_text a.z c.ranges.z c.magnitude_of.result c.if-z-lt0.true c.magnitude_of.ensures in
+    omega (arith, ends_same a.at (sym text) c.requires, c.put-next.ensures.next)
 
 pub returns-then-z-lt0 : goal.returns-then-z-lt0
 returns-then-z-lt0 c =
