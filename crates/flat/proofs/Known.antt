@@ -1,17 +1,16 @@
 -- What the test of a call says of its kinds, and what a call then answers: `k` is what the test asked, `knows` what it stands for.
 use mathlib.Core.Path.{◌≡◌, sym, ◌∙◌}
-use mathlib.Core.Bool.{Bool, true, false, not}
-use borrow.Author.Tests.{not-true, not-false}
+use mathlib.Core.Bool.{Bool, true, false}
 use Rattle.algebra.specs.declared.Basis.{Basis}
 use Rattle.algebra.specs.declared.Parity.{Parity}
 use Rattle.counts.specs.declared.choice.SplitStrategy.{SplitStrategy}
 use Rattle.flat.specs.Unknown.{when_known}
 
-pub unknown : {k knows : Bool} → not k ≡ true → k ≡ knows → knows ≡ false
-unknown {k} {knows} test same = sym same ∙ not-true k test
+pub unknown : {k knows : Bool} → k ≡ false → k ≡ knows → knows ≡ false
+unknown test same = sym same ∙ test
 
-pub known : {k knows : Bool} → not k ≡ false → k ≡ knows → knows ≡ true
-known {k} {knows} test same = sym same ∙ not-false k test
+pub known : {k knows : Bool} → k ≡ true → k ≡ knows → knows ≡ true
+known test same = sym same ∙ test
 
 -- with known kinds it is what is accepted
 pub when_known_lem : {X : Type 0} {knows : Bool} (accepted refused : X) → knows ≡ true → accepted ≡ when_known knows accepted refused

@@ -11,7 +11,7 @@ use Rattle.exports.proofs.curve_sets.firrozun_plan_set.Goals as goal
 pub returns-then-not-knows_members : goal.returns-then-not-knows_members
 unfolding when_known
 returns-then-not-knows_members c =
-    let unsure = unknown c.if-not-knows_members.true-raw c.knows_members.ensures in
+    let unsure = unknown c.if-not-knows_members.true c.knows_members.ensures in
     record {
       answer = rw (unsure, c.no_set.ensures);
       coefficients = rw (unsure);
@@ -21,7 +21,7 @@ returns-then-not-knows_members c =
 
 pub returns : goal.returns
 returns c =
-    let sure = known c.if-not-knows_members.false-raw c.knows_members.ensures in
+    let sure = known c.if-not-knows_members.false c.knows_members.ensures in
     let members = c.members_of.ensures in
     let coeffs = c.args.c.now in
     let out = c.args.out.now in

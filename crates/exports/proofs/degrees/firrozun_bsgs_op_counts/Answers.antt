@@ -6,10 +6,10 @@ use Rattle.exports.proofs.degrees.firrozun_bsgs_op_counts.Goals as goal
 
 pub returns-then-not-knows_all : goal.returns-then-not-knows_all
 unfolding when_known
-returns-then-not-knows_all c = rw (unknown c.if-not-knows_all.true-raw c.knows_all.ensures)
+returns-then-not-knows_all c = rw (unknown c.if-not-knows_all.true c.knows_all.ensures)
 
 pub returns : goal.returns
 unfolding when_known
 returns c =
-    let sure = known c.if-not-knows_all.false-raw c.knows_all.ensures in
+    let sure = known c.if-not-knows_all.false c.knows_all.ensures in
     rw (sure, c.flat_counts.ensures, c.bsgs_op_counts.ensures, c.basis_of.ensures, c.parity_of.ensures, c.strategy_of.ensures)

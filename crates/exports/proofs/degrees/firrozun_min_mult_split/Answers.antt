@@ -6,10 +6,10 @@ use Rattle.exports.proofs.degrees.firrozun_min_mult_split.Goals as goal
 
 pub returns-then-not-knows_pair : goal.returns-then-not-knows_pair
 unfolding when_known
-returns-then-not-knows_pair c = rw (unknown c.if-not-knows_pair.true-raw c.knows_pair.ensures)
+returns-then-not-knows_pair c = rw (unknown c.if-not-knows_pair.true c.knows_pair.ensures)
 
 pub returns : goal.returns
 unfolding when_known
 returns c =
-    let sure = known c.if-not-knows_pair.false-raw c.knows_pair.ensures in
+    let sure = known c.if-not-knows_pair.false c.knows_pair.ensures in
     rw (sure, c.flat_split.ensures, c.min_mult_split.ensures, c.basis_of.ensures, c.parity_of.ensures)

@@ -6,13 +6,13 @@ use Rattle.exports.proofs.degrees.firrozun_plan_sizes.Goals as goal
 
 pub returns-then-not-knows_settings : goal.returns-then-not-knows_settings
 unfolding when_known
-returns-then-not-knows_settings c = rw (unknown c.if-not-knows_settings.true-raw c.knows_settings.ensures)
+returns-then-not-knows_settings c = rw (unknown c.if-not-knows_settings.true c.knows_settings.ensures)
 
 pub returns : goal.returns
 unfolding when_known
 returns c =
     rw (
-      known c.if-not-knows_settings.false-raw c.knows_settings.ensures,
+      known c.if-not-knows_settings.false c.knows_settings.ensures,
       c.flat_sizes.ensures,
       c.plan_sizes.ensures,
       c.fold_of.ensures,

@@ -6,10 +6,10 @@ use Rattle.exports.proofs.planning.firrozun_heaviest_chain.Goals as goal
 
 pub returns-then-not-knows_head : goal.returns-then-not-knows_head
 unfolding when_known
-returns-then-not-knows_head c = rw (unknown c.if-not-knows_head.true-raw c.knows_head.ensures)
+returns-then-not-knows_head c = rw (unknown c.if-not-knows_head.true c.knows_head.ensures)
 
 pub returns : goal.returns
 unfolding when_known
 returns c =
-    let sure = known c.if-not-knows_head.false-raw c.knows_head.ensures in
+    let sure = known c.if-not-knows_head.false c.knows_head.ensures in
     rw (sure, c.flat_chain.ensures, c.heaviest_chain.ensures, c.head_of.ensures)

@@ -10,7 +10,7 @@ use Rattle.exports.proofs.planning.firrozun_plan.Goals as goal
 pub returns-then-not-knows_settings : goal.returns-then-not-knows_settings
 unfolding when_known
 returns-then-not-knows_settings c =
-    let unsure = unknown c.if-not-knows_settings.true-raw c.knows_settings.ensures in
+    let unsure = unknown c.if-not-knows_settings.true c.knows_settings.ensures in
     record {
       answer = rw (unsure, c.no_plan.ensures);
       coefficients = rw (unsure);
@@ -24,7 +24,7 @@ returns c =
     let basis = c.basis_of.ensures in
     let parity = c.parity_of.ensures in
     let strategy = c.strategy_of.ensures in
-    let sure = known c.if-not-knows_settings.false-raw c.knows_settings.ensures in
+    let sure = known c.if-not-knows_settings.false c.knows_settings.ensures in
     let coeffs = c.args.c.now in
     let a = c.args.a in
     let b = c.args.b in

@@ -7,10 +7,10 @@ use Rattle.exports.proofs.planning.firrozun_trial_walk.Goals as goal
 
 pub returns-then-not-knows_head : goal.returns-then-not-knows_head
 unfolding when_known
-returns-then-not-knows_head c = rw (unknown c.if-not-knows_head.true-raw c.knows_head.ensures)
+returns-then-not-knows_head c = rw (unknown c.if-not-knows_head.true c.knows_head.ensures)
 
 pub returns : goal.returns
 unfolding when_known
 returns c =
-    let sure = known c.if-not-knows_head.false-raw c.knows_head.ensures in
+    let sure = known c.if-not-knows_head.false c.knows_head.ensures in
     rw (sure, c.flat_trial.ensures, c.trial_walk.ensures, c.head_of.ensures, to_z-of_z c.ranges.point)

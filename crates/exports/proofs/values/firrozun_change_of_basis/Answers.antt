@@ -7,9 +7,9 @@ use Rattle.exports.proofs.values.firrozun_change_of_basis.Goals as goal
 pub returns-then-not-is_basis : goal.returns-then-not-is_basis
 unfolding when_known
 returns-then-not-is_basis c =
-    rw (unknown c.if-not-is_basis.true-raw c.is_basis.ensures, c.flat_interval.ensures, c.no_interval.ensures)
+    rw (unknown c.if-not-is_basis.true c.is_basis.ensures, c.flat_interval.ensures, c.no_interval.ensures)
 
 pub returns : goal.returns
 unfolding when_known
 returns c =
-    rw (known c.if-not-is_basis.false-raw c.is_basis.ensures, c.flat_interval-2.ensures, c.change_of_basis.ensures, c.basis_of.ensures)
+    rw (known c.if-not-is_basis.false c.is_basis.ensures, c.flat_interval-2.ensures, c.change_of_basis.ensures, c.basis_of.ensures)

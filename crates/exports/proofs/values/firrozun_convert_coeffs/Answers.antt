@@ -7,7 +7,7 @@ use Rattle.exports.proofs.values.firrozun_convert_coeffs.Goals as goal
 pub returns-then-not-is_basis : goal.returns-then-not-is_basis
 unfolding when_known
 returns-then-not-is_basis c =
-    let unsure = unknown c.if-not-is_basis.true-raw c.is_basis.ensures in
+    let unsure = unknown c.if-not-is_basis.true c.is_basis.ensures in
     record {
       answer = rw (unsure);
       buffer = rw (unsure);
@@ -16,7 +16,7 @@ returns-then-not-is_basis c =
 pub returns : goal.returns
 unfolding when_known
 returns c =
-    let sure = known c.if-not-is_basis.false-raw c.is_basis.ensures in
+    let sure = known c.if-not-is_basis.false c.is_basis.ensures in
     record {
       answer = rw (sure, c.flat_converted.ensures, c.convert_coeffs.ensures.answer, c.basis_of.ensures);
       buffer = rw (sure, c.convert_coeffs.ensures.buffer, c.basis_of.ensures);

@@ -7,9 +7,9 @@ use Rattle.exports.proofs.values.firrozun_evaluate_coeffs.Goals as goal
 
 pub returns-then-not-is_basis : goal.returns-then-not-is_basis
 unfolding when_known
-returns-then-not-is_basis c = rw (unknown c.if-not-is_basis.true-raw c.is_basis.ensures, zero_is)
+returns-then-not-is_basis c = rw (unknown c.if-not-is_basis.true c.is_basis.ensures, zero_is)
 
 pub returns : goal.returns
 unfolding when_known
 returns c =
-    rw (known c.if-not-is_basis.false-raw c.is_basis.ensures, c.evaluate_coeffs.ensures, c.basis_of.ensures)
+    rw (known c.if-not-is_basis.false c.is_basis.ensures, c.evaluate_coeffs.ensures, c.basis_of.ensures)

@@ -7,7 +7,7 @@ use Rattle.exports.proofs.values.firrozun_fold_parity_f64.Goals as goal
 pub returns-then-not-knows_pair : goal.returns-then-not-knows_pair
 unfolding when_known
 returns-then-not-knows_pair c =
-    let unsure = unknown c.if-not-knows_pair.true-raw c.knows_pair.ensures in
+    let unsure = unknown c.if-not-knows_pair.true c.knows_pair.ensures in
     record {
       answer = rw (unsure, c.no_fold.ensures);
       buffer = rw (unsure);
@@ -16,7 +16,7 @@ returns-then-not-knows_pair c =
 pub returns : goal.returns
 unfolding when_known
 returns c =
-    let sure = known c.if-not-knows_pair.false-raw c.knows_pair.ensures in
+    let sure = known c.if-not-knows_pair.false c.knows_pair.ensures in
     record {
       answer = rw (sure, c.flat_folded.ensures, c.fold_parity_f64.ensures.answer, c.basis_of.ensures, c.parity_of.ensures);
       buffer = rw (sure, c.fold_parity_f64.ensures.buffer, c.basis_of.ensures, c.parity_of.ensures);

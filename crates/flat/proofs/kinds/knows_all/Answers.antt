@@ -5,8 +5,8 @@ use Rattle.flat.proofs.kinds.knows_all.Goals as goal
 
 pub returns-then-not-is_strategy : goal.returns-then-not-is_strategy
 unfolding knows_all
-returns-then-not-is_strategy c = rw (unknown c.if-not-is_strategy.true-raw c.is_strategy.ensures)
+returns-then-not-is_strategy c = rw (unknown c.if-not-is_strategy.true c.is_strategy.ensures)
 
 pub returns : goal.returns
 unfolding knows_all
-returns c = rw (known c.if-not-is_strategy.false-raw c.is_strategy.ensures, c.knows_pair.ensures)
+returns c = rw (known c.if-not-is_strategy.false c.is_strategy.ensures, c.knows_pair.ensures)

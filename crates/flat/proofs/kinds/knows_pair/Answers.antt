@@ -5,8 +5,8 @@ use Rattle.flat.proofs.kinds.knows_pair.Goals as goal
 
 pub returns-then-not-is_parity : goal.returns-then-not-is_parity
 unfolding knows_pair
-returns-then-not-is_parity c = rw (unknown c.if-not-is_parity.true-raw c.is_parity.ensures)
+returns-then-not-is_parity c = rw (unknown c.if-not-is_parity.true c.is_parity.ensures)
 
 pub returns : goal.returns
 unfolding knows_pair
-returns c = rw (known c.if-not-is_parity.false-raw c.is_parity.ensures, c.is_basis.ensures)
+returns c = rw (known c.if-not-is_parity.false c.is_parity.ensures, c.is_basis.ensures)

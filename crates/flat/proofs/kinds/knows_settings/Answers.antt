@@ -5,8 +5,8 @@ use Rattle.flat.proofs.kinds.knows_settings.Goals as goal
 
 pub returns-then-not-is_fold : goal.returns-then-not-is_fold
 unfolding knows_settings
-returns-then-not-is_fold c = rw (unknown c.if-not-is_fold.true-raw c.is_fold.ensures)
+returns-then-not-is_fold c = rw (unknown c.if-not-is_fold.true c.is_fold.ensures)
 
 pub returns : goal.returns
 unfolding knows_settings
-returns c = rw (known c.if-not-is_fold.false-raw c.is_fold.ensures, c.knows_all.ensures)
+returns c = rw (known c.if-not-is_fold.false c.is_fold.ensures, c.knows_all.ensures)

@@ -25,7 +25,7 @@ returns-then-not-knows_member c =
     let handed = c.args.handed in
     let here : c.loop-i.i < handed.count = omega (arith, c.if-handed-i.false) in
     let below : c.loop-i.i < length handed.members = omega (arith, c.loop-i.invariant.places, c.loop-i-test.true) in
-    let told = unknown c.if-not-knows_member.true-raw c.knows_member.ensures in
+    let told = unknown c.if-not-knows_member.true c.knows_member.ensures in
     sym (c.loop-i.invariant.rest ∙ known_no handed.count c.loop-i.i handed.members _ here below told)
 
 pub loop-i-preserved : goal.loop-i-preserved
@@ -33,7 +33,7 @@ loop-i-preserved c =
     let handed = c.args.handed in
     let here : c.loop-i.i < handed.count = omega (arith, c.if-handed-i.false) in
     let below : c.loop-i.i < length handed.members = omega (arith, c.loop-i.invariant.places, c.loop-i-test.true) in
-    let told = known c.if-not-knows_member.false-raw c.knows_member.ensures in
+    let told = known c.if-not-knows_member.false c.knows_member.ensures in
     record {
       places = c.loop-i.invariant.places;
       rest = c.loop-i.invariant.rest ∙ known_yes handed.count c.loop-i.i handed.members _ here below told;
