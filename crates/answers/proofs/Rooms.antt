@@ -53,7 +53,8 @@ module _ (strategy : SplitStrategy) (parity : Parity) (basis : Basis) (folded : 
     pub steps_most : (head_for strategy parity basis folded c a b).steps ≤ 12287
     unfolding head_of
     steps_most =
-        let counted = steps_counted (relists strategy) (planned_parity folded parity) basis degree (split_for strategy (planned_parity folded parity) basis degree)
+        let counted = steps_counted (relists strategy) (planned_parity folded parity) basis degree
+        (split_for strategy (planned_parity folded parity) basis degree)
         in omega (arith, counted.steps, counts_range.powers, counts_range.at_most)
 
 pub rooms_enough : (strategy : SplitStrategy) (parity : Parity) (basis : Basis) (folded : Bool) (c : List ℤ) (a b : Float) (out : List ℤ)

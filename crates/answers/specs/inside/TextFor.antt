@@ -15,5 +15,6 @@ unfoldable pub text_for : SplitStrategy → Parity → Basis → (folded : Bool)
 text_for strategy parity basis folded c =
     joined
     (unless_refused (first_refusal (input_tests folded parity c))
-    (lines_of (head_for strategy parity basis folded c minus_one plus_one) (lists_for strategy parity basis folded c) (steps_for strategy parity basis folded c))
+    (lines_of (head_for strategy parity basis folded c minus_one plus_one) (lists_for strategy parity basis folded c)
+    (steps_for strategy parity basis folded c))
     (refusal_line (first_refusal (input_tests folded parity c)) ∷ []))

@@ -24,7 +24,8 @@ fill-parity-requires c = fillable _ _ _ _ _ c.interpolate_refusal-refusal.ensure
 
 pub returns : goal.returns
 returns c =
+    let here = goal.at.returns c in
     let refusal_is = c.interpolate_refusal-refusal.ensures in
-    let size = c.fill-parity.auto.out ∙ (fillable _ _ _ _ _ refusal_is (none (goal.at.returns c).Else-refusal-gt0)).places in
+    let size = c.fill-parity.auto.out ∙ (fillable _ _ _ _ _ refusal_is (none here.Else-refusal-gt0)).places in
     let filled = c.fill-parity.ensures in
-    interpolate_done _ _ _ _ _ refusal_is (none (goal.at.returns c).Else-refusal-gt0) size filled.0 filled.1 c.change_of_basis-interval.ensures
+    interpolate_done _ _ _ _ _ refusal_is (none here.Else-refusal-gt0) size filled.0 filled.1 c.change_of_basis-interval.ensures

@@ -12,7 +12,9 @@ small : {flag : Bool} (c : After-sum_fits) → c.sum_fits.result ≡ flag → no
 small c e = ap not (sym c.sum_fits.ensures ∙ e)
 
 pub returns-then-not-sum_fits : goal.returns-then-not-sum_fits
-returns-then-not-sum_fits c = call.new_too_large c.args.new.now c.args.room (small (goal.at.returns-then-not-sum_fits c).After-sum_fits c.if-not-sum_fits.true)
+returns-then-not-sum_fits c =
+    let here = goal.at.returns-then-not-sum_fits c in
+    call.new_too_large c.args.new.now c.args.room (small here.After-sum_fits c.if-not-sum_fits.true)
 
 pub returns-then-room-new : goal.returns-then-room-new
 returns-then-room-new c =

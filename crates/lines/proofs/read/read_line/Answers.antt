@@ -32,5 +32,6 @@ returns-then-not-are_whole c =
 
 pub returns : goal.returns
 returns c =
+    let here = goal.at.returns c in
     answered c.args.line.now c.args.coefficients.now c.take_opening-opening.result c.if-line-gt-LINE_LIMIT.false c.take_opening-opening.ensures
-    (settings (goal.at.returns c).Else-not-are_settings) (whole (goal.at.returns c).Else-not-are_whole) c.fill_values-count.ensures c.line_by.ensures
+    (settings here.Else-not-are_settings) (whole here.Else-not-are_whole) c.fill_values-count.ensures c.line_by.ensures

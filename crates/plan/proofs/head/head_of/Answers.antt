@@ -43,8 +43,9 @@ overflow_add-result-2 c =
 
 pub overflow_add-result-3 : goal.overflow_add-result-3
 overflow_add-result-3 c =
-    let range = known (goal.at.overflow_add-result-3 c).After-planned_transform-transform in
-    omega (arith, plain_most (goal.at.overflow_add-result-3 c).After-plain_steps-four, range.at_most)
+    let here = goal.at.overflow_add-result-3 c in
+    let range = known here.After-planned_transform-transform in
+    omega (arith, plain_most here.After-plain_steps-four, range.at_most)
 
 pub overflow_add-result-4 : goal.overflow_add-result-4
 overflow_add-result-4 c =
