@@ -1,9 +1,10 @@
-// Standard input, block by block.
-ghost use Rattle.std.specs.Prelude.{◌≡◌, length};
-ghost use Rattle.streams.specs.BlockRead.{read_outcome, ReadInto};
+// An input, block by block.
+ghost use Rattle.std.specs.Prelude.{◌≡◌};
+ghost use Rattle.streams.specs.BlockRead.{read_outcome, ReadInto, ReadFrom};
 
-use crate::passing::is_passing;
-use libc::STDIN_FILENO;
+use crate::passing::{is_passing, say_failure};
+use std::io;
+use std::io::{Eprint, Read};
 
 // What a read brought: so many bytes; none, since the input has ended; none, since reading failed.
 #[derive(Clone, Copy)]
@@ -13,35 +14,39 @@ pub enum BlockRead {
     Failed,
 }
 
-// What a read into the block brought that answered `got`.
-fn outcome_of(got: isize, block: &[u8]) -> BlockRead
-    ensures { result ≡ read_outcome got (length block.now) }
+// What a read brought that answered `got`.
+fn outcome_of(got: &io::Result<usize>) -> BlockRead
+    ensures { result ≡ read_outcome got.now }
 {
-    if got < 0 {
+    let Ok(count) = got else {
         return BlockRead::Failed;
-    }
-    let count = io::count(got, block);
-    if count == 0 {
+    };
+    if *count == 0 {
         return BlockRead::Ended;
     }
-    BlockRead::Bytes(count)
+    BlockRead::Bytes(*count)
 }
 
-// Reads one block of standard input, and returns what that brought. Where reading fails, `failure` and the reason are said on standard error.
-pub fn read_block(block: &mut [u8], failure: &[u8]) -> BlockRead
-    ensures { ReadInto result block.new }
+// Reads one block of the input, and returns what that brought. Where reading fails, `failure` and the reason are said on standard error.
+pub fn read_block<R: Read>(
+    rt: &impl Eprint,
+    input: &mut R,
+    block: &mut [u8],
+    failure: &str,
+) -> BlockRead
+    ensures into { ReadInto result block.new }
+    ensures from { ReadFrom (R.remaining input.old) (R.remaining input.new) result block.new }
 {
-    let mut turns = u64::MAX;
-    while turns > 0 {
-        let got = libc::read(STDIN_FILENO, block);
-        if got >= 0 {
-            return outcome_of(got, block);
+    for _ in 0..u64::MAX {
+        let got = input.read(block);
+        match &got {
+            Err(reason) if is_passing(reason) => {}
+            Err(reason) => {
+                say_failure(rt, failure, reason);
+                return outcome_of(&got);
+            }
+            Ok(_) => return outcome_of(&got),
         }
-        if !is_passing() {
-            os::fail(failure);
-            return outcome_of(got, block);
-        }
-        turns -= 1;
     }
     BlockRead::Failed
 }

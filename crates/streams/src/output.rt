@@ -1,28 +1,46 @@
-// Standard output.
-use crate::passing::is_passing;
-use libc::STDOUT_FILENO;
+// An output, to which texts are written whole.
+ghost use Rattle.std.specs.Prelude.{◌≡◌, true};
+ghost use Rattle.std.specs.Io.{WritesAtMost};
+ghost use Rattle.std.specs.Io.KnownBytes.{Appends, WriteAppends};
 
-// Whether writing goes on after what a write answered.
-fn goes_on(got: isize) -> bool {
-    if got > 0 {
-        return true;
+use crate::passing::{is_passing, say_failure};
+use std::io;
+use std::io::{Eprint, ErrorKind, Write};
+
+// Writes the first bytes of a text, and returns how many: none where the write is to be made again.
+fn write_some<W: Write>(output: &mut W, text: &[u8]) -> io::Result<usize>
+    ensures bound { WritesAtMost result text.now }
+    ensures bytes { WriteAppends (W.contents output.old) (W.contents output.new) result text.now }
+{
+    match output.write(text) {
+        Ok(0) => Err(io::Error::from(ErrorKind::WriteZero)),
+        Ok(count) => Ok(count),
+        Err(reason) => {
+            if is_passing(&reason) {
+                Ok(0)
+            } else {
+                Err(reason)
+            }
+        }
     }
-    got < 0 && is_passing()
 }
 
-// Writes all of a text to standard output, and returns whether it did. Where writing fails, `failure` and the reason are said on standard error.
-pub fn write_text(text: &[u8], failure: &[u8]) -> bool {
-    let mut done = 0;
-    let mut turns = u64::MAX;
-    while turns > 0 && done < text.len() {
-        let rest = &text[done..];
-        let got = libc::write(STDOUT_FILENO, rest);
-        if !goes_on(got) {
-            os::fail(failure);
-            return false;
+// Writes all of a text, and returns whether it did. Where writing fails, `failure` and the reason are said on standard error.
+pub fn write_text<W: Write>(rt: &impl Eprint, output: &mut W, text: &[u8], failure: &str) -> bool
+    ensures { result ≡ true → Appends (W.contents output.old) (W.contents output.new) text.now }
+{
+    let mut rest = text;
+    for _ in 0..u64::MAX {
+        if rest.is_empty() {
+            return true;
         }
-        done += io::count(got, rest);
-        turns -= 1;
+        match write_some(output, rest) {
+            Ok(count) => rest = &rest[count..],
+            Err(reason) => {
+                say_failure(rt, failure, &reason);
+                return false;
+            }
+        }
     }
-    done == text.len()
+    rest.is_empty()
 }

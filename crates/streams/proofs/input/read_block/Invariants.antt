@@ -1,9 +1,7 @@
-use mathlib.Core.Path.{◌≡◌}
-use lib.ListN.{length}
+-- The block keeps its length, and a read that is made again brought nothing.
+use Rattle.std.proofs.Common.{◌≡◌, length}
+use Rattle.std.specs.Io.KnownBytes.{Keeps}
 use Rattle.streams.proofs.input.read_block.Given as goal
 
-abbrev pub invariant-loop-turns : goal.invariant-loop-turns
-invariant-loop-turns l = length l.block ≡ length l.initial.block
-
-abbrev pub decreases-loop-turns : goal.decreases-loop-turns
-decreases-loop-turns l = l.turns
+abbrev pub invariant-loop : goal.invariant-loop
+invariant-loop g l = (length l.block ≡ length l.initial.block) × Keeps (g.R.Read.remaining l.initial.input) (g.R.Read.remaining l.input)
