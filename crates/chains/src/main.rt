@@ -24,8 +24,9 @@ fn text_buffer() -> [u8; TABLE_ROOM]
 }
 
 // Writes all lines.
-fn main() {
+fn main(rt: HostRuntime) {
+    let mut output = rt.stdout();
     let mut text = text_buffer();
     let end = put_chains(&mut text);
-    write_text(&text[..end], b"chains: writing");
+    write_text(&rt, &mut output, &text[..end], "chains: writing");
 }

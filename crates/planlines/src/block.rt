@@ -4,6 +4,7 @@ ghost use Rattle.planlines.specs.AnswerBlock.{AnswerBlock};
 
 use crate::stream::write_text;
 use answers::take_turn;
+use std::io::{Eprint, Write};
 
 // How many bytes of an unended line are held, and whether all texts were written.
 #[derive(Clone, Copy)]
@@ -13,7 +14,9 @@ pub struct Answered {
 }
 
 // Answers the lines of a block, the first of which may have begun in the blocks before it: `held` bytes of it stand in `line`.
-pub fn answer_block(
+pub fn answer_block<W: Write>(
+    rt: &impl Eprint,
+    output: &mut W,
     block: &[u8],
     line: &mut [u8],
     held: usize,
@@ -42,7 +45,7 @@ pub fn answer_block(
             out,
         );
         let text = turn.text;
-        written = write_text(&out[..text]);
+        written = write_text(rt, output, &out[..text]);
         at = turn.read;
         kept = turn.held;
     }

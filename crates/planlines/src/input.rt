@@ -1,4 +1,4 @@
-// All of standard input: block by block, and then its end.
+// All of an input: block by block, and then its end.
 ghost use Rattle.std.specs.Prelude.{◌≤◌, length, take};
 ghost use Rattle.texts.specs.Put.{Put};
 ghost use Rattle.answers.specs.TakeTurn.{TurnRoom};
@@ -8,6 +8,7 @@ ghost use Rattle.planlines.specs.AnswerInput.{AnswerInput};
 use crate::block::answer_block;
 use crate::stream::read_block;
 use answers::put_end;
+use std::io::{Eprint, Read, Write};
 use streams::BlockRead;
 
 // How many bytes of an unended line are held, and what the last read brought.
@@ -27,7 +28,10 @@ pub struct Finished {
 
 // Answers the lines that line feeds end, and stops where the input ends, or where reading or writing fails. Each answer is written before the next block
 // is read.
-fn answer_blocks(
+fn answer_blocks<R: Read, W: Write>(
+    rt: &impl Eprint,
+    input: &mut R,
+    output: &mut W,
     block: &mut [u8],
     line: &mut [u8],
     coefficients: &mut [i64],
@@ -40,19 +44,28 @@ fn answer_blocks(
     ensures { result.held ≤ length line.old }
 {
     let mut held = 0;
-    let mut turns = u64::MAX;
-    while turns > 0 {
-        let read = read_block(block);
+    for _ in 0..u64::MAX {
+        let read = read_block(rt, input, block);
         let BlockRead::Bytes(count) = read else {
             return Stopped { held, last: read };
         };
         let some = &block[..count];
-        let answered = answer_block(some, line, held, coefficients, planned, bounds, steps, out);
+        let answered = answer_block(
+            rt,
+            output,
+            some,
+            line,
+            held,
+            coefficients,
+            planned,
+            bounds,
+            steps,
+            out,
+        );
         held = answered.held;
         if !answered.written {
             return Stopped { held, last: read };
         }
-        turns -= 1;
     }
     Stopped {
         held,
@@ -81,7 +94,10 @@ fn put_last(
 }
 
 // Answers every line of the input. The answer to a last line without a line feed is put into `out`, and the caller writes it.
-pub fn answer_input(
+pub fn answer_input<R: Read, W: Write>(
+    rt: &impl Eprint,
+    input: &mut R,
+    output: &mut W,
     block: &mut [u8],
     line: &mut [u8],
     coefficients: &mut [i64],
@@ -93,7 +109,18 @@ pub fn answer_input(
     requires { TurnRoom line.old 0 coefficients.old planned.old bounds.old steps.old out.old }
     ensures { AnswerInput line.new out.new result }
 {
-    let stopped = answer_blocks(block, line, coefficients, planned, bounds, steps, out);
+    let stopped = answer_blocks(
+        rt,
+        input,
+        output,
+        block,
+        line,
+        coefficients,
+        planned,
+        bounds,
+        steps,
+        out,
+    );
     let held = stopped.held;
     let last = stopped.last;
     let text = put_last(last, line, held, coefficients, planned, bounds, steps, out);

@@ -20,7 +20,9 @@ fn text_buffer() -> [u8; TEXT_ROOM]
 }
 
 // All memory that the program uses, however long the input is.
-fn main() {
+fn main(rt: HostRuntime) {
+    let mut input = rt.stdin();
+    let mut output = rt.stdout();
     let mut block = [0u8; 65536];
     let mut line = [0u8; LINE_ROOM];
     let mut coefficients = [0i64; COEFFICIENT_ROOM];
@@ -29,6 +31,9 @@ fn main() {
     let mut steps = [0u16; STEP_ROOM];
     let mut out = text_buffer();
     let finished = answer_input(
+        &rt,
+        &mut input,
+        &mut output,
         &mut block,
         &mut line,
         &mut coefficients,
@@ -38,5 +43,5 @@ fn main() {
         &mut out,
     );
     let text = finished.text;
-    write_text(&out[..text]);
+    write_text(&rt, &mut output, &out[..text]);
 }

@@ -1,7 +1,8 @@
-// The lines of standard input, any number of them. A line stands whole in a buffer of 1 MiB, with what was read after it.
-ghost use Rattle.std.specs.Prelude.{◌+◌, ◌≤◌, length};
+// The lines of an input, any number of them. A line stands whole in a buffer of 1 MiB, with what was read after it.
+ghost use Rattle.std.specs.Prelude.{◌+◌, ◌≤◌, length, IfOk};
 
-use libc::STDIN_FILENO;
+use std::io;
+use std::io::{ErrorKind, Read};
 
 #[derive(Clone, Copy)]
 pub struct Lines {
@@ -48,21 +49,23 @@ pub fn line_of(text: &[u8; 1048576], s: Lines) -> &[u8] {
 
 // The next line; the text after the last line feed is a line too. Text that ends where it was read to before has nothing new: the input is
 // at its end.
-pub fn next_line(text: &mut [u8; 1048576], lines: Lines) -> Lines {
+pub fn next_line<R: Read>(
+    input: &mut R,
+    text: &mut [u8; 1048576],
+    lines: Lines,
+) -> io::Result<Lines> {
     let mut s = lines;
-    let mut turns = u64::MAX;
-    while turns > 0 {
+    for _ in 0..u64::MAX {
         s = sought(text, s);
         if s.found {
-            return s;
+            return Ok(s);
         }
-        s = refilled(text, s);
+        s = refilled(input, text, s)?;
         if s.seen == s.end {
             break;
         }
-        turns -= 1;
     }
-    last(s)
+    Ok(last(s))
 }
 
 // The place of the first line feed, or the end.
@@ -125,20 +128,20 @@ fn last(s: Lines) -> Lines {
 }
 
 // The rest moved to the front, and one read behind it.
-fn refilled(text: &mut [u8; 1048576], s: Lines) -> Lines {
+fn refilled<R: Read>(input: &mut R, text: &mut [u8; 1048576], s: Lines) -> io::Result<Lines> {
     let next = s.next;
     let end = s.end;
     if end < next || 1048576 < end {
-        return placed(0, 0, s.long);
+        return Ok(placed(0, 0, s.long));
     }
     let size = end - next;
     if size == 1048576 {
-        let got = read_behind(text, 0);
-        return placed(0, got, true);
+        let got = read_behind(input, text, 0)?;
+        return Ok(placed(0, got, true));
     }
     moved(text, next, size);
-    let got = read_behind(text, size);
-    placed(size, size + got, s.long)
+    let got = read_behind(input, text, size)?;
+    Ok(placed(size, size + got, s.long))
 }
 
 // The text from a place on, moved to the front.
@@ -156,19 +159,23 @@ fn moved(text: &mut [u8; 1048576], from: usize, size: usize)
 }
 
 // One read behind the buffer's first bytes, and how many bytes came: 0 at the input's end.
-fn read_behind(text: &mut [u8; 1048576], size: usize) -> usize
+fn read_behind<R: Read>(input: &mut R, text: &mut [u8; 1048576], size: usize) -> io::Result<usize>
     requires { size ≤ 1048576 }
-    ensures { size + result ≤ 1048576 }
+    ensures { IfOk result (λ got. size + got ≤ 1048576) }
 {
-    read_from(text, size)
+    read_from(input, text, size)
 }
 
-// The same for a slice, of which a part can be lent.
-fn read_from(text: &mut [u8], from: usize) -> usize
+// The same for a slice, of which a part can be lent. A read that a signal interrupts is made again.
+fn read_from<R: Read>(input: &mut R, text: &mut [u8], from: usize) -> io::Result<usize>
     requires { from ≤ length text.old }
-    ensures { from + result ≤ length text.old }
+    ensures { IfOk result (λ got. from + got ≤ length text.old) }
 {
-    let part = &mut text[from..];
-    let got = libc::read(STDIN_FILENO, part);
-    io::count(got, part)
+    for _ in 0..u64::MAX {
+        match input.read(&mut text[from..]) {
+            Err(reason) if reason.kind() == ErrorKind::Interrupted => {}
+            got => return got,
+        }
+    }
+    Ok(0)
 }

@@ -1,6 +1,7 @@
 // Counting the calls that agree with the recording.
 use crate::field::after;
-use libc::STDOUT_FILENO;
+use std::io;
+use std::io::Print;
 
 #[derive(Clone, Copy)]
 pub struct Tally {
@@ -19,29 +20,26 @@ pub fn started() -> Tally {
 }
 
 // One line more; that it failed is written.
-pub fn counted(t: Tally, agrees: bool) -> Tally {
+pub fn counted(rt: &impl Print, t: Tally, agrees: bool) -> io::Result<Tally> {
     let lines = after(t.lines);
     if agrees {
-        return Tally {
+        return Ok(Tally {
             lines: lines,
             passed: after(t.passed),
             failed: t.failed,
-        };
+        });
     }
-    io::write_all(STDOUT_FILENO, b"failed: ");
-    io::print_decimal(STDOUT_FILENO, lines as u64);
-    io::write_all(STDOUT_FILENO, b"\n");
-    Tally {
+    println!(rt; "failed: {lines}")?;
+    Ok(Tally {
         lines: lines,
         passed: t.passed,
         failed: after(t.failed),
-    }
+    })
 }
 
 // The last line of the output.
-pub fn print_tally(t: Tally) {
-    io::print_decimal(STDOUT_FILENO, t.passed as u64);
-    io::write_all(STDOUT_FILENO, b" passed, ");
-    io::print_decimal(STDOUT_FILENO, t.failed as u64);
-    io::write_all(STDOUT_FILENO, b" failed\n");
+pub fn print_tally(rt: &impl Print, t: Tally) -> io::Result<()> {
+    let passed = t.passed;
+    let failed = t.failed;
+    println!(rt; "{passed} passed, {failed} failed")
 }

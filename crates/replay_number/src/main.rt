@@ -16,6 +16,7 @@ use interpolate::interpolate_agrees;
 use parity::{parity_agrees, parity_whole_agrees};
 use recording::read_word;
 use split::split_degree_agrees;
+use std::io;
 
 // Whether our call answers as the line says; a line with another call, or not in the form, does not agree.
 fn agrees(line: &[u8]) -> bool {
@@ -63,19 +64,18 @@ fn value_agrees(line: &[u8]) -> bool {
     false
 }
 
-fn main() {
+fn main(rt: HostRuntime) -> io::Result<()> {
+    let mut input = rt.stdin();
     let mut text = [0u8; 1048576];
     let mut lines = recording::opened();
     let mut tally = recording::started();
-    let mut turns = u64::MAX;
-    while turns > 0 {
-        lines = recording::next_line(&mut text, lines);
+    for _ in 0..u64::MAX {
+        lines = recording::next_line(&mut input, &mut text, lines)?;
         if !lines.found {
             break;
         }
         let line = recording::line_of(&text, lines);
-        tally = recording::counted(tally, agrees(line));
-        turns -= 1;
+        tally = recording::counted(&rt, tally, agrees(line))?;
     }
-    recording::print_tally(tally);
+    recording::print_tally(&rt, tally)
 }
