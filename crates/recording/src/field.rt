@@ -37,14 +37,12 @@ pub fn after(n: usize) -> usize {
 pub fn end_of(line: &[u8], at: usize) -> usize
     ensures { at ≤ result }
 {
-    let mut i = at;
-    while i < line.len() {
+    for i in at..line.len() {
         if line[i] == b'\t' {
             return i;
         }
-        i += 1;
     }
-    i
+    at.max(line.len())
 }
 
 // Whether the field before `next` was the line's last.
@@ -135,8 +133,7 @@ fn read_digits(line: &[u8], at: usize, base: u64) -> Number
     let end = end_of(line, at);
     let next = after(end);
     let mut value = 0;
-    let mut i = at;
-    while i < line.len() {
+    for i in at..line.len() {
         if end <= i {
             break;
         }
@@ -149,10 +146,9 @@ fn read_digits(line: &[u8], at: usize, base: u64) -> Number
             };
         }
         value = shifted(value, base) + d;
-        i += 1;
     }
     Number {
-        ok: at < i,
+        ok: at < end,
         value: value,
         next: next,
     }

@@ -47,13 +47,10 @@ pub fn read_real(line: &[u8], at: usize) -> Real {
 
 // Whether two numbers have the same bits, one NaN counting as any other.
 pub fn same(x: f64, y: f64) -> bool {
-    if x != x {
-        return y != y;
+    if x.is_nan() || y.is_nan() {
+        return x.is_nan() && y.is_nan();
     }
-    if y != y {
-        return false;
-    }
-    f64::to_bits(x) == f64::to_bits(y)
+    x.to_bits() == y.to_bits()
 }
 
 // Whether the field is our number.

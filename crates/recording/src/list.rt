@@ -16,8 +16,7 @@ pub struct List {
 pub fn read_real_run(line: &[u8], at: usize, count: usize, out: &mut [f64]) -> List {
     let mut ok = count <= out.len();
     let mut next = at;
-    let mut i = 0;
-    while i < out.len() {
+    for i in 0..out.len() {
         if !ok || count <= i {
             break;
         }
@@ -26,7 +25,6 @@ pub fn read_real_run(line: &[u8], at: usize, count: usize, out: &mut [f64]) -> L
         out[i] = value;
         ok = element.ok;
         next = element.next;
-        i += 1;
     }
     List {
         ok: ok,
@@ -52,8 +50,7 @@ pub fn read_wholes(line: &[u8], at: usize, out: &mut [i64]) -> List {
     let count = n.value as usize;
     let mut ok = n.ok && count <= out.len();
     let mut next = n.next;
-    let mut i = 0;
-    while i < out.len() {
+    for i in 0..out.len() {
         if !ok || count <= i {
             break;
         }
@@ -62,7 +59,6 @@ pub fn read_wholes(line: &[u8], at: usize, out: &mut [i64]) -> List {
         out[i] = value;
         ok = element.ok;
         next = element.next;
-        i += 1;
     }
     List {
         ok: ok,
@@ -82,8 +78,7 @@ pub fn read_u16s(line: &[u8], at: usize, out: &mut [u16]) -> List {
     let count = n.value as usize;
     let mut ok = n.ok && count <= out.len();
     let mut next = n.next;
-    let mut i = 0;
-    while i < out.len() {
+    for i in 0..out.len() {
         if !ok || count <= i {
             break;
         }
@@ -92,7 +87,6 @@ pub fn read_u16s(line: &[u8], at: usize, out: &mut [u16]) -> List {
         out[i] = narrow(value);
         ok = element.ok && value < 65536;
         next = element.next;
-        i += 1;
     }
     List {
         ok: ok,
@@ -106,15 +100,13 @@ pub fn match_reals(line: &[u8], at: usize, ours: &[f64]) -> Word {
     let n = read_number(line, at);
     let mut ok = n.ok && n.value as usize == ours.len();
     let mut next = n.next;
-    let mut i = 0;
-    while i < ours.len() {
+    for i in 0..ours.len() {
         if !ok {
             break;
         }
         let element = match_real(line, next, ours[i]);
         ok = element.ok;
         next = element.next;
-        i += 1;
     }
     Word { ok: ok, next: next }
 }
@@ -124,8 +116,7 @@ pub fn match_wholes(line: &[u8], at: usize, ours: &[i64]) -> Word {
     let n = read_number(line, at);
     let mut ok = n.ok && n.value as usize == ours.len();
     let mut next = n.next;
-    let mut i = 0;
-    while i < ours.len() {
+    for i in 0..ours.len() {
         if !ok {
             break;
         }
@@ -133,7 +124,6 @@ pub fn match_wholes(line: &[u8], at: usize, ours: &[i64]) -> Word {
         let value = element.value;
         ok = element.ok && value == ours[i];
         next = element.next;
-        i += 1;
     }
     Word { ok: ok, next: next }
 }
@@ -164,12 +154,10 @@ pub fn first_u16s(buffer: &[u16], count: usize) -> &[u16] {
 
 // Tells whether nothing was written from a place on.
 pub fn is_unwritten(out: &[i64], from: usize) -> bool {
-    let mut i = from;
-    while i < out.len() {
+    for i in from..out.len() {
         if out[i] != UNWRITTEN {
             return false;
         }
-        i += 1;
     }
     true
 }

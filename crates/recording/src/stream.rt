@@ -74,12 +74,10 @@ fn feed(text: &[u8; 1048576], from: usize, end: usize) -> usize
     requires end_bound { end ≤ 1048576 }
     ensures { result ≤ end }
 {
-    let mut i = from;
-    while i < end {
+    for i in from..end {
         if text[i] == b'\n' {
             return i;
         }
-        i += 1;
     }
     end
 }
@@ -151,10 +149,8 @@ fn moved(text: &mut [u8; 1048576], from: usize, size: usize)
     if from == 0 {
         return;
     }
-    let mut i = 0;
-    while i < size {
+    for i in 0..size {
         text[i] = text[from + i];
-        i += 1;
     }
 }
 

@@ -1,6 +1,6 @@
--- `recording::float::is_nan_pattern` meets its contract: that the NaN patterns are those above infinity's is a law of the logic.
-use mathlib.Core.Path.{sym}
-use lib.Ieee.{binary64}
+-- That the patterns of a NaN are those above infinity's is a law of the logic.
+use Rattle.std.proofs.Common.{sym}
+use Rattle.std.specs.Float.{binary64}
 use lib.Ieee.Bits.{nan_bits_above}
 use Rattle.recording.proofs.float.is_nan_pattern.Goals as goal
 
