@@ -23,8 +23,7 @@ fn match_lists(line: &[u8], at: usize, count: usize, out: &[i64], bounds: &[u16]
     let mut ok = lists.ok;
     let mut next = lists.next;
     let mut from = 0;
-    let mut i = 0;
-    while i < bounds.len() {
+    for i in 0..bounds.len() {
         if !ok || count <= i {
             break;
         }
@@ -33,10 +32,9 @@ fn match_lists(line: &[u8], at: usize, count: usize, out: &[i64], bounds: &[u16]
         ok = list.ok;
         next = list.next;
         from = to;
-        i += 1;
     }
     Word {
-        ok: ok && i == count,
+        ok: ok && count <= bounds.len(),
         next: next,
     }
 }

@@ -102,8 +102,7 @@ pub fn read_members(line: &[u8], at: usize) -> MembersField {
     let mut members = [wrong; MEMBERS];
     let mut ok = count.ok;
     let mut next = count.next;
-    let mut i = 0;
-    while i < MEMBERS {
+    for i in 0..MEMBERS {
         if !ok || count.value as usize <= i {
             break;
         }
@@ -112,7 +111,6 @@ pub fn read_members(line: &[u8], at: usize) -> MembersField {
         members[i] = member;
         ok = field.ok;
         next = field.next;
-        i += 1;
     }
     MembersField {
         ok: ok,

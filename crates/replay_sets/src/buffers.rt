@@ -25,24 +25,20 @@ pub fn lent_u16s(buffer: &mut [u16], count: usize) -> &mut [u16] {
 
 // Tells whether the places from `from` on are unchanged.
 pub fn wholes_kept(buffer: &[i64], from: usize) -> bool {
-    let mut i = from;
-    while i < buffer.len() {
+    for i in from..buffer.len() {
         if buffer[i] != WHOLE {
             return false;
         }
-        i += 1;
     }
     true
 }
 
 // Tells the same of a buffer of u16 numbers.
 pub fn u16s_kept(buffer: &[u16], from: usize) -> bool {
-    let mut i = from;
-    while i < buffer.len() {
+    for i in from..buffer.len() {
         if buffer[i] != NUMBER {
             return false;
         }
-        i += 1;
     }
     true
 }
@@ -57,15 +53,13 @@ fn match_u16s(line: &[u8], at: usize, ours: &[u16]) -> Word {
     let length = read_number(line, at);
     let mut ok = length.ok && length.value as usize == ours.len();
     let mut next = length.next;
-    let mut i = 0;
-    while i < ours.len() {
+    for i in 0..ours.len() {
         if !ok {
             break;
         }
         let element = read_number(line, next);
         ok = element.ok && element.value == wide(ours[i]);
         next = element.next;
-        i += 1;
     }
     Word { ok: ok, next: next }
 }

@@ -34,13 +34,11 @@ fn is_zero(head: Head) -> bool {
 
 // Tells whether the heads from `from` on are zero.
 pub fn are_zero(heads: [Head; MEMBERS], from: usize) -> bool {
-    let mut i = from;
-    while i < MEMBERS {
+    for i in from..MEMBERS {
         let head = heads[i];
         if !is_zero(head) {
             return false;
         }
-        i += 1;
     }
     true
 }
@@ -87,8 +85,7 @@ fn match_head(line: &[u8], told: Word, head: Head) -> Word {
 // Tells whether all agreed so far, and the members' heads are the recorded ones and have the members' settings.
 pub fn match_heads(line: &[u8], told: Word, handed: Members, heads: [Head; MEMBERS]) -> Word {
     let mut all = told;
-    let mut i = 0;
-    while i < MEMBERS {
+    for i in 0..MEMBERS {
         if handed.count <= i {
             break;
         }
@@ -99,7 +96,6 @@ pub fn match_heads(line: &[u8], told: Word, handed: Members, heads: [Head; MEMBE
             ok: one.ok && has_settings(head, member),
             next: one.next,
         };
-        i += 1;
     }
     all
 }
