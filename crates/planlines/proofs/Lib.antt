@@ -1,2 +1,3 @@
 mod BlockLaws
 mod LastLaws
+mod ToldLaws

@@ -1,5 +1,5 @@
--- What the program holds between two reads: the bytes of the line that the input so far doesn't end. What it writes in between can't be said here, since
--- the contracts of reading and writing say nothing of the bytes; answers/specs/TakeTurn says it of the call between them.
+-- What the program holds between two reads: the bytes of the line that the input so far doesn't end. What it writes in between stands in the contract of
+-- `answer_block`.
 use Rattle.std.specs.Prelude.{◌≡◌, true, List, ℕ, ◌≤◌, length, take}
 use Rattle.answers.specs.Turns.{turn_held}
 use Rattle.planlines.specs.declared.block.Answered.{Answered}

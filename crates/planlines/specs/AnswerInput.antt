@@ -1,5 +1,5 @@
 -- How answering the input ends: the text that is left to be written is the one for what the last read brought and the bytes held then, and so nothing unless
--- that read said that the input has ended. That `last` is what the last read said is read in the source, since no contract tells which bytes are read.
+-- that read said that the input has ended.
 use Rattle.std.specs.Prelude.{◌≡◌, List, ℕ, ◌≤◌, length, take}
 use Rattle.planlines.specs.LastText.{last_text}
 use Rattle.planlines.specs.declared.input.Finished.{Finished}

@@ -1,3 +1,4 @@
 pub mod AnswerBlock
+pub mod BlocksAnswered
 pub mod LastText
 pub mod AnswerInput

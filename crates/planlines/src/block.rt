@@ -1,4 +1,7 @@
 // The answers to the lines of one block, written as they are made.
+ghost use Rattle.std.specs.Prelude.{◌≡◌, true, take};
+ghost use Rattle.std.specs.Io.KnownBytes.{Appends};
+ghost use Rattle.answers.specs.Turns.{turn_text};
 ghost use Rattle.answers.specs.TakeTurn.{TurnRoom};
 ghost use Rattle.planlines.specs.AnswerBlock.{AnswerBlock};
 
@@ -27,7 +30,9 @@ pub fn answer_block<W: Write>(
     out: &mut [u8],
 ) -> Answered
     requires { TurnRoom line.old held coefficients.old planned.old bounds.old steps.old out.old }
-    ensures { AnswerBlock block.now line.old held line.new result }
+    ensures held { AnswerBlock block.now line.old held line.new result }
+    ensures written { result.written ≡ true → Appends (W.contents output.old) (W.contents output.new)
+        (turn_text (take held line.old) block.now) }
 {
     let mut at = 0;
     let mut kept = held;

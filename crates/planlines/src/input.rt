@@ -1,12 +1,13 @@
 // All of an input: block by block, and then its end.
-ghost use Rattle.std.specs.Prelude.{◌≤◌, length, take};
+ghost use Rattle.std.specs.Prelude.{◌≡◌, true, ◌≤◌, ◌<◌, length, take, IfSome};
 ghost use Rattle.texts.specs.Put.{Put};
 ghost use Rattle.answers.specs.TakeTurn.{TurnRoom};
 ghost use Rattle.planlines.specs.LastText.{last_text};
 ghost use Rattle.planlines.specs.AnswerInput.{AnswerInput};
+ghost use Rattle.planlines.specs.BlocksAnswered.{BlocksAnswered, OutputFor};
 
 use crate::block::answer_block;
-use crate::stream::read_block;
+use crate::stream::{read_block, write_text};
 use answers::put_end;
 use std::io::{Eprint, Read, Write};
 use streams::BlockRead;
@@ -41,7 +42,9 @@ fn answer_blocks<R: Read, W: Write>(
     out: &mut [u8],
 ) -> Stopped
     requires { TurnRoom line.old 0 coefficients.old planned.old bounds.old steps.old out.old }
-    ensures { result.held ≤ length line.old }
+    ensures held { result.held ≤ length line.old }
+    ensures answered { BlocksAnswered (R.remaining input.old) (R.remaining input.new) (W.contents output.old) (W.contents output.new)
+        (take result.held line.new) result.last block.old }
 {
     let mut held = 0;
     for _ in 0..u64::MAX {
@@ -107,7 +110,9 @@ pub fn answer_input<R: Read, W: Write>(
     out: &mut [u8],
 ) -> Finished
     requires { TurnRoom line.old 0 coefficients.old planned.old bounds.old steps.old out.old }
-    ensures { AnswerInput line.new out.new result }
+    ensures last { AnswerInput line.new out.new result }
+    ensures answered { BlocksAnswered (R.remaining input.old) (R.remaining input.new) (W.contents output.old) (W.contents output.new)
+        (take result.held line.new) result.last block.old }
 {
     let stopped = answer_blocks(
         rt,
@@ -125,4 +130,40 @@ pub fn answer_input<R: Read, W: Write>(
     let last = stopped.last;
     let text = put_last(last, line, held, coefficients, planned, bounds, steps, out);
     Finished { last, held, text }
+}
+
+// Answers every line of the input, and returns whether all of it was read and all answers are written: then the output for the input is written.
+pub fn write_answers<R: Read, W: Write>(
+    rt: &impl Eprint,
+    input: &mut R,
+    output: &mut W,
+    block: &mut [u8],
+    line: &mut [u8],
+    coefficients: &mut [i64],
+    planned: &mut [i64],
+    bounds: &mut [u16],
+    steps: &mut [u16],
+    out: &mut [u8],
+) -> bool
+    requires { TurnRoom line.old 0 coefficients.old planned.old bounds.old steps.old out.old }
+    ensures { result ≡ true → 0 < length block.old → IfSome (R.remaining input.old)
+        (OutputFor (W.contents output.old) (W.contents output.new)) }
+{
+    let finished = answer_input(
+        rt,
+        input,
+        output,
+        block,
+        line,
+        coefficients,
+        planned,
+        bounds,
+        steps,
+        out,
+    );
+    let BlockRead::Ended = finished.last else {
+        return false;
+    };
+    let text = finished.text;
+    write_text(rt, output, &out[..text])
 }

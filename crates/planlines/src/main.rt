@@ -9,8 +9,7 @@ ghost use Rattle.std.specs.Prelude.{◌≡◌, length};
 ghost use Rattle.answers.specs.Limits.{text_room};
 
 use answers::{COEFFICIENT_ROOM, LINE_ROOM, LIST_ROOM, STEP_ROOM, TEXT_ROOM};
-use input::answer_input;
-use stream::write_text;
+use input::write_answers;
 
 // A buffer for text. The contract keeps its length alone, so that no proof looks at a million zeros.
 fn text_buffer() -> [u8; TEXT_ROOM]
@@ -30,7 +29,7 @@ fn main(rt: HostRuntime) {
     let mut bounds = [0u16; LIST_ROOM];
     let mut steps = [0u16; STEP_ROOM];
     let mut out = text_buffer();
-    let finished = answer_input(
+    write_answers(
         &rt,
         &mut input,
         &mut output,
@@ -42,6 +41,4 @@ fn main(rt: HostRuntime) {
         &mut steps,
         &mut out,
     );
-    let text = finished.text;
-    write_text(&rt, &mut output, &out[..text]);
 }

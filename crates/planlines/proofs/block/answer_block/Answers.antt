@@ -1,23 +1,20 @@
--- `planlines::block::answer_block` meets its contract. The loop's invariant: what is held stands for the bytes of the block taken so far. Each turn takes
--- some, so the rest gets shorter.
-use mathlib.Core.Path.{◌≡◌, refl, sym, ◌∙◌}
-use mathlib.Core.Bool.{true}
-use Prim.Native.Nat.{◌-◌, ◌≤◌}
+-- Before the first turn nothing is taken of the block; a turn that takes a part holds and writes what stands for one part more.
+use mathlib.Core.Path.{refl, ◌∙◌}
+use Prim.Native.Nat.{◌≤◌}
 use native.Mathlib.Omega.{arith}
-use borrow.Author.Tests.{ltb-true, ltb-false}
-use lib.ListN.{length, take}
-use lib.Seq.{length-take-le}
-use Rattle.planlines.proofs.BlockLaws.{held_start, held_more, held_end, unwritten}
+use lib.ListN.{take}
+use Rattle.planlines.proofs.BlockLaws.{held_start, held_more, put_front}
+use Rattle.planlines.proofs.ToldLaws.{part_none, turn_told}
 use Rattle.planlines.proofs.block.answer_block.Goals as goal
 
 pub loop-written-init : goal.loop-written-init
-loop-written-init c =
+loop-written-init g c =
     let a = c.args in
-    let room = c.requires in
     record {
       within = omega arith;
-      line_held = held_start a.block.now a.line.now a.held room.line_room_lem;
-      kept_within = room.held_within;
+      line_held = held_start a.block.now a.line.now a.held c.requires.line_room_lem;
+      told = λ _. part_none _ (take a.held a.line.now) a.block.now;
+      kept_within = c.requires.held_within;
       line_long = refl;
       coefficients_long = refl;
       planned_long = refl;
@@ -26,67 +23,30 @@ loop-written-init c =
       out_long = refl;
     }
 
-pub take_turn-turn-requires : goal.take_turn-turn-requires
-take_turn-turn-requires c =
-    let inv = c.loop-written.invariant in
-    let room = c.requires in (
-      record {
-        line_room_lem = inv.line_long ∙ room.line_room_lem;
-        held_within = inv.kept_within;
-        coefficient_room_lem = omega (arith, room.coefficient_room_lem, inv.coefficients_long);
-        planned_room = omega (arith, room.planned_room, inv.planned_long);
-        boundary_room = omega (arith, room.boundary_room, inv.bounds_long);
-        step_room_lem = omega (arith, room.step_room_lem, inv.steps_long);
-        text_room_lem = inv.out_long ∙ room.text_room_lem;
-      },
-      inv.within,
-    )
-
-pub slice_bounds-write_text-end : goal.slice_bounds-write_text-end
-slice_bounds-write_text-end c =
-    omega (arith, c.take_turn-turn.ensures.text_within, c.take_turn-turn.auto.out)
-
-pub slice_bounds-write_text-end-in-loop-written : goal.slice_bounds-write_text-end-in-loop-written
-slice_bounds-write_text-end-in-loop-written c =
-    sym (length-take-le _ _ (omega (arith, c.take_turn-turn.ensures.text_within, c.take_turn-turn.auto.out)))
-
-pub loop-written-smaller : goal.loop-written-smaller
-loop-written-smaller c =
-    omega (arith, c.take_turn-turn.ensures.onward (ltb-true _ _ c.if-at-block.true-raw))
-
 pub loop-written-preserved : goal.loop-written-preserved
-loop-written-preserved c =
+loop-written-preserved g c =
+    let block = c.args.block.now in
+    let first = take c.args.held c.args.line.now in
+    let at = c.loop-written.at in
     let inv = c.loop-written.invariant in
-    let onward = c.take_turn-turn.ensures.onward (ltb-true _ _ c.if-at-block.true-raw) in
-    let reaches : c.loop-written.at ≤ c.take_turn-turn.result.read = omega arith in
+    let turn = c.take_turn-turn in
+    let reaches : at ≤ turn.result.read = omega (arith, turn.ensures.onward c.if-at-block.true) in
+    let before = g.W.Write.contents c.args.output.now in
+    let between = g.W.Write.contents c.loop-written.output in
+    let after = g.W.Write.contents c.write_text-written.new.output in
+    let held = take c.loop-written.kept c.loop-written.line in
+    let text_is = put_front turn.ensures.text turn.ensures.text_within in
     record {
-      within = c.take_turn-turn.ensures.within;
-      line_held =
-          held_more _ _ _ _ c.loop-written.at c.loop-written.auto c.take_turn-turn.result inv.line_held reaches
-          c.take_turn-turn.ensures.line_held;
-      kept_within = omega (arith, c.take_turn-turn.ensures.held_within, c.take_turn-turn.auto.line);
-      line_long = c.take_turn-turn.auto.line ∙ inv.line_long;
-      coefficients_long = c.take_turn-turn.auto.coefficients ∙ inv.coefficients_long;
-      planned_long = c.take_turn-turn.auto.planned ∙ inv.planned_long;
-      bounds_long = c.take_turn-turn.auto.bounds ∙ inv.bounds_long;
-      steps_long = c.take_turn-turn.auto.steps ∙ inv.steps_long;
-      out_long = c.take_turn-turn.auto.out ∙ inv.out_long;
-    }
-
-pub returns-else-at-block : goal.returns-else-at-block
-returns-else-at-block c =
-    let loop = c.loop-written in
-    let inv = loop.invariant in
-    record {
-      within = omega (arith, inv.kept_within, inv.line_long);
-      line_held = λ e. held_end _ _ loop.line loop.at loop.auto inv.line_held (ltb-false _ _ c.if-at-block.false-raw);
-    }
-
-pub returns-after-loop-written : goal.returns-after-loop-written
-returns-after-loop-written c =
-    let loop = c.loop-written in
-    let inv = loop.invariant in
-    record {
-      within = omega (arith, inv.kept_within, inv.line_long);
-      line_held = λ (e : loop.written ≡ true). unwritten c.loop-written-test.false e;
+      within = turn.ensures.within;
+      line_held = held_more _ _ _ _ at c.loop-written.kept turn.result inv.line_held reaches turn.ensures.line_held;
+      told = λ written.
+          turn_told before between after first held block at turn.result reaches (inv.told c.loop-written-test.true) inv.line_held
+          (take turn.result.text turn.new.out) text_is (c.write_text-written.ensures written);
+      kept_within = omega (arith, turn.ensures.held_within, turn.auto.line);
+      line_long = turn.auto.line ∙ inv.line_long;
+      coefficients_long = turn.auto.coefficients ∙ inv.coefficients_long;
+      planned_long = turn.auto.planned ∙ inv.planned_long;
+      bounds_long = turn.auto.bounds ∙ inv.bounds_long;
+      steps_long = turn.auto.steps ∙ inv.steps_long;
+      out_long = turn.auto.out ∙ inv.out_long;
     }

@@ -5,7 +5,7 @@ use Rattle.planlines.proofs.LastLaws.{last_ended, last_other}
 use Rattle.planlines.proofs.input.put_last.Goals as goal
 
 pub returns-in_default : goal.returns-in_default
-returns-in_default c = put_same (put_none _ 0) (last_other _ _ c.in_default-own.keys2)
+returns-in_default c = put_same (put_none _ 0) (last_other _ _ c.in_default.not-Ended)
 
 pub returns : goal.returns
 returns c =
