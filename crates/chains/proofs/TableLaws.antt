@@ -5,6 +5,9 @@ use mathlib.Core.List.{List, [], ◌++◌, append-nil, append_assoc}
 use Prim.Native.Nat.{ℕ, zero, suc, ◌+◌, ◌-◌, ◌≤◌}
 use native.Mathlib.Numerals.{add-one}
 use native.Mathlib.Omega.{arith}
+use lib.ListN.{length, take}
+use Rattle.lines.proofs.BufferHolds.{stores_back}
+use Rattle.texts.specs.Put.{Put}
 use Rattle.chains.specs.Letters.{letters_at}
 use Rattle.chains.specs.ZeroChain.{zero_chain, closed_bits}
 use Rattle.chains.specs.Line.{chain_line}
@@ -49,3 +52,10 @@ no_lines degree = refl
 pub no_degrees : degrees_from 2 0 ≡ []
 unfolding degrees_from
 no_degrees = refl
+
+-- a text that is put at the start of a buffer and ends within it stands there
+pub put_front : {out text left : List ℕ} {r : ℕ} → Put out 0 text left r → r ≤ length out → take r left ≡ text
+put_front {out} {text} {left} {r} put room =
+    let next : r ≡ length text = omega (arith, put.next) in
+    let fits : length text ≤ length out = omega (arith, next, room) in
+    rw (put.buffer, next) (stores_back out text fits)

@@ -7,9 +7,11 @@ mod line;
 mod table;
 mod weigh;
 
-ghost use Rattle.std.specs.Prelude.{◌≡◌, length};
-ghost use Rattle.chains.specs.Table.{table_room};
+ghost use Rattle.std.specs.Prelude.{◌≡◌, true, ◌≤◌, length};
+ghost use Rattle.std.specs.Io.KnownBytes.{Appends};
+ghost use Rattle.chains.specs.Table.{table_room, chains_text};
 
+use std::io::{Eprint, Write};
 use streams::write_text;
 use table::put_chains;
 
@@ -23,10 +25,17 @@ fn text_buffer() -> [u8; TABLE_ROOM]
     [0; TABLE_ROOM]
 }
 
-// Writes all lines.
+// Writes all lines, which are put into the buffer first, and returns whether it did.
+fn write_chains<W: Write>(rt: &impl Eprint, output: &mut W, text: &mut [u8]) -> bool
+    requires { table_room ≤ length text.old }
+    ensures { result ≡ true → Appends (W.contents output.old) (W.contents output.new) chains_text }
+{
+    let end = put_chains(text);
+    write_text(rt, output, &text[..end], "chains: writing")
+}
+
 fn main(rt: HostRuntime) {
     let mut output = rt.stdout();
     let mut text = text_buffer();
-    let end = put_chains(&mut text);
-    write_text(&rt, &mut output, &text[..end], "chains: writing");
+    write_chains(&rt, &mut output, &mut text);
 }
