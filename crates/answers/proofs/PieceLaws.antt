@@ -1,14 +1,13 @@
--- Bytes of a block up to its first line feed, and bytes held behind others: one byte more at a time, and then all of them.
-use mathlib.Core.Path.{◌≡◌, refl, ap, sym, ◌∙◌}
+-- Bytes of a block up to its first line feed, one byte more at a time; and what a piece takes of them.
+use mathlib.Core.Path.{◌≡◌, refl, ap, ◌∙◌}
 use mathlib.Core.Bool.{Bool, true, false, not, ◌&&◌}
-use mathlib.Core.List.{List, [], ◌∷◌, ◌++◌, append_assoc, append-nil}
-use Prim.Native.Nat.{ℕ, suc, ◌+◌, ◌-◌, ◌<◌, ◌≤◌, min}
+use mathlib.Core.List.{List, [], ◌∷◌, ◌++◌}
+use Prim.Native.Nat.{ℕ, suc, ◌+◌, ◌-◌, ◌<◌, ◌≤◌}
 use native.Mathlib.Omega.{arith}
 use lib.Dec.{eqb}
-use lib.ListN.{length, get_or, take, drop, set, length-drop}
-use lib.Seq.{take-suc, take-suc-set, take-append-add, length-take-le, get_or-drop}
+use lib.ListN.{length, get_or, take, drop, length-drop}
+use lib.Seq.{take-suc, get_or-drop}
 use Rattle.lines.specs.Bytes.{line_feed}
-use Rattle.texts.proofs.PartLaws.{first_is}
 use Rattle.answers.specs.InputLines.{no_feed}
 use Rattle.answers.specs.Limits.{line_room}
 use Rattle.answers.specs.Turns.{held_of}
@@ -40,34 +39,6 @@ pub free_more : (xs : List ℕ) (b : ℕ) → no_feed xs ≡ true → eqb b line
 unfolding no_feed
 free_more [] b free other = rw other refl
 free_more (x ∷ xs) b free other = and_keeps (not (eqb x line_feed)) (no_feed xs) (no_feed (xs ++ (b ∷ []))) (λ rest. free_more xs b rest other) free
-
--- ---- bytes behind those that are held
-
-pub held_none : (line bytes : List ℕ) (held : ℕ) → take (held + 0) line ≡ take held line ++ take 0 bytes
-held_none line bytes held =
-    let same : held + 0 ≡ held = omega arith in
-    ap (λ (n : ℕ). take n line) same ∙ sym (append-nil (take held line))
-
-pub held_more : (line line₀ bytes : List ℕ) (held i : ℕ) → take (held + i) line ≡ take held line₀ ++ take i bytes → held + i < length line
-    → i < length bytes → take (held + (i + 1)) (set line (held + i) (get_or bytes i 0)) ≡ take held line₀ ++ take (i + 1) bytes
-held_more line line₀ bytes held i before room there =
-    let byte = get_or bytes i 0 in
-    let place : held + (i + 1) ≡ suc (held + i) = omega arith in
-    let one : i + 1 ≡ suc i = omega arith in
-    ap (λ (n : ℕ). take n (set line (held + i) byte)) place
-    ∙ take-suc-set line (held + i) byte room
-    ∙ ap (λ (l : List ℕ). l ++ (byte ∷ [])) before
-    ∙ append_assoc (take held line₀) (take i bytes) (byte ∷ [])
-    ∙ ap (λ (l : List ℕ). take held line₀ ++ l) (sym (take-suc bytes i 0 there) ∙ ap (λ (n : ℕ). take n bytes) (sym one))
-
-pub held_all : (line₀ bytes : List ℕ) (held count : ℕ) → held ≤ length line₀ → count ≡ min (length bytes) (length line₀ - held)
-    → take held line₀ ++ take count bytes ≡ take (length line₀) (take held line₀ ++ bytes)
-held_all line₀ bytes held count within counted =
-    let front : length (take held line₀) ≡ held = length-take-le held line₀ within in
-    let whole : length (take held line₀) + (length line₀ - held) ≡ length line₀ = omega arith in
-    ap (λ (l : List ℕ). take held line₀ ++ l) (first_is bytes (length line₀ - held) count (omega arith))
-    ∙ sym (take-append-add (take held line₀) bytes (length line₀ - held))
-    ∙ ap (λ (n : ℕ). take n (take held line₀ ++ bytes)) whole
 
 -- ---- a piece
 

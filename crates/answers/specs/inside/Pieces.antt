@@ -1,5 +1,5 @@
 -- What the functions that take a block's bytes say to one another.
-use Rattle.std.specs.Prelude.{◌≡◌, Bool, true, cond, List, [], ◌∷◌, ◌++◌, ℕ, ◌+◌, ◌-◌, ◌<◌, ◌≤◌, length, get_or, take, drop}
+use Rattle.std.specs.Prelude.{◌≡◌, true, cond, List, [], ◌∷◌, ◌++◌, ℕ, ◌-◌, ◌<◌, ◌≤◌, length, get_or, take, drop}
 use Rattle.lines.specs.Bytes.{line_feed}
 use Rattle.answers.specs.Answer.{answer_text}
 use Rattle.answers.specs.InputLines.{no_feed}

@@ -14,9 +14,6 @@ returns-then-held-eq0 c =
     let a = c.args in
     put_same (put_none a.out.now 0) (sym end_none ∙ ap (λ (n : ℕ). end_text (take n a.line.now)) (sym c.if-held-eq0.true))
 
-pub slice_bounds-put_answer-end : goal.slice_bounds-put_answer-end
-slice_bounds-put_answer-end c = sym (length-take-le _ _ c.requires.held_in_bounds)
-
 pub returns : goal.returns
 returns c =
     let a = c.args in
