@@ -22,7 +22,9 @@ known c =
 plain_most : (c : After-plain_steps-four) → c.plain_steps-four.result ≤ c.args.outline.lists - 1
 plain_most c =
     let outline = c.args.outline in
-    omega (arith, four_most outline.plain outline.lists (known c.before).nonempty, c.plain_steps-four.ensures)
+    let range = outline_range c.args.strategy (planned_parity c.args.fold c.args.parity) c.args.basis c.args.degree
+    c.requires.0 c.requires.1 in
+    omega (arith, four_most outline.plain outline.lists range.nonempty, c.plain_steps-four.ensures)
 
 pub power_of_two-base-requires : goal.power_of_two-base-requires
 power_of_two-base-requires c = omega (arith, (known (goal.at.power_of_two-base-requires c).After-planned_transform-transform).split.to)

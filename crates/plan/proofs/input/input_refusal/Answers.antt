@@ -1,7 +1,11 @@
 -- `plan::input::input_refusal` meets its contract: a refusal of degree and settings stays whatever tests follow; where there is none, the tests of
 -- the coefficients decide, and are made in the definition's order.
 use mathlib.Core.Path.{◌≡◌, sym, ap, ◌∙◌}
+use mathlib.Core.Bool.{Bool}
+use mathlib.Core.List.{List}
 use Prim.Native.Nat.{ℕ}
+use lib.IntN.{ℤ}
+use Rattle.algebra.specs.declared.Parity.{Parity}
 use native.Mathlib.Omega.{arith}
 use Rattle.number.specs.Refusal.{first_refusal}
 use Rattle.number.specs.Tests.{degree_of}
@@ -9,26 +13,25 @@ use Rattle.number.proofs.Refusal.{first_kept}
 use Rattle.plan.specs.PlanCall.{settings_tests, coefficient_tests, input_tests}
 use Rattle.plan.proofs.PlanTests.{late_input}
 use Rattle.plan.proofs.input.input_refusal.Goals as goal
-use Rattle.plan.proofs.input.input_refusal.Goals.{After-settings_refusal-early, Else-early-gt0}
+use Rattle.plan.proofs.input.input_refusal.Goals.{Else-early-gt0}
 
 -- what the tests of degree and settings answer
-early_is : (c : After-settings_refusal-early) →
-    c.settings_refusal-early.result ≡ first_refusal (settings_tests c.args.fold c.args.parity (degree_of c.args.c.now))
-early_is c =
-    c.settings_refusal-early.ensures
-    ∙ ap (λ (d : ℕ). first_refusal (settings_tests c.args.fold c.args.parity d)) c.degree_of.ensures
+early_is : (fold : Bool) (parity : Parity) (c : List ℤ) {early degree : ℕ} → early ≡ first_refusal (settings_tests fold parity degree)
+    → degree ≡ degree_of c → early ≡ first_refusal (settings_tests fold parity (degree_of c))
+early_is fold parity c told degree_is = told ∙ ap (λ (d : ℕ). first_refusal (settings_tests fold parity d)) degree_is
 
 -- past them the coefficients decide
 late_is : (c : Else-early-gt0) →
     first_refusal (input_tests c.args.fold c.args.parity c.args.c.now)
     ≡ first_refusal (coefficient_tests c.args.parity c.args.c.now)
 late_is c =
-    late_input c.args.fold c.args.parity c.args.c.now (sym (early_is c.before) ∙ omega (arith, c.if-early-gt0.false))
+    let is = early_is c.args.fold c.args.parity c.args.c.now c.settings_refusal-early.ensures c.degree_of.ensures in
+    late_input c.args.fold c.args.parity c.args.c.now (sym is ∙ omega (arith, c.if-early-gt0.false))
 
 pub returns-then-early-gt0 : goal.returns-then-early-gt0
 returns-then-early-gt0 c =
     let settings = settings_tests c.args.fold c.args.parity (degree_of c.args.c.now) in
-    let is = early_is (goal.at.returns-then-early-gt0 c).After-settings_refusal-early in
+    let is = early_is c.args.fold c.args.parity c.args.c.now c.settings_refusal-early.ensures c.degree_of.ensures in
     is ∙ sym (first_kept settings (coefficient_tests c.args.parity c.args.c.now) (omega (arith, is, c.if-early-gt0.true)))
 
 pub returns-then-not-has_parity : goal.returns-then-not-has_parity

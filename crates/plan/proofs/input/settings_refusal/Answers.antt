@@ -24,7 +24,7 @@ with_folding : (c : Else-not-fold) →
     first_refusal (settings_tests c.args.fold c.args.parity c.args.degree)
     ≡ cond c.is_full-full.result 5 (cond (ltb c.args.degree c.least_folded.result) 6 0)
 with_folding c =
-    found c.before.before.before
+    settings_found c.args.fold c.args.parity c.args.degree c.is_full-full.ensures c.least_folded.ensures
     ∙ rw (le-ltb _ _ c.if-degree-gt-PLAN_LIMIT.false, ne_eqb _ _ c.if-degree-eq0.false, c.if-not-fold.false)
 
 pub returns-then-degree-gt-PLAN_LIMIT : goal.returns-then-degree-gt-PLAN_LIMIT

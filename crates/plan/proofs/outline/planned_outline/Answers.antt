@@ -25,7 +25,7 @@ degree_is c =
 
 degrees : (c : After-planned_count-count) → Between 1 (c.planned_count-count.result - 1) plan_limit
 degrees c =
-    rw (degree_is c) (degree_range c.args.fold c.args.parity c.args.degree (pass c.before.before))
+    rw (degree_is c) (degree_range c.args.fold c.args.parity c.args.degree (settings_pass c.args.fold c.args.parity c.args.degree c.requires))
 
 pub overflow_add-degree : goal.overflow_add-degree
 overflow_add-degree c = omega (arith, (pass (goal.at.overflow_add-degree c).Start).degrees.to)
