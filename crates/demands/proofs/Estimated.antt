@@ -99,8 +99,10 @@ plans_estimated parity basis folded c a b out bounds steps r out' bounds' steps'
 -- ---- the example
 
 pub cheaper_reported : CheaperReported
-unfolding min_mult best_of better pair_at pair_of last_is_plain slices_of slices_in last_of plain_count allowed_to split_for reported allowed_in of_kind steps_at
-    list_steps tree_steps combine_kind last_plain last_length power_steps leaves_of lengths_of tree_of tree_in needed_count needed_list listed_down is_part_of_one
+unfolding min_mult best_of better pair_at pair_of last_is_plain slices_of slices_in last_of plain_count allowed_to split_for reported allowed_in of_kind
+    steps_at
+    list_steps tree_steps combine_kind last_plain last_length power_steps leaves_of lengths_of tree_of tree_in needed_count needed_list listed_down
+    is_part_of_one
     is_part is_target allows top_power parts_of power_below is_power_of_two bit_len digits
 cheaper_reported = record {
   chosen = refl;

@@ -27,7 +27,8 @@ use Rattle.lists.specs.Arrange.{leaves_of, lengths_of}
 use Rattle.lists.proofs.TreeFacts.{trees_sound}
 use Rattle.lists.proofs.TreeRule.{tree_leaf, tree_cut}
 use Rattle.walk.specs.declared.plan.Step.{Step}
-use Rattle.plan.specs.PlanSteps.{make_step, load_step, combine_step, power_steps, last_length, last_plain, combine_kind, tree_steps, list_steps, steps_at, plan_steps}
+use Rattle.plan.specs.PlanSteps.{make_step, load_step, combine_step, power_steps, last_length, last_plain, combine_kind, tree_steps, list_steps, steps_at}
+use Rattle.plan.specs.PlanSteps.{plan_steps}
 use Rattle.plan.specs.PlanHead.{head_of}
 use Rattle.plan.specs.PlanCall.{planned_parity, planned_degree}
 use Rattle.plan.specs.Reported.{of_kind}

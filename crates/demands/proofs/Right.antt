@@ -208,7 +208,8 @@ unfolding plan_answer plan_coefficients plan_boundaries plan_numbers
 plans_right strategy parity basis folded c a b out bounds steps r out' bounds' steps' brings call =
     let accepted = brings.accepted in
     let long = head_fits strategy parity basis folded c a b out bounds steps brings in
-    let done : plan_refusal strategy parity basis folded c a b out bounds steps ≡ 0 = plan_made_lem strategy parity basis folded c a b out bounds steps brings in
+    let done : plan_refusal strategy parity basis folded c a b out bounds steps ≡ 0 =
+    plan_made_lem strategy parity basis folded c a b out bounds steps brings in
     let xs = coefficients_for strategy parity basis folded c in
     let es = boundaries_for strategy parity basis folded c in
     let ns = numbers_for strategy parity basis folded c in

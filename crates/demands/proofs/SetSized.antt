@@ -240,7 +240,8 @@ module _ (handed : Members) (c out : List ℤ) (bounds steps : List ℕ) where
         → Accepted one.member.fold one.member.parity one.coefficients × Ordered one.member.a one.member.b)
         → 0 < first_refusal (member_settings_tests curve.member) → k ≡ (set_sizes_call handed).refusal
     settings_refusal_same before after curve parts pass some =
-        let here : Memᴰ curve (curves handed c) = subst (Memᴰ curve) (sym parts) (mathlib.Core.List.Memᴰ.append_right before (mathlib.Core.List.Memᴰ.head refl)) in
+        let here : Memᴰ curve (curves handed c) =
+        subst (Memᴰ curve) (sym parts) (mathlib.Core.List.Memᴰ.append_right before (mathlib.Core.List.Memᴰ.head refl)) in
         let counted : first_refusal (curve_settings curve) ≡ first_refusal (member_settings_tests curve.member) =
         ap (λ (n : ℕ). first_refusal (settings_tests curve.member.fold curve.member.parity (n - 1)))
         (curve_length (members_in handed) c within curve here) in
@@ -341,7 +342,8 @@ room_for heads few each =
     record { coefficients = omega arith; boundaries = omega arith; numbers = omega arith }
 
 -- of members whose settings pass
-room_by : (handed : Members) → refusal handed ≡ 0 → HasSizes (set_sizes_of (map head_by (members_in handed))) set_coefficient_room set_boundary_room set_step_room
+room_by : (handed : Members) → refusal handed ≡ 0
+    → HasSizes (set_sizes_of (map head_by (members_in handed))) set_coefficient_room set_boundary_room set_step_room
 room_by handed none =
     let members = members_in handed in
     let front : List Test = bad_count handed.count ∷ unlike_members handed ∷ [] in
@@ -361,7 +363,8 @@ enough handed = by (refusal handed) refl
   where
     by : (n : ℕ) → refusal handed ≡ n → HasSizes (set_sizes_call handed) set_coefficient_room set_boundary_room set_step_room
     by zero none = subst (λ (s : PlanSizes). HasSizes s set_coefficient_room set_boundary_room set_step_room) (when_accepted _ _ none) (room_by handed none)
-    by (suc n) more = subst (λ (s : PlanSizes). HasSizes s set_coefficient_room set_boundary_room set_step_room) (when_refused (refusal handed) _ _ (omega arith))
+    by (suc n) more = subst (λ (s : PlanSizes). HasSizes s set_coefficient_room set_boundary_room set_step_room)
+        (when_refused (refusal handed) _ _ (omega arith))
         (record { coefficients = omega arith; boundaries = omega arith; numbers = omega arith })
 
 pub set_room : SetRoom

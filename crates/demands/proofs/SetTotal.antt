@@ -27,7 +27,8 @@ use Rattle.sets.specs.Members.{members_in, total, Curve, handed_count, all_alike
 use Rattle.sets.specs.Union.{union_of}
 use Rattle.sets.specs.Own.{alone_head}
 use Rattle.sets.specs.SetPlan.{member_limit, heads_of, set_powers, common_steps, member_steps, set_steps, set_ct, set_pt, set_of}
-use Rattle.sets.specs.SetCall.{no_set, own_tests, room_tests, curves, ahead_tests, set_tests, set_refusal, set_answer, set_coefficients_left, set_boundaries_left}
+use Rattle.sets.specs.SetCall.{no_set, own_tests, room_tests, curves, ahead_tests, set_tests, set_refusal, set_answer, set_coefficients_left}
+use Rattle.sets.specs.SetCall.{set_boundaries_left}
 use Rattle.sets.specs.SetCall.{set_numbers_left, SetCall}
 use Rattle.sets.specs.declared.member.Members.{Members}
 use Rattle.sets.specs.declared.set.SetPlanned.{SetPlanned}

@@ -71,7 +71,8 @@ counts_of_7 = in_both (λ (basis : Basis). plan_counts MinDepth Full basis Ident
 
 pub starred : Starred
 unfolding min_mult_call counts_call counts_of split_for min_mult best_of better pair_at pair_of last_is_plain slices_of slices_in last_of plain_count allowed_to
-    needed_count needed_list listed_down is_part_of_one is_part is_target allows top_power unless_refused split_of split_refusal parts_of power_below is_power_of_two
+    needed_count needed_list listed_down is_part_of_one is_part is_target allows top_power unless_refused split_of split_refusal parts_of power_below
+    is_power_of_two
     bit_len digits a_exceeds_b min_depth depth_call depth_of bits_call bits_of pure_chain chain_before lengths_of tree_of tree_in listed_again dot sum cheb fold
     every_second sum_rFrom add_r coeff_r transform_of input_of output_of
 starred = record {

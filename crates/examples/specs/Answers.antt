@@ -46,11 +46,11 @@ pub nine_lines : answer_lines (opening (9 ∷ 49 ∷ 9 ∷ 50 ∷ 9 ∷ 51 ∷ 9
     ∷ (66 ∷ 9 ∷ 49 ∷ 10 ∷ [])
     ∷ (81 ∷ 9 ∷ 52 ∷ 10 ∷ [])
     ∷ []
-unfolding answer_lines answer_refusal planned_lines unless_refused lines_of is_line fields are_settings are_whole is_whole is_number are_digits basis_in parity_in
-    strategy_in fold_in coefficients_in value_of number_from sum_abs has_parity_from head_of reported allowed_in of_kind steps_at list_steps tree_steps combine_kind
-    last_plain last_length power_steps leaves_of lengths_of tree_of tree_in listed_again split_for min_depth a_exceeds_b depth_of allowed_to needed_list listed_down
-    is_part_of_one is_part is_target allows top_power parts_of power_below is_power_of_two bit_len digits cut_at lists_of digits_within decimal signed_decimal
-    fields_text line_text
+unfolding answer_lines answer_refusal planned_lines unless_refused lines_of is_line fields are_settings are_whole is_whole is_number are_digits basis_in
+    parity_in strategy_in fold_in coefficients_in value_of number_from sum_abs has_parity_from head_of reported allowed_in of_kind steps_at list_steps
+    tree_steps combine_kind last_plain last_length power_steps leaves_of lengths_of tree_of tree_in listed_again split_for min_depth a_exceeds_b depth_of
+    allowed_to needed_list listed_down is_part_of_one is_part is_target allows top_power parts_of power_below is_power_of_two bit_len digits cut_at lists_of
+    digits_within decimal signed_decimal fields_text line_text
 nine_lines = refl
 
 -- the empty line, and a tab behind the last field: "R 12"
@@ -59,8 +59,8 @@ unfolding answer_text answer_lines answer_refusal unless_refused is_line fields 
 empty_line = refl
 
 pub trailing_tab : answer_text (opening (9 ∷ 49 ∷ 9 ∷ 50 ∷ 9 ∷ [])) ≡ 82 ∷ 9 ∷ 49 ∷ 50 ∷ 10 ∷ []
-unfolding answer_text answer_lines answer_refusal unless_refused is_line fields are_settings are_whole is_whole is_number are_digits digits_within decimal fields_text
-    line_text joined
+unfolding answer_text answer_lines answer_refusal unless_refused is_line fields are_settings are_whole is_whole is_number are_digits digits_within decimal
+    fields_text line_text joined
 trailing_tab = refl
 
 -- no coefficient: "R 1", and not 12

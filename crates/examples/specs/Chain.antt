@@ -39,18 +39,18 @@ pub nine_lines : chain Full Monomial Identity five (4 ∷ 5 ∷ []) plan
     ∷ chain Full Monomial Identity five (4 ∷ 5 ∷ []) (powers ++ (load 0 ∷ load 1 ∷ combine 4 ∷ []))
     ∷ []
     ≡ weighs 80 ∷ weighs 90 ∷ []
-unfolding chain_of chain_refusal unless_refused lent_walk walk_of run_of act_of load_of combine_of make_of power_from is_makeable with_power first_powers add_place
-    sum_from push_of join_of one_left list_at rises steps_from flat input_made output_made place_made heaviest allows split_of split_refusal parts_of is_power_of_two
-    bit_len digits top_power power_below
+unfolding chain_of chain_refusal unless_refused lent_walk walk_of run_of act_of load_of combine_of make_of power_from is_makeable with_power first_powers
+    add_place sum_from push_of join_of one_left list_at rises steps_from flat input_made output_made place_made heaviest allows split_of split_refusal
+    parts_of is_power_of_two bit_len digits top_power power_below
 nine_lines = refl
 
 -- Chebyshev of degree 5 by MinMult: a list at power 1 weighs 20, power 2 30 and power 4 60; the combines at 2 and 4 leave 60 and 90
 pub chebyshev : chain Full Chebyshev Identity (five ++ (pos 6 ∷ [])) (2 ∷ 4 ∷ 6 ∷ [])
     (make 2 1 1 ∷ make 4 2 2 ∷ load 0 ∷ load 1 ∷ combine 2 ∷ load 2 ∷ combine 4 ∷ [])
     ≡ weighs 90
-unfolding chain_of chain_refusal unless_refused lent_walk walk_of run_of act_of load_of combine_of make_of power_from is_makeable with_power first_powers add_place
-    sum_from push_of join_of one_left list_at rises steps_from flat input_made output_made place_made heaviest allows split_of split_refusal parts_of is_power_of_two
-    bit_len digits top_power power_below
+unfolding chain_of chain_refusal unless_refused lent_walk walk_of run_of act_of load_of combine_of make_of power_from is_makeable with_power first_powers
+    add_place sum_from push_of join_of one_left list_at rises steps_from flat input_made output_made place_made heaviest allows split_of split_refusal
+    parts_of is_power_of_two bit_len digits top_power power_below
 chebyshev = refl
 
 -- a power that nothing uses adds none: power 2 is made, and the Odd list of three uses power 1 alone; without allowed powers a list weighs 0
@@ -59,9 +59,9 @@ pub unused : chain Odd Monomial Identity (pos 0 ∷ pos 1 ∷ pos 0 ∷ []) (3 �
     ∷ chain Full Monomial Identity (pos 7 ∷ []) (1 ∷ []) (load 0 ∷ [])
     ∷ []
     ≡ weighs 20 ∷ weighs 0 ∷ weighs 0 ∷ []
-unfolding chain_of chain_refusal unless_refused lent_walk walk_of run_of act_of load_of make_of power_from is_makeable with_power first_powers add_place sum_from push_of
-    one_left list_at rises steps_from flat input_made output_made place_made heaviest allows split_of split_refusal parts_of is_power_of_two bit_len digits top_power
-    power_below
+unfolding chain_of chain_refusal unless_refused lent_walk walk_of run_of act_of load_of make_of power_from is_makeable with_power first_powers add_place
+    sum_from push_of one_left list_at rises steps_from flat input_made output_made place_made heaviest allows split_of split_refusal parts_of is_power_of_two
+    bit_len digits top_power power_below
 unused = refl
 
 -- transforms: power 1 weighs 30 and a list at it 50, and the multiplication by the input 30 more, of a constant too
@@ -70,16 +70,16 @@ pub transforms : chain Full Monomial Square (pos 1 ∷ pos 2 ∷ []) (2 ∷ []) 
     ∷ chain Full Chebyshev ChebyshevT2TimesInput (pos 1 ∷ []) (1 ∷ []) (load 0 ∷ [])
     ∷ []
     ≡ weighs 50 ∷ weighs 80 ∷ weighs 30 ∷ []
-unfolding chain_of chain_refusal unless_refused lent_walk walk_of run_of act_of load_of make_of power_from is_makeable with_power first_powers add_place sum_from push_of
-    one_left list_at rises steps_from flat input_made output_made place_made heaviest allows split_of split_refusal parts_of is_power_of_two bit_len digits top_power
-    power_below
+unfolding chain_of chain_refusal unless_refused lent_walk walk_of run_of act_of load_of make_of power_from is_makeable with_power first_powers add_place
+    sum_from push_of one_left list_at rises steps_from flat input_made output_made place_made heaviest allows split_of split_refusal parts_of is_power_of_two
+    bit_len digits top_power power_below
 transforms = refl
 
 -- what the first of these is made of: the constant is added to the sum of no place, and to that c·x²
 pub made_of : answer_made (head Full Monomial Square 2 1 1) (pos 1 ∷ pos 2 ∷ []) (2 ∷ []) (flat (load 0 ∷ [])) 30 20
     ≡ some (sum (sum given given) (product 20 given (product 30 given given)))
-unfolding lent_walk walk_of run_of act_of load_of first_powers add_place sum_from push_of one_left list_at rises steps_from flat input_made output_made place_made
-    allows
+unfolding lent_walk walk_of run_of act_of load_of first_powers add_place sum_from push_of one_left list_at rises steps_from flat input_made output_made
+    place_made allows
 made_of = refl
 
 -- 10 for either scale, ahead of 24; 65,535 is taken

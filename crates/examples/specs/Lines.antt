@@ -32,7 +32,8 @@ abbrev three : List ℕ
 three = opening (tab ∷ digit 1 ∷ tab ∷ minus ∷ digit 2 ∷ tab ∷ digit 3 ∷ digit 0 ∷ [])
 
 pub three_read : line_answer three ≡ record { refusal = 0; basis = Monomial; parity = Full; strategy = MinDepth; fold = false; count = 3 }
-unfolding line_answer line_refusal unless_refused is_line fields are_settings are_whole is_whole is_number are_digits basis_in parity_in strategy_in fold_in coefficients_in
+unfolding line_answer line_refusal unless_refused is_line fields are_settings are_whole is_whole is_number are_digits basis_in parity_in strategy_in fold_in
+    coefficients_in
 three_read = refl
 
 pub three_coefficients : coefficients_in three ≡ pos 1 ∷ negsuc 1 ∷ pos 30 ∷ []

@@ -50,9 +50,9 @@ pub nine_lines_head : (a b : Float) → head_for MinDepth Full Monomial false fi
   steps = 6;
   interval = record { a = a; b = b; u = num (pos 1); w = num (pos 0) };
 }
-unfolding of_int head_of reported allowed_in of_kind steps_at list_steps tree_steps combine_kind last_plain last_length power_steps leaves_of lengths_of tree_of
-    tree_in listed_again split_for min_depth a_exceeds_b depth_of allowed_to needed_list listed_down is_part_of_one is_part is_target allows top_power parts_of
-    power_below is_power_of_two bit_len digits
+unfolding of_int head_of reported allowed_in of_kind steps_at list_steps tree_steps combine_kind last_plain last_length power_steps leaves_of lengths_of
+    tree_of tree_in listed_again split_for min_depth a_exceeds_b depth_of allowed_to needed_list listed_down is_part_of_one is_part is_target allows top_power
+    parts_of power_below is_power_of_two bit_len digits
 nine_lines_head a b = refl
 
 -- `L 1 2 3 4`, `L 5`
@@ -73,21 +73,21 @@ pub nine_lines_steps : plan_steps MinDepth Full Monomial 4
     ∷ load_step 1
     ∷ combine_step 4 4
     ∷ []
-unfolding steps_at list_steps tree_steps combine_kind last_plain last_length power_steps leaves_of tree_of tree_in listed_again split_for min_depth a_exceeds_b
-    needed_list listed_down is_part_of_one is_part is_target allows top_power parts_of power_below is_power_of_two bit_len digits
+unfolding steps_at list_steps tree_steps combine_kind last_plain last_length power_steps leaves_of tree_of tree_in listed_again split_for min_depth
+    a_exceeds_b needed_list listed_down is_part_of_one is_part is_target allows top_power parts_of power_below is_power_of_two bit_len digits
 nine_lines_steps = refl
 
 -- at degree 5 the last list is no constant alone, and its combine has kind 3
 pub steps_5 : plan_steps MinDepth Full Monomial 5 ≡ make_step 2 ∷ make_step 3 ∷ make_step 4 ∷ load_step 0 ∷ load_step 1 ∷ combine_step 3 4 ∷ []
-unfolding steps_at list_steps tree_steps combine_kind last_plain last_length power_steps leaves_of tree_of tree_in listed_again split_for min_depth a_exceeds_b
-    needed_list listed_down is_part_of_one is_part is_target allows top_power parts_of power_below is_power_of_two bit_len digits
+unfolding steps_at list_steps tree_steps combine_kind last_plain last_length power_steps leaves_of tree_of tree_in listed_again split_for min_depth
+    a_exceeds_b needed_list listed_down is_part_of_one is_part is_target allows top_power parts_of power_below is_power_of_two bit_len digits
 steps_5 = refl
 
 -- at degree 7 the leading slice is listed again: lists of 4, 2 and 2
 pub steps_7 : plan_steps MinDepth Full Monomial 7
     ≡ make_step 2 ∷ make_step 3 ∷ make_step 4 ∷ load_step 0 ∷ load_step 1 ∷ load_step 2 ∷ combine_step 3 2 ∷ combine_step 3 4 ∷ []
-unfolding steps_at list_steps tree_steps combine_kind last_plain last_length power_steps leaves_of tree_of tree_in listed_again split_for min_depth a_exceeds_b
-    needed_list listed_down is_part_of_one is_part is_target allows top_power parts_of power_below is_power_of_two bit_len digits
+unfolding steps_at list_steps tree_steps combine_kind last_plain last_length power_steps leaves_of tree_of tree_in listed_again split_for min_depth
+    a_exceeds_b needed_list listed_down is_part_of_one is_part is_target allows top_power parts_of power_below is_power_of_two bit_len digits
 steps_7 = refl
 
 -- ---- a last list of one
@@ -106,8 +106,8 @@ pub steps_12 : plan_steps MinDepth Full Monomial 12
     ∷ combine_step 4 4
     ∷ combine_step 3 8
     ∷ []
-unfolding steps_at list_steps tree_steps combine_kind last_plain last_length power_steps leaves_of tree_of tree_in listed_again split_for min_depth a_exceeds_b
-    needed_list listed_down is_part_of_one is_part is_target allows top_power parts_of power_below is_power_of_two bit_len digits
+unfolding steps_at list_steps tree_steps combine_kind last_plain last_length power_steps leaves_of tree_of tree_in listed_again split_for min_depth
+    a_exceeds_b needed_list listed_down is_part_of_one is_part is_target allows top_power parts_of power_below is_power_of_two bit_len digits
 steps_12 = refl
 
 -- a last list of one that is there since the leading slice, of degree 12, is listed again: degree 124 ends with the lists 16, 4, 4, 4, 1
@@ -123,38 +123,39 @@ pub last_steps_124 : drop 11 (list_steps 124 (plan_tree MinDepth Full Chebyshev 
     ∷ combine_step 3 32
     ∷ combine_step 3 64
     ∷ []
-unfolding list_steps tree_steps combine_kind last_plain last_length leaves_of tree_of tree_in listed_again split_for min_depth a_exceeds_b top_power bit_len digits
+unfolding list_steps tree_steps combine_kind last_plain last_length leaves_of tree_of tree_in listed_again split_for min_depth a_exceeds_b top_power bit_len
+    digits
 last_steps_124 = refl
 
 -- the list of one of an Odd polynomial is one too: degree 12 has the same steps
 pub steps_odd : plan_steps MinDepth Odd Monomial 12 ≡ plan_steps MinDepth Full Monomial 12
-unfolding steps_at list_steps tree_steps combine_kind last_plain last_length power_steps leaves_of tree_of tree_in listed_again split_for min_depth a_exceeds_b
-    needed_list listed_down is_part_of_one is_part is_target allows top_power parts_of power_below is_power_of_two bit_len digits
+unfolding steps_at list_steps tree_steps combine_kind last_plain last_length power_steps leaves_of tree_of tree_in listed_again split_for min_depth
+    a_exceeds_b needed_list listed_down is_part_of_one is_part is_target allows top_power parts_of power_below is_power_of_two bit_len digits
 steps_odd = refl
 
 -- an Even list of two, at degree 5, stays kind 3, though it has no allowed power
 pub steps_even : plan_steps MinDepth Even Monomial 5 ≡ make_step 2 ∷ make_step 4 ∷ load_step 0 ∷ load_step 1 ∷ combine_step 3 4 ∷ []
-unfolding steps_at list_steps tree_steps combine_kind last_plain last_length power_steps leaves_of tree_of tree_in listed_again split_for min_depth a_exceeds_b
-    needed_list listed_down is_part_of_one is_part is_target allows top_power parts_of power_below is_power_of_two bit_len digits
+unfolding steps_at list_steps tree_steps combine_kind last_plain last_length power_steps leaves_of tree_of tree_in listed_again split_for min_depth
+    a_exceeds_b needed_list listed_down is_part_of_one is_part is_target allows top_power parts_of power_below is_power_of_two bit_len digits
 steps_even = refl
 
 -- MinMult at degree 12: the estimate, and what the plan reports, with one multiplication moved
 pub estimate_12 : counts_call MinMult Full Monomial 12 ≡ record { refusal = 0; ct = 7; pt = 9 }
-unfolding counts_call counts_of split_for min_mult best_of better pair_at pair_of last_is_plain slices_of slices_in last_of plain_count allowed_to needed_count
-    needed_list listed_down is_part_of_one is_part is_target allows top_power unless_refused parts_of power_below is_power_of_two bit_len digits
+unfolding counts_call counts_of split_for min_mult best_of better pair_at pair_of last_is_plain slices_of slices_in last_of plain_count allowed_to
+    needed_count needed_list listed_down is_part_of_one is_part is_target allows top_power unless_refused parts_of power_below is_power_of_two bit_len digits
 estimate_12 = refl
 
 pub reported_12 : plan_counts MinMult Full Monomial Identity 12 ≡ record { ct = 6; pt = 10 }
-unfolding reported allowed_in of_kind steps_at list_steps tree_steps combine_kind last_plain last_length power_steps leaves_of lengths_of tree_of tree_in split_for
-    min_mult best_of better pair_at pair_of last_is_plain slices_of slices_in last_of plain_count allowed_to needed_count needed_list listed_down is_part_of_one is_part
-    is_target allows top_power parts_of power_below is_power_of_two bit_len digits
+unfolding reported allowed_in of_kind steps_at list_steps tree_steps combine_kind last_plain last_length power_steps leaves_of lengths_of tree_of tree_in
+    split_for min_mult best_of better pair_at pair_of last_is_plain slices_of slices_in last_of plain_count allowed_to needed_count needed_list listed_down
+    is_part_of_one is_part is_target allows top_power parts_of power_below is_power_of_two bit_len digits
 reported_12 = refl
 
 -- at degree 4, a power of two, the estimate has moved it already (demands/specs/Starred), and the plan reports the same
 pub reported_4 : plan_counts MinMult Full Monomial Identity 4 ≡ record { ct = 3; pt = 3 }
-unfolding reported allowed_in of_kind steps_at list_steps tree_steps combine_kind last_plain last_length power_steps leaves_of lengths_of tree_of tree_in split_for
-    min_mult best_of better pair_at pair_of last_is_plain slices_of slices_in last_of plain_count allowed_to needed_count needed_list listed_down is_part_of_one is_part
-    is_target allows top_power parts_of power_below is_power_of_two bit_len digits
+unfolding reported allowed_in of_kind steps_at list_steps tree_steps combine_kind last_plain last_length power_steps leaves_of lengths_of tree_of tree_in
+    split_for min_mult best_of better pair_at pair_of last_is_plain slices_of slices_in last_of plain_count allowed_to needed_count needed_list listed_down
+    is_part_of_one is_part is_target allows top_power parts_of power_below is_power_of_two bit_len digits
 reported_4 = refl
 
 -- ---- a fold
@@ -175,23 +176,23 @@ pub folded_head : (a b : Float) → head_for MinDepth Odd Monomial true (pos 0 �
   steps = 1;
   interval = record { a = a; b = b; u = num (pos 1); w = num (pos 0) };
 }
-unfolding of_int fold every_second transform_of head_of reported allowed_in of_kind steps_at list_steps tree_steps combine_kind last_plain last_length power_steps
-    leaves_of lengths_of tree_of tree_in listed_again split_for min_depth a_exceeds_b depth_of allowed_to needed_list listed_down is_part_of_one is_part is_target
-    allows top_power parts_of power_below is_power_of_two bit_len digits
+unfolding of_int fold every_second transform_of head_of reported allowed_in of_kind steps_at list_steps tree_steps combine_kind last_plain last_length
+    power_steps leaves_of lengths_of tree_of tree_in listed_again split_for min_depth a_exceeds_b depth_of allowed_to needed_list listed_down is_part_of_one
+    is_part is_target allows top_power parts_of power_below is_power_of_two bit_len digits
 folded_head a b = refl
 
 -- ---- sizes
 
 -- those of the nine-line plan, before its coefficients are there
 pub sizes_4 : sizes_call MinDepth Full Monomial false 4 ≡ record { refusal = 0; coefficients = 5; lists = 2; steps = 6 }
-unfolding sizes_call sizes_of unless_refused leaves_of tree_of tree_in listed_again split_for min_depth a_exceeds_b needed_count needed_list listed_down is_part_of_one
-    is_part is_target allows top_power parts_of power_below is_power_of_two bit_len digits
+unfolding sizes_call sizes_of unless_refused leaves_of tree_of tree_in listed_again split_for min_depth a_exceeds_b needed_count needed_list listed_down
+    is_part_of_one is_part is_target allows top_power parts_of power_below is_power_of_two bit_len digits
 sizes_4 = refl
 
 -- and of the fold of 0 1 0 2: two coefficients in one list
 pub sizes_folded : sizes_call MinDepth Odd Monomial true 3 ≡ record { refusal = 0; coefficients = 2; lists = 1; steps = 1 }
-unfolding sizes_call sizes_of unless_refused leaves_of tree_of tree_in listed_again split_for min_depth a_exceeds_b needed_count needed_list listed_down is_part_of_one
-    is_part is_target allows top_power parts_of power_below is_power_of_two bit_len digits
+unfolding sizes_call sizes_of unless_refused leaves_of tree_of tree_in listed_again split_for min_depth a_exceeds_b needed_count needed_list listed_down
+    is_part_of_one is_part is_target allows top_power parts_of power_below is_power_of_two bit_len digits
 sizes_folded = refl
 
 -- 2 comes before 5, and 1 before 5 and 6

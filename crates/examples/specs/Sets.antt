@@ -61,9 +61,9 @@ module _ (a b : Float) where
       ∷ load_step 1
       ∷ combine_step 3 2
       ∷ []
-  unfolding head_of set_steps common_steps member_steps set_powers union_of merged inserted joined own_powers own_steps list_steps tree_steps combine_kind last_plain
-      last_length leaves_of tree_of tree_in listed_again split_for min_depth a_exceeds_b needed_list listed_down is_part_of_one is_part is_target allows top_power parts_of
-      power_below is_power_of_two bit_len digits
+  unfolding head_of set_steps common_steps member_steps set_powers union_of merged inserted joined own_powers own_steps list_steps tree_steps combine_kind
+      last_plain last_length leaves_of tree_of tree_in listed_again split_for min_depth a_exceeds_b needed_list listed_down is_part_of_one is_part is_target
+      allows top_power parts_of power_below is_power_of_two bit_len digits
   steps_of_two = refl
 
   -- the lists [1, 2, 3, 4], [5] of the one and [1, 2], [3, 4] of the other
@@ -78,15 +78,15 @@ module _ (a b : Float) where
 
   -- three power steps and a combine of kind 3; three powers in the lists of the one and its combine of kind 4, and two powers in those of the other
   pub counts_of_two : (set_ct (heads_of two) ≡ 4) × (set_pt (heads_of two) ≡ 6)
-  unfolding head_of set_steps common_steps member_steps set_powers union_of merged inserted joined own_powers own_steps list_steps tree_steps combine_kind last_plain
-      last_length leaves_of tree_of tree_in listed_again split_for min_depth a_exceeds_b needed_list listed_down is_part_of_one is_part is_target allows top_power parts_of
-      power_below is_power_of_two bit_len digits set_ct set_pt of_kind allowed_in allowed_to own_lengths lengths_of total
+  unfolding head_of set_steps common_steps member_steps set_powers union_of merged inserted joined own_powers own_steps list_steps tree_steps combine_kind
+      last_plain last_length leaves_of tree_of tree_in listed_again split_for min_depth a_exceeds_b needed_list listed_down is_part_of_one is_part is_target
+      allows top_power parts_of power_below is_power_of_two bit_len digits set_ct set_pt of_kind allowed_in allowed_to own_lengths lengths_of total
   counts_of_two = (refl, refl)
 
   -- the heads count three steps each, without power steps
   pub steps_in_heads : map (λ (head : Head). head.steps) (heads_of two) ≡ 3 ∷ 3 ∷ []
-  unfolding head_of own_steps list_steps tree_steps combine_kind last_plain last_length leaves_of tree_of tree_in listed_again split_for min_depth a_exceeds_b top_power
-      bit_len digits
+  unfolding head_of own_steps list_steps tree_steps combine_kind last_plain last_length leaves_of tree_of tree_in listed_again split_for min_depth a_exceeds_b
+      top_power bit_len digits
   steps_in_heads = refl
 
   -- ---- x + 2x³ with 3x + 4x³, folded: x · (1 + 2y) and x · (3 + 4y) with y = x²
@@ -96,9 +96,9 @@ module _ (a b : Float) where
 
   -- y is made once, and each member's value is multiplied by x: three multiplications, where two plans alone report two each
   pub ct_of_odd : set_ct (heads_of odd) ≡ 3
-  unfolding head_of set_steps common_steps member_steps set_powers union_of merged inserted joined own_powers own_steps list_steps tree_steps combine_kind last_plain
-      last_length leaves_of tree_of tree_in listed_again split_for min_depth a_exceeds_b needed_list listed_down is_part_of_one is_part is_target allows top_power parts_of
-      power_below is_power_of_two bit_len digits set_ct of_kind fold every_second transform_of
+  unfolding head_of set_steps common_steps member_steps set_powers union_of merged inserted joined own_powers own_steps list_steps tree_steps combine_kind
+      last_plain last_length leaves_of tree_of tree_in listed_again split_for min_depth a_exceeds_b needed_list listed_down is_part_of_one is_part is_target
+      allows top_power parts_of power_below is_power_of_two bit_len digits set_ct of_kind fold every_second transform_of
   ct_of_odd = refl
 
 -- ---- refusals

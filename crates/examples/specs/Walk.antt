@@ -95,8 +95,8 @@ pub chebyshev_exact : exact_walk (head Full Chebyshev Identity 6 3 7) (pos 1 ∷
     (flat (make 2 1 1 ∷ make 4 2 2 ∷ load 0 ∷ load 1 ∷ combine 2 ∷ load 2 ∷ combine 4 ∷ [])) (pos 2)
     ≡ some (pos 2787)
 unfolding lent_walk walk_of run_of act_of load_of combine_of make_of power_from is_makeable with_power first_powers add_place sum_from push_of join_of
-    one_left list_at rises steps_from flat input_of output_of allows split_of split_refusal unless_refused parts_of is_power_of_two bit_len digits
-    top_power power_below
+    one_left list_at rises steps_from flat input_of output_of allows split_of split_refusal unless_refused parts_of is_power_of_two bit_len digits top_power
+    power_below
 chebyshev_exact = refl
 
 -- Odd Chebyshev 0 1 0 2, folded to -1 4, at 2

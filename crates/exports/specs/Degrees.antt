@@ -14,7 +14,8 @@ use Rattle.flat.specs.declared.flat.CSizes.{CSizes}
 
 abbrev pub min_mult_flat : (parity basis degree : ℕ) → CSplit
 min_mult_flat parity basis degree =
-    when_known (knows_pair parity basis) (flat_split (min_mult_call (parity_numbered parity) (basis_numbered basis) degree)) (flat_split (no_split unknown_kind))
+    when_known (knows_pair parity basis) (flat_split (min_mult_call (parity_numbered parity) (basis_numbered basis) degree))
+    (flat_split (no_split unknown_kind))
 
 abbrev pub counts_flat : (strategy parity basis degree : ℕ) → CCounts
 counts_flat strategy parity basis degree =
@@ -23,7 +24,8 @@ counts_flat strategy parity basis degree =
     (flat_counts (no_counts unknown_kind))
 
 abbrev pub depth_flat : (strategy degree : ℕ) → CDepth
-depth_flat strategy degree = when_known (is_strategy strategy) (flat_depth (depth_call (strategy_numbered strategy) degree)) (flat_depth (no_depth unknown_kind))
+depth_flat strategy degree = when_known (is_strategy strategy) (flat_depth (depth_call (strategy_numbered strategy) degree))
+    (flat_depth (no_depth unknown_kind))
 
 abbrev pub bits_flat : (strategy degree input coeff : ℕ) → CBits
 bits_flat strategy degree input coeff =

@@ -49,7 +49,8 @@ turn_told told told' told'' first held block at r onward before held_is text tex
 -- ---- what was read and answered
 
 module _ {unread unread' told told' : Option (List ℕ)} {held : List ℕ} (before : ReadAnswered unread unread' told told' held) where
-  pub told_more : {unread'' told'' : Option (List ℕ)} {held' : List ℕ} (part : List ℕ) → Consumes unread' unread'' part → Appends told' told'' (turn_text held part)
+  pub told_more : {unread'' told'' : Option (List ℕ)} {held' : List ℕ} (part : List ℕ) → Consumes unread' unread'' part
+      → Appends told' told'' (turn_text held part)
       → held' ≡ turn_held held part → ReadAnswered unread unread'' told told'' held'
   told_more {unread''} {told''} {held'} part read answered is =
       let bytes = before.bytes in

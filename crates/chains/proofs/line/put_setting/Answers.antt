@@ -26,7 +26,8 @@ put_letter_field-parity-requires c =
 
 pub put_letter_field-requires : goal.put_letter_field-requires
 put_letter_field-requires c =
-    omega (arith, digits (goal.at.put_letter_field-requires c).After-put_number-behind, c.put_letter_field-basis.ensures.next, c.put_letter_field-parity.ensures.next)
+    let here = goal.at.put_letter_field-requires c in
+    omega (arith, digits here.After-put_number-behind, c.put_letter_field-basis.ensures.next, c.put_letter_field-parity.ensures.next)
 
 pub returns : goal.returns
 returns c = (
