@@ -20,7 +20,6 @@ use Rattle.walk.specs.Paths.{heaviest}
 use Rattle.walk.specs.MadeRules.{value_making, made_rules}
 use Rattle.walk.specs.Chain.{answer_made, chain_of}
 use Rattle.walk.specs.declared.plan.Head.{Head}
-use Rattle.walk.specs.declared.chain.Chain.{Chain}
 use Rattle.walk.proofs.WalksHeld.{walks_held}
 use Rattle.walk.proofs.ChainLaws.{one_made}
 use Rattle.walk.proofs.HeaviestChain.{heaviest_chain}

@@ -1,8 +1,6 @@
 -- All lines stand at the start of their buffer, and end within it.
 use mathlib.Core.Path.{subst}
 use native.Mathlib.Omega.{arith}
-use Prim.Native.Nat.{◌≤◌}
-use lib.ListN.{length, take}
 use Rattle.std.specs.Io.KnownBytes.{Appends}
 use Rattle.texts.proofs.PutLaws.{put_length}
 use Rattle.chains.proofs.TableLaws.{put_front}

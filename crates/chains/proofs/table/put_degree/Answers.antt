@@ -1,7 +1,6 @@
 -- `chains::table::put_degree` meets its contract. The loop's invariant: the lines of the settings before k are put, one behind another, each in at most 80
 -- bytes.
 use mathlib.Core.Path.{◌≡◌, ap, sym}
-use Prim.Native.Nat.{◌-◌}
 use native.Mathlib.Omega.{arith}
 use Rattle.texts.proofs.PutLaws.{put_length, put_none, put_same, put_then}
 use Rattle.chains.specs.Table.{lines_from}
