@@ -1,5 +1,5 @@
 -- The lines of chains in their order (docs/RULES.md, "Lines of chains"): the degree changes slowest, from 2 to 511; the settings of a degree follow one
--- another as in specs/Letters. `put_chains` puts `chains_text`; that `main` writes it is read in the source, and tested by the recorded output.
+-- another as in specs/Letters. `put_chains` puts `chains_text`, and `write_chains` writes it.
 use Rattle.std.specs.Prelude.{List, [], ◌++◌, ℕ, zero, suc, ◌*◌}
 use Rattle.chains.specs.Letters.{letters_at}
 use Rattle.chains.specs.ZeroChain.{zero_chain, closed_bits}
