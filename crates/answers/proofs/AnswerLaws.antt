@@ -17,8 +17,7 @@ use Rattle.number.specs.Refusal.{first_refusal, unless_refused}
 use Rattle.number.proofs.Refusal.{first_kept, refusal_of, when_refused, when_accepted}
 use Rattle.counts.specs.declared.choice.SplitStrategy.{SplitStrategy}
 use Rattle.lists.specs.Lists.{joined}
-use Rattle.plan.specs.PlanCall.{input_tests, Accepted, early_tests, head_for, plan_refusal, plan_answer, PlanCall}
-use Rattle.plan.specs.declared.call.Planned.{Planned}
+use Rattle.plan.specs.PlanCall.{input_tests, Accepted, early_tests, head_for, plan_refusal, plan_answer, PlanCall, Planned}
 use Rattle.plan.proofs.PlanTests.{early_kept}
 use Rattle.lines.specs.Line.{is_line, basis_in, parity_in, strategy_in, fold_in, coefficients_in}
 use Rattle.lines.specs.ReadLine.{line_refusal, line_answer, line_buffer, ReadLine}

@@ -22,8 +22,7 @@ use Rattle.rebuild.specs.RebuildCall.{RebuildCall}
 use Rattle.rebuild.specs.declared.call.Rebuilt.{Rebuilt}
 use Rattle.rebuild.proofs.RoundTrips.{gives_again, same_lists, lists_again, listed_front, ended_front}
 use Rattle.plan.specs.PlanHead.{head_of}
-use Rattle.plan.specs.PlanCall.{planned_coefficients, planned_parity, plan_coefficients, plan_boundaries, PlanCall}
-use Rattle.plan.specs.declared.call.Planned.{Planned}
+use Rattle.plan.specs.PlanCall.{planned_coefficients, planned_parity, plan_coefficients, plan_boundaries, PlanCall, Planned}
 use Rattle.plan.proofs.PlanTests.{passed, planned_to_53}
 use Rattle.demands.specs.RebuiltPlans.{RebuildsPlans, listed_in, PlansRebuilt, RebuiltRight, PlansTell, RebuildOrder}
 use Rattle.demands.proofs.Accepts.{plannable}

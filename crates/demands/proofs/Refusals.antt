@@ -15,8 +15,7 @@ use Rattle.number.proofs.Refusal.{first_of_more, first_passed}
 use Rattle.counts.specs.declared.choice.SplitStrategy.{SplitStrategy}
 use Rattle.walk.specs.declared.plan.Head.{Head}
 use Rattle.plan.specs.PlanCall.{planned_parity, planned_transform, Accepted, early_tests, buffer_tests, planned_degree, head_for, plan_refusal}
-use Rattle.plan.specs.PlanSizes.{sizes_for, sizes_in, HasSizes}
-use Rattle.plan.specs.declared.sizes.PlanSizes.{PlanSizes}
+use Rattle.plan.specs.PlanSizes.{sizes_for, sizes_in, HasSizes, PlanSizes}
 use Rattle.plan.proofs.HeadCounts.{head_sizes}
 use Rattle.plan.proofs.PlanTests.{early_numbered, early_passed, early_accepted, early_ordered, buffers_fit, fit_passes}
 use Rattle.demands.specs.Accepts.{BringsPlan}

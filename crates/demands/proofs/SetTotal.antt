@@ -27,11 +27,10 @@ use Rattle.sets.specs.Members.{members_in, total, Curve, handed_count, all_alike
 use Rattle.sets.specs.Union.{union_of}
 use Rattle.sets.specs.Own.{alone_head}
 use Rattle.sets.specs.SetPlan.{member_limit, heads_of, set_powers, common_steps, member_steps, set_steps, set_ct, set_pt, set_of}
-use Rattle.sets.specs.SetCall.{no_set, own_tests, room_tests, curves, ahead_tests, set_tests, set_refusal, set_answer, set_coefficients_left}
+use Rattle.sets.specs.SetCall.{no_set, own_tests, room_tests, curves, ahead_tests, set_tests, set_refusal, set_answer, set_coefficients_left, SetPlanned}
 use Rattle.sets.specs.SetCall.{set_boundaries_left}
 use Rattle.sets.specs.SetCall.{set_numbers_left, SetCall}
 use Rattle.sets.specs.declared.member.Members.{Members}
-use Rattle.sets.specs.declared.set.SetPlanned.{SetPlanned}
 use Rattle.demands.specs.Total.{ZeroHead}
 use Rattle.demands.specs.SetTotal.{ZeroSet, SetsTotal, SetsMade, SetOrder, BadSet, no_member_lem, too_many, past_slice, Unlike, SetRefusalsTold}
 use Rattle.demands.proofs.Refusals.{late_tests}

@@ -71,11 +71,9 @@ use Rattle.walk.proofs.TrialFollows.{trial_follows}
 use Rattle.walk.proofs.Paths.{heaviest_greatest}
 use Rattle.walk.proofs.ChainLaws.{one_made}
 use Rattle.plan.specs.PlanHead.{no_head}
-use Rattle.plan.specs.PlanCall.{planned_parity, settings_tests, early_tests, plan_tests, plan_refusal}
+use Rattle.plan.specs.PlanCall.{planned_parity, settings_tests, early_tests, plan_tests, plan_refusal, Planned}
 use Rattle.plan.specs.PlanCall.{plan_answer, plan_coefficients, plan_boundaries, plan_numbers, PlanCall}
-use Rattle.plan.specs.PlanSizes.{degree_to_plan, sizes_of, no_sizes, sizes_refusal, sizes_call}
-use Rattle.plan.specs.declared.call.Planned.{Planned}
-use Rattle.plan.specs.declared.sizes.PlanSizes.{PlanSizes}
+use Rattle.plan.specs.PlanSizes.{degree_to_plan, sizes_of, no_sizes, sizes_refusal, sizes_call, PlanSizes}
 use Rattle.demands.specs.Total.{Ends, answers, refuses, ZeroHead, PlansTotal, PlansMade, PlanOrder, FoldsTotal, ListsTotal, RebuildsTotal}
 use Rattle.demands.specs.Total.{ConvertsTotal, TrialAnswered, TrialsTotal, ChainsTotal, InterpolationsTotal, NumbersTotal}
 use Rattle.plan.proofs.PlanTests.{settings_numbered, early_numbered}

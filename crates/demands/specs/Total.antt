@@ -47,9 +47,8 @@ use Rattle.walk.specs.Trial.{trial_tests, trial_of}
 use Rattle.walk.specs.Chain.{chain_tests, chain_of}
 use Rattle.walk.specs.HeaviestChain.{GreatestOfAnswer}
 use Rattle.walk.specs.declared.plan.Head.{Head}
-use Rattle.plan.specs.PlanCall.{planned_parity, settings_tests, plan_tests, PlanCall}
+use Rattle.plan.specs.PlanCall.{planned_parity, settings_tests, plan_tests, PlanCall, Planned}
 use Rattle.plan.specs.PlanSizes.{degree_to_plan, sizes_of, no_sizes, sizes_call}
-use Rattle.plan.specs.declared.call.Planned.{Planned}
 use Rattle.demands.specs.Accepts.{BringsPlan}
 use Rattle.demands.specs.Detected.{Detected}
 use Rattle.demands.specs.FoldNumber.{fold_number}

@@ -14,8 +14,8 @@ pub use number::{
     change_of_basis, detect_parity, detect_parity_f64, evaluate_coeffs, fold_parity,
     fold_parity_f64, parity_number, split_degree, transform_number,
 };
-pub use plan::{PlanSizes, Planned, plan, plan_sizes};
+pub use plan::{Sizes, plan, plan_sizes};
 pub use rebuild::{Rebuilt, rebuild};
 pub use set_plan::{plan_set, set_sizes};
-pub use sets::{CurveSet, MEMBERS, Member, Members, SetPlanned};
+pub use sets::{CurveSet, MEMBERS, Member, Members};
 pub use walk::{Chain, Head, Trial, heaviest_chain, trial_walk};

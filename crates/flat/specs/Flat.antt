@@ -15,7 +15,7 @@ use Rattle.lists.specs.declared.call.Listed.{Listed}
 use Rattle.walk.specs.declared.call.Trial.{Trial}
 use Rattle.walk.specs.declared.chain.Chain.{Chain}
 use Rattle.rebuild.specs.declared.call.Rebuilt.{Rebuilt}
-use Rattle.plan.specs.declared.sizes.PlanSizes.{PlanSizes}
+use Rattle.plan.specs.PlanSizes.{PlanSizes}
 use Rattle.flat.specs.declared.flat.CParts.{CParts}
 use Rattle.flat.specs.declared.flat.CSplit.{CSplit}
 use Rattle.flat.specs.declared.flat.CCounts.{CCounts}

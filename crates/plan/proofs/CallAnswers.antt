@@ -21,12 +21,11 @@ use Rattle.number.proofs.Refusal.{first_kept, first_of_more, when_refused, when_
 use Rattle.counts.specs.declared.choice.SplitStrategy.{SplitStrategy}
 use Rattle.walk.specs.declared.plan.Head.{Head}
 use Rattle.plan.specs.PlanHead.{head_of, no_head}
-use Rattle.plan.specs.PlanCall.{planned_parity, planned_transform, input_tests, Accepted, early_tests, buffer_tests, head_for, plan_refusal}
+use Rattle.plan.specs.PlanCall.{planned_parity, planned_transform, input_tests, Accepted, early_tests, buffer_tests, head_for, plan_refusal, Planned}
 use Rattle.plan.specs.PlanCall.{plan_answer, plan_coefficients, plan_boundaries, plan_numbers, PlanCall}
 use Rattle.plan.specs.PlanSizes.{degree_to_plan, sizes_in}
 use Rattle.plan.specs.inside.Outlines.{outline_for}
 use Rattle.plan.specs.inside.Filling.{planned_count, buffer_refusal, PlanFits, PlanPut}
-use Rattle.plan.specs.declared.call.Planned.{Planned}
 use Rattle.plan.specs.declared.outline.Outline.{Outline}
 use Rattle.plan.proofs.PlanTests.{passed, planned_length, degree_range, degree_planned, count_planned, early_numbered, early_kept}
 use Rattle.plan.proofs.PlanTests.{early_unordered, early_passed, buffers_fit}

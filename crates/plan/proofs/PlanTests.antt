@@ -28,9 +28,8 @@ use Rattle.number.proofs.Refusal.{NumbersTo, numbers_append, first_most, none_ho
 use Rattle.lists.proofs.SumByLength.{sum_by_length_start}
 use Rattle.lists.proofs.Bounds.{fold_sum_by_length}
 use Rattle.plan.specs.PlanCall.{planned_coefficients, settings_tests, coefficient_tests, input_tests, Accepted, early_tests, buffer_tests}
-use Rattle.plan.specs.PlanSizes.{degree_to_plan, HasSizes}
+use Rattle.plan.specs.PlanSizes.{degree_to_plan, HasSizes, PlanSizes}
 use Rattle.plan.specs.inside.Filling.{planned_count}
-use Rattle.plan.specs.declared.sizes.PlanSizes.{PlanSizes}
 
 -- ---- degree and settings
 

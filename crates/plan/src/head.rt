@@ -7,9 +7,9 @@ ghost use Rattle.plan.specs.PlanHead.{head_of, no_head};
 ghost use Rattle.plan.specs.PlanCall.{planned_parity, planned_transform};
 ghost use Rattle.plan.specs.inside.Outlines.{outline_for};
 
-use super::input::{planned_parity, planned_transform};
+use super::input::{planned_settings, planned_transform};
 use super::outline::Outline;
-use counts::{SplitStrategy, depth_from_one};
+use counts::{Settings, SplitStrategy, depth_from_one};
 use number::{Basis, Interval, Parity, PolynomialInputTransform, no_interval, power_of_two};
 use walk::Head;
 
@@ -38,19 +38,22 @@ fn cost_of(transform: PolynomialInputTransform) -> usize
 
 // The head of what is planned, which has this interval, degree and outline.
 pub fn head_of(
-    strategy: SplitStrategy,
-    parity: Parity,
-    basis: Basis,
+    settings: Settings,
     fold: bool,
     interval: Interval,
     degree: usize,
     outline: Outline,
 ) -> Head
-    requires { Between 1 degree plan_limit × (outline ≡ outline_for strategy (planned_parity fold parity) basis degree) }
-    ensures { result ≡ head_of strategy (planned_parity fold parity) basis (planned_transform fold parity basis) interval degree }
+    requires { Between 1 degree plan_limit × (outline ≡ outline_for settings.strategy (planned_parity fold settings.parity) settings.basis degree) }
+    ensures { result ≡ head_of settings.strategy (planned_parity fold settings.parity) settings.basis
+        (planned_transform fold settings.parity settings.basis) interval degree }
 {
-    let planned = planned_parity(fold, parity);
-    let transform = planned_transform(fold, parity, basis);
+    let Settings {
+        strategy,
+        parity,
+        basis,
+    } = planned_settings(settings, fold);
+    let transform = planned_transform(fold, settings.parity, basis);
     let four = plain_steps(outline.plain, outline.lists);
     let cost = cost_of(transform);
     let depth = depth_from_one(strategy, degree);
@@ -58,7 +61,7 @@ pub fn head_of(
     let cuts = outline.lists - 1;
     Head {
         basis,
-        parity: planned,
+        parity,
         strategy,
         transform,
         degree,

@@ -9,11 +9,12 @@ ghost use Rattle.plan.specs.PlanCall.{planned_parity, settings_tests};
 ghost use Rattle.plan.specs.PlanSizes.{degree_to_plan, step_count};
 ghost use Rattle.plan.specs.inside.Outlines.{totals_of, low_totals, outline_for};
 
-use super::input::{planned_count, planned_parity};
-use counts::{SplitStrategy, allowed_to, split_for_strategy};
+use super::input::{planned_count, planned_settings};
+use super::sizes::Sizes;
+use counts::{Settings, allowed_to, split_for_strategy};
 use lists::{listed_again, low_lists, relists, smaller_split};
 use needed::count_needed;
-use number::{Basis, Parity, power_of_two, top_power};
+use number::{Parity, power_of_two, top_power};
 
 // How many lists, the allowed powers from 1 up over all of them, and the length of the last.
 #[derive(Clone, Copy)]
@@ -33,6 +34,19 @@ pub struct Outline {
     pub coefficients: usize,
     pub lists: usize,
     pub steps: usize,
+}
+
+impl Outline {
+    // Returns how long the buffers must be.
+    pub fn sizes(self) -> Sizes
+        ensures { result ≡ record { coefficients = self.coefficients; lists = self.lists; steps = self.steps } }
+    {
+        Sizes {
+            coefficients: self.coefficients,
+            lists: self.lists,
+            steps: self.steps,
+        }
+    }
 }
 
 // The totals of the low part of a degree from the base on.
@@ -110,13 +124,14 @@ fn count_steps(powers: usize, lists: usize) -> usize
 }
 
 // The outline of a degree.
-pub fn outline_of(strategy: SplitStrategy, parity: Parity, basis: Basis, degree: usize) -> Outline
+pub fn outline_of(settings: Settings, degree: usize) -> Outline
     requires { Between 1 degree plan_limit }
-    ensures { result ≡ outline_for strategy parity basis degree }
+    ensures { result ≡ outline_for settings.strategy settings.parity settings.basis degree }
 {
-    let split = split_for_strategy(strategy, parity, basis, degree);
-    let totals = total_lists(relists(strategy), parity, degree, degree, split);
-    let powers = count_needed(parity, basis, degree, split);
+    let split = split_for_strategy(settings, degree);
+    let leading = relists(settings.strategy);
+    let totals = total_lists(leading, settings.parity, degree, degree, split);
+    let powers = count_needed(settings.parity, settings.basis, degree, split);
     let plain = last_plain(totals.last);
     let steps = count_steps(powers, totals.lists);
     Outline {
@@ -131,17 +146,10 @@ pub fn outline_of(strategy: SplitStrategy, parity: Parity, basis: Basis, degree:
 }
 
 // The outline of what is planned of a degree: with folding that of the fold.
-pub fn planned_outline(
-    strategy: SplitStrategy,
-    parity: Parity,
-    basis: Basis,
-    fold: bool,
-    degree: usize,
-) -> Outline
-    requires { first_refusal (settings_tests fold parity degree) ≡ 0 }
-    ensures { result ≡ outline_for strategy (planned_parity fold parity) basis (degree_to_plan fold parity degree) }
+pub fn planned_outline(settings: Settings, fold: bool, degree: usize) -> Outline
+    requires { first_refusal (settings_tests fold settings.parity degree) ≡ 0 }
+    ensures { result ≡ outline_for settings.strategy (planned_parity fold settings.parity) settings.basis (degree_to_plan fold settings.parity degree) }
 {
-    let planned = planned_parity(fold, parity);
-    let count = planned_count(fold, parity, degree + 1);
-    outline_of(strategy, planned, basis, count - 1)
+    let count = planned_count(fold, settings.parity, degree + 1);
+    outline_of(planned_settings(settings, fold), count - 1)
 }

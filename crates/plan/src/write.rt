@@ -1,17 +1,18 @@
 // What an accepted call writes: the planned coefficients, listed in place, and the steps.
 ghost use Rattle.std.specs.Prelude.{◌≡◌};
 ghost use Rattle.std.proofs.lemmas.List.Edits.{sets};
+ghost use Rattle.lists.specs.Tree.{relists};
 ghost use Rattle.walk.specs.WalksHeld.{flat};
 ghost use Rattle.plan.specs.PlanSteps.{steps_at};
 ghost use Rattle.plan.specs.PlanCall.{planned_coefficients};
 ghost use Rattle.plan.specs.inside.Writing.{StepsFit};
 ghost use Rattle.plan.specs.inside.Filling.{CoefficientsFit, ListsFit, ListsPut, PlanFits, PlanPut};
 
-use super::input::planned_parity;
+use super::input::planned_settings;
 use super::outline::Outline;
 use super::powers::write_powers;
 use super::tree::write_tree;
-use counts::SplitStrategy;
+use counts::Settings;
 use lists::{list_coeffs, relists};
 use number::{Basis, Parity, copy_coeffs, fold_into};
 
@@ -29,9 +30,7 @@ fn place_coeffs(fold: bool, parity: Parity, basis: Basis, c: &[i64], out: &mut [
 
 // The lists of `count` planned coefficients at the front of `out`, and their boundaries from boundary `list` on.
 pub fn write_lists(
-    strategy: SplitStrategy,
-    parity: Parity,
-    basis: Basis,
+    settings: Settings,
     fold: bool,
     count: usize,
     split: usize,
@@ -40,16 +39,16 @@ pub fn write_lists(
     out: &mut [i64],
     bounds: &mut [u16],
 )
-    requires { ListsFit strategy parity basis fold count split list c.now out.old bounds.old }
-    ensures { ListsPut strategy parity basis fold list c.now out.old bounds.old
+    requires { ListsFit settings.strategy settings.parity settings.basis fold count split list c.now out.old bounds.old }
+    ensures { ListsPut settings.strategy settings.parity settings.basis fold list c.now out.old bounds.old
         out.new bounds.new }
 {
-    place_coeffs(fold, parity, basis, c, out);
-    let leading = relists(strategy);
+    place_coeffs(fold, settings.parity, settings.basis, c, out);
+    let leading = relists(settings.strategy);
     let degree = count - 1;
     list_coeffs(
         leading,
-        basis,
+        settings.basis,
         degree,
         split,
         0,
@@ -61,20 +60,18 @@ pub fn write_lists(
 
 // All steps of a degree.
 fn write_steps(
-    leading: bool,
-    parity: Parity,
-    basis: Basis,
+    settings: Settings,
     degree: usize,
     outline: Outline,
     steps: &mut [u16],
 )
-    requires { StepsFit leading outline.plain parity basis degree outline.split steps.old }
-    ensures { steps.new ≡ sets steps.old 0 (flat (steps_at leading parity basis degree outline.split)) }
+    requires { StepsFit (relists settings.strategy) outline.plain settings.parity settings.basis degree outline.split steps.old }
+    ensures { steps.new ≡ sets steps.old 0 (flat (steps_at (relists settings.strategy) settings.parity settings.basis degree outline.split)) }
 {
     let split = outline.split;
-    let step = write_powers(parity, basis, degree, split, steps);
+    let step = write_powers(settings.parity, settings.basis, degree, split, steps);
     write_tree(
-        leading,
+        relists(settings.strategy),
         outline.plain,
         degree,
         degree,
@@ -87,9 +84,7 @@ fn write_steps(
 
 // The plan of `count` coefficients in the three buffers.
 pub fn fill(
-    strategy: SplitStrategy,
-    parity: Parity,
-    basis: Basis,
+    settings: Settings,
     fold: bool,
     count: usize,
     outline: Outline,
@@ -98,15 +93,12 @@ pub fn fill(
     bounds: &mut [u16],
     steps: &mut [u16],
 )
-    requires { PlanFits strategy parity basis fold count outline c.now out.old bounds.old steps.old }
-    ensures { PlanPut strategy parity basis fold c.now out.old bounds.old steps.old
+    requires { PlanFits settings.strategy settings.parity settings.basis fold count outline c.now out.old bounds.old steps.old }
+    ensures { PlanPut settings.strategy settings.parity settings.basis fold c.now out.old bounds.old steps.old
         out.new bounds.new steps.new }
 {
     let split = outline.split;
-    write_lists(
-        strategy, parity, basis, fold, count, split, 0, c, out, bounds,
-    );
-    let leading = relists(strategy);
-    let planned = planned_parity(fold, parity);
-    write_steps(leading, planned, basis, count - 1, outline, steps);
+    write_lists(settings, fold, count, split, 0, c, out, bounds);
+    let planned = planned_settings(settings, fold);
+    write_steps(planned, count - 1, outline, steps);
 }

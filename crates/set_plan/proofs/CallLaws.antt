@@ -20,15 +20,14 @@ use Rattle.plan.specs.PlanSteps.{make_step}
 use Rattle.plan.specs.Reported.{of_kind}
 use Rattle.plan.specs.PlanHead.{no_head}
 use Rattle.plan.specs.PlanCall.{settings_tests}
-use Rattle.plan.specs.PlanSizes.{HasSizes}
+use Rattle.plan.specs.PlanSizes.{HasSizes, PlanSizes}
 use Rattle.plan.specs.inside.Filling.{buffer_refusal}
-use Rattle.plan.specs.declared.sizes.PlanSizes.{PlanSizes}
 use Rattle.plan.proofs.PlanTests.{early_numbered, early_accepted, settings_accepted, buffers_fit}
 use Rattle.sets.specs.Members.{Curve, members_in, curves_in, handed_count, all_alike, total}
 use Rattle.sets.specs.Own.{own_steps}
 use Rattle.sets.specs.SetPlan.{member_limit, heads_of, set_powers, common_steps, member_steps, set_steps, set_of, set_ct, set_pt}
 use Rattle.sets.specs.SetPlan.{own_step_count, set_step_count}
-use Rattle.sets.specs.SetCall.{bad_set, unlike_members, own_tests, room_tests, no_set, curves, ahead_tests}
+use Rattle.sets.specs.SetCall.{bad_set, unlike_members, own_tests, room_tests, no_set, curves, ahead_tests, SetPlanned}
 use Rattle.sets.specs.SetCall.{SetAccepted, set_refusal, SetCall, set_answer, set_coefficients_left, set_boundaries_left, set_numbers_left}
 use Rattle.sets.specs.SetSizes.{set_sizes_of}
 use Rattle.sets.specs.Union.{union_of}
@@ -39,7 +38,6 @@ use Rattle.sets.specs.inside.Writing.{SetStepsFit}
 use Rattle.sets.specs.declared.member.Member.{Member}
 use Rattle.sets.specs.declared.member.Members.{Members}
 use Rattle.sets.specs.declared.set.CurveSet.{CurveSet}
-use Rattle.sets.specs.declared.set.SetPlanned.{SetPlanned}
 use Rattle.sets.proofs.HeadLaws.{heads_by_lem, first_by, heads_fit, zeros_behind}
 use Rattle.set_plan.specs.inside.Counting.{RecordAsked}
 use Rattle.set_plan.specs.inside.Filling.{AllListsFit, AllListsPut}

@@ -13,8 +13,7 @@ use Rattle.number.proofs.Refusal.{none_holds, first_kept, first_of_more, first_p
 use Rattle.lists.specs.Lists.{joined}
 use Rattle.walk.specs.declared.plan.Head.{Head}
 use Rattle.plan.specs.PlanCall.{settings_tests}
-use Rattle.plan.specs.PlanSizes.{no_sizes}
-use Rattle.plan.specs.declared.sizes.PlanSizes.{PlanSizes}
+use Rattle.plan.specs.PlanSizes.{no_sizes, PlanSizes}
 use Rattle.plan.proofs.PlanTests.{settings_numbered}
 use Rattle.sets.specs.Members.{members_in, all_alike}
 use Rattle.sets.specs.SetPlan.{member_limit}

@@ -18,15 +18,10 @@ fn write_own_lists(
     requires { MemberFits member head list c.now out.old bounds.old }
     ensures { MemberPut member head list c.now out.old bounds.old out.new bounds.new }
 {
-    let strategy = member.strategy;
-    let parity = member.parity;
-    let basis = member.basis;
-    let fold = member.fold;
+    let settings = member.settings();
     let count = head.coefficients;
     let split = own_split(head);
-    write_lists(
-        strategy, parity, basis, fold, count, split, list, c, out, bounds,
-    );
+    write_lists(settings, member.fold, count, split, list, c, out, bounds);
 }
 
 // Those of all members, one member's after another's; the slice of coefficients has so many places.

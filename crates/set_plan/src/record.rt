@@ -1,12 +1,13 @@
 // The record of a set by its members' heads, and the sizes of its buffers.
 ghost use Rattle.std.specs.Prelude.{◌≡◌, take};
+ghost use Rattle.plan.specs.PlanSizes.{plan_sizes_in};
 ghost use Rattle.sets.specs.SetPlan.{set_of};
 ghost use Rattle.sets.specs.SetSizes.{set_sizes_of};
 ghost use Rattle.sets.specs.inside.Marking.{PowersCounted};
 ghost use Rattle.set_plan.specs.inside.Counting.{RecordAsked};
 
 use super::costs::{set_cost, sum_costs};
-use plan::PlanSizes;
+use plan::Sizes;
 use sets::{CurveSet, MEMBERS};
 use walk::Head;
 
@@ -27,9 +28,9 @@ pub fn set_record(heads: [Head; MEMBERS], count: usize, powers: usize) -> CurveS
 }
 
 // How many coefficients, lists and steps the first `count` members have together, whose common powers are so many.
-pub fn total_sizes(heads: [Head; MEMBERS], count: usize, powers: usize) -> PlanSizes
+pub fn total_sizes(heads: [Head; MEMBERS], count: usize, powers: usize) -> Sizes
     requires { PowersCounted heads count powers }
-    ensures { result ≡ set_sizes_of (take count heads) }
+    ensures { plan_sizes_in (Ok result) ≡ set_sizes_of (take count heads) }
 {
     let mut coefficients = 0;
     let mut lists = 0;
@@ -42,8 +43,7 @@ pub fn total_sizes(heads: [Head; MEMBERS], count: usize, powers: usize) -> PlanS
         steps += head.steps;
         i += 1;
     }
-    PlanSizes {
-        refusal: 0,
+    Sizes {
         coefficients,
         lists,
         steps,

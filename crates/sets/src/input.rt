@@ -1,6 +1,7 @@
 // The members' own tests, and their heads.
 ghost use Rattle.std.specs.Prelude.{◌≡◌, map};
 ghost use Rattle.number.specs.Refusal.{first_refusal};
+ghost use Rattle.number.specs.Refused.{refusal_of};
 ghost use Rattle.lists.specs.Lists.{joined};
 ghost use Rattle.plan.specs.PlanCall.{early_tests};
 ghost use Rattle.sets.specs.Members.{members_in};
@@ -9,42 +10,39 @@ ghost use Rattle.sets.specs.SetCall.{own_tests, curves};
 ghost use Rattle.sets.specs.inside.Planning.{Stand, SettingsPass, HandedPass, heads_by};
 
 use super::member::{MEMBERS, Member, Members};
-use number::{change_of_basis, degree_of};
+use number::{Refusal, change_of_basis, degree_of};
 use plan::head::{head_of, no_head};
-use plan::input::input_refusal;
+use plan::input::check_input;
 use plan::outline::planned_outline;
 use walk::Head;
 
-// The number of the first of a member's own tests that holds, or 0.
-pub fn own_refusal(member: Member, c: &[i64]) -> u8
-    ensures { result ≡ first_refusal (early_tests member.fold member.parity c.now member.a member.b) }
+// Makes a member's own tests, in their order.
+pub fn check_member(member: Member, c: &[i64]) -> Result<(), Refusal>
+    ensures { refusal_of result ≡ first_refusal (early_tests member.fold member.parity c.now member.a member.b) }
 {
-    let parity = member.parity;
-    let wrong = input_refusal(member.fold, parity, c);
-    if 0 < wrong {
-        return wrong;
+    check_input(member.fold, member.parity, c)?;
+    if member.a < member.b {
+        Ok(())
+    } else {
+        Err(Refusal::IntervalUnordered)
     }
-    if member.a < member.b { 0 } else { 7 }
 }
 
-// The number of the first of all members' own tests that holds, in member order, or 0. The slice has so many places.
-pub fn own_refusals(handed: Members, slice: usize, c: &[i64]) -> u8
+// Makes all members' own tests, in member order. The slice has so many places.
+pub fn check_members(handed: Members, slice: usize, c: &[i64]) -> Result<(), Refusal>
     requires { Stand handed slice c.now }
-    ensures { result ≡ first_refusal (joined (map own_tests (curves handed c.now))) }
+    ensures { refusal_of result ≡ first_refusal (joined (map own_tests (curves handed c.now))) }
 {
     let mut at = 0;
     let mut i = 0;
     while i < handed.count {
         let member = handed.members[i];
         let end = at + member.count;
-        let wrong = own_refusal(member, &c[at..end]);
-        if 0 < wrong {
-            return wrong;
-        }
+        check_member(member, &c[at..end])?;
         at = end;
         i += 1;
     }
-    0
+    Ok(())
 }
 
 // A member's head, its steps counted without power steps.
@@ -52,30 +50,15 @@ pub fn member_head(member: Member) -> Head
     requires { SettingsPass member }
     ensures { result ≡ head_by member }
 {
-    let strategy = member.strategy;
-    let parity = member.parity;
-    let basis = member.basis;
-    let outline = planned_outline(
-        strategy,
-        parity,
-        basis,
-        member.fold,
-        degree_of(member.count),
-    );
+    let settings = member.settings();
+    let outline = planned_outline(settings, member.fold, degree_of(member.count));
     let count = outline.coefficients;
-    let interval = change_of_basis(basis, member.a, member.b);
-    let head = head_of(
-        strategy,
-        parity,
-        basis,
-        member.fold,
-        interval,
-        count - 1,
-        outline,
-    );
-    let mut own = head;
-    own.steps = outline.steps - outline.powers;
-    own
+    let interval = change_of_basis(settings.basis, member.a, member.b);
+    let head = head_of(settings, member.fold, interval, count - 1, outline);
+    Head {
+        steps: outline.steps - outline.powers,
+        ..head
+    }
 }
 
 // The heads of all members, and zero heads behind them.

@@ -3,7 +3,7 @@ ghost use Rattle.std.specs.Prelude.{◌≡◌, not, ◌≤◌, ltb};
 ghost use Rattle.sets.specs.Members.{alike, all_alike, members_in, handed_count};
 ghost use Rattle.sets.specs.inside.Planning.{Few};
 
-use counts::SplitStrategy;
+use counts::{Settings, SplitStrategy};
 use number::{Basis, Parity, basis_number, parity_number};
 
 // The most members of a set.
@@ -19,6 +19,19 @@ pub struct Member {
     pub a: f64,
     pub b: f64,
     pub count: usize,
+}
+
+impl Member {
+    // Returns the settings as one.
+    pub fn settings(self) -> Settings
+        ensures { result ≡ record { strategy = self.strategy; parity = self.parity; basis = self.basis } }
+    {
+        Settings {
+            strategy: self.strategy,
+            parity: self.parity,
+            basis: self.basis,
+        }
+    }
 }
 
 // The first `count` of these are the members, in order. Their coefficients stand one after another in one slice.
