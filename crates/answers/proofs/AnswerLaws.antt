@@ -14,7 +14,7 @@ use Rattle.algebra.specs.declared.Parity.{Parity}
 use Rattle.number.specs.Limits.{plan_limit}
 use Rattle.number.specs.Tests.{degree_of}
 use Rattle.number.specs.Refusal.{first_refusal, unless_refused}
-use Rattle.number.proofs.Refusal.{first_kept, refusal_of, when_refused, when_accepted}
+use Rattle.number.proofs.FirstRefusal.{first_kept, refusal_of, when_refused, when_accepted}
 use Rattle.counts.specs.declared.choice.SplitStrategy.{SplitStrategy}
 use Rattle.lists.specs.Lists.{joined}
 use Rattle.plan.specs.PlanCall.{input_tests, Accepted, early_tests, head_for, plan_refusal, plan_answer, PlanCall, Planned}

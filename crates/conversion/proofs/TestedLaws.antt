@@ -15,7 +15,7 @@ use Rattle.number.specs.Limits.{sum_limit}
 use Rattle.number.specs.Numbers.{whole_numbers}
 use Rattle.number.specs.Refusal.{first_refusal, unless_refused}
 use Rattle.number.specs.Tests.{too_large, no_room}
-use Rattle.number.proofs.Refusal.{none_holds, first_kept, first_of_more}
+use Rattle.number.proofs.FirstRefusal.{none_holds, first_kept, first_of_more}
 use Rattle.bases.specs.Convert.{is_whole, new_coefficient, converted}
 use Rattle.bases.proofs.Convert.{length_tabulate}
 use Rattle.conversion.specs.ConvertCall.{refusal_for, convert_answer, convert_buffer, ConvertCall}

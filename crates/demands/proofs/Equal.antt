@@ -32,7 +32,7 @@ use Rattle.number.proofs.CutSame.{cuts_same}
 use Rattle.number.proofs.EvaluateLaw.{evaluate_law}
 use Rattle.number.proofs.Exact.{exact}
 use Rattle.number.proofs.FoldSame.{folds_same}
-use Rattle.number.proofs.Refusal.{none_holds, refusal_of, when_accepted}
+use Rattle.number.proofs.FirstRefusal.{none_holds, refusal_of, when_accepted}
 use Rattle.interpolation.proofs.InterpolateLaw.{interpolate_law}
 use Rattle.needed.proofs.Promises.{needed_powers}
 use Rattle.counts.specs.Choice.{split_for}

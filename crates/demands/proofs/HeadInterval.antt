@@ -15,7 +15,7 @@ use Rattle.algebra.specs.declared.Basis.{Basis}
 use Rattle.algebra.specs.declared.Parity.{Parity}
 use Rattle.number.specs.Interval.{Ordered}
 use Rattle.number.specs.Refusal.{first_refusal, unless_refused}
-use Rattle.number.proofs.Refusal.{first_kept, first_most}
+use Rattle.number.proofs.FirstRefusal.{first_kept, first_most}
 use Rattle.counts.specs.declared.choice.SplitStrategy.{SplitStrategy}
 use Rattle.walk.specs.IntervalUnread.{SameButInterval}
 use Rattle.walk.specs.declared.plan.Head.{Head}

@@ -11,7 +11,7 @@ use lib.ListN.{length, take, drop, take-append-drop}
 use Rattle.algebra.specs.declared.Basis.{Basis}
 use Rattle.algebra.specs.declared.Parity.{Parity}
 use Rattle.number.specs.Tests.{degree_of}
-use Rattle.number.proofs.Refusal.{when_accepted}
+use Rattle.number.proofs.FirstRefusal.{when_accepted}
 use Rattle.counts.specs.Choice.{split_for}
 use Rattle.counts.specs.declared.choice.SplitStrategy.{SplitStrategy}
 use Rattle.lists.specs.Tree.{plan_tree}

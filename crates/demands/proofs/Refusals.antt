@@ -11,7 +11,7 @@ use Rattle.algebra.specs.declared.Basis.{Basis}
 use Rattle.algebra.specs.declared.Parity.{Parity}
 use Rattle.number.specs.Interval.{change_of_basis, Ordered}
 use Rattle.number.specs.Refusal.{Test, first_refusal}
-use Rattle.number.proofs.Refusal.{first_of_more, first_passed}
+use Rattle.number.proofs.FirstRefusal.{first_of_more, first_passed}
 use Rattle.counts.specs.declared.choice.SplitStrategy.{SplitStrategy}
 use Rattle.walk.specs.declared.plan.Head.{Head}
 use Rattle.plan.specs.PlanCall.{planned_parity, planned_transform, Accepted, early_tests, buffer_tests, planned_degree, head_for, plan_refusal}

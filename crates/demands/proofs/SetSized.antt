@@ -19,7 +19,7 @@ use Rattle.number.specs.Interval.{Ordered}
 use Rattle.number.specs.Limits.{plan_limit, count_limit}
 use Rattle.number.specs.Refusal.{Test, first_refusal, Numbered}
 use Rattle.number.specs.Tests.{degree_of}
-use Rattle.number.proofs.Refusal.{none_holds, first_kept, first_of_more, first_passed, NumbersTo, first_most, refusal_of, when_accepted, when_refused}
+use Rattle.number.proofs.FirstRefusal.{none_holds, first_kept, first_of_more, first_passed, NumbersTo, first_most, refusal_of, when_accepted, when_refused}
 use Rattle.needed.specs.Promises.{Rising, next}
 use Rattle.needed.proofs.Promises.{needed_powers}
 use Rattle.lists.specs.Lists.{joined}

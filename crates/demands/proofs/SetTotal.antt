@@ -15,7 +15,7 @@ use lib.ListN.{length, replicate}
 use Rattle.number.specs.Interval.{Ordered}
 use Rattle.number.specs.Refusal.{Test, first_refusal, Numbered}
 use Rattle.number.specs.Tests.{unordered}
-use Rattle.number.proofs.Refusal.{numbered_append, first_kept, first_of_more, NumbersTo, first_most, numbers_append, refusal_of, when_refused}
+use Rattle.number.proofs.FirstRefusal.{numbered_append, first_kept, first_of_more, NumbersTo, first_most, numbers_append, refusal_of, when_refused}
 use Rattle.needed.proofs.Flags.{either, left_or, right_or}
 use Rattle.lists.specs.Lists.{joined}
 use Rattle.walk.specs.declared.plan.Head.{Head}

@@ -14,7 +14,7 @@ use Rattle.algebra.specs.declared.Parity.{Parity}
 use Rattle.number.specs.Interval.{Ordered}
 use Rattle.number.specs.Refusal.{Test, first_refusal}
 use Rattle.number.specs.Tests.{degree_of}
-use Rattle.number.proofs.Refusal.{first_kept, refusal_of, when_accepted}
+use Rattle.number.proofs.FirstRefusal.{first_kept, refusal_of, when_accepted}
 use Rattle.counts.specs.declared.choice.SplitStrategy.{SplitStrategy}
 use Rattle.plan.specs.PlanCall.{planned_parity, settings_tests, coefficient_tests, input_tests, Accepted, early_tests, buffer_tests, planned_degree, Planned}
 use Rattle.plan.specs.PlanCall.{head_for, plan_refusal}

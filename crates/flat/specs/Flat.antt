@@ -1,7 +1,7 @@
 -- Answers as structs of numbers: field by field, a kind by its number.
 use Rattle.std.specs.Prelude.{ℕ}
 use Rattle.algebra.specs.EnumNumbers.{parity_number, transform_number}
-use Rattle.number.specs.declared.split.Parts.{Parts}
+use Rattle.number.specs.Split.{Parts}
 use Rattle.number.specs.declared.fold.Folded.{Folded}
 use Rattle.number.specs.declared.interval.Interval.{Interval}
 use Rattle.interpolation.specs.declared.Interpolated.{Interpolated}

@@ -14,7 +14,7 @@ use Rattle.number.specs.Numbers.{Numbers}
 use Rattle.number.specs.Refusal.{unless_refused}
 use Rattle.number.specs.Tests.{degree_of}
 use Rattle.number.specs.inside.Between.{Between}
-use Rattle.number.proofs.Refusal.{when_refused, when_accepted}
+use Rattle.number.proofs.FirstRefusal.{when_refused, when_accepted}
 use Rattle.counts.specs.Choice.{split_for}
 use Rattle.counts.specs.declared.choice.SplitStrategy.{SplitStrategy}
 use Rattle.counts.proofs.ChoiceLaws.{split_range}

@@ -9,7 +9,7 @@ use Rattle.number.specs.Limits.{plan_limit}
 use Rattle.number.specs.Refusal.{Test, first_refusal, unless_refused, Numbered, NoneHolds}
 use Rattle.number.specs.Tests.{no_boundaries}
 use Rattle.number.specs.inside.Between.{Between}
-use Rattle.number.proofs.Refusal.{none_holds, first_kept, first_of_more}
+use Rattle.number.proofs.FirstRefusal.{none_holds, first_kept, first_of_more}
 use Rattle.lists.specs.ListCall.{no_lists}
 use Rattle.lists.specs.inside.Shape.{early_tests, early_refusal, refusal_by, shape_of}
 

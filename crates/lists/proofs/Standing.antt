@@ -17,7 +17,7 @@ use Rattle.number.specs.Numbers.{whole_numbers}
 use Rattle.number.specs.Tests.{degree_of}
 use Rattle.number.specs.inside.Between.{Between}
 use Rattle.number.specs.inside.Room.{SumByLengthTo53}
-use Rattle.number.proofs.Refusal.{refusal_of, when_accepted}
+use Rattle.number.proofs.FirstRefusal.{refusal_of, when_accepted}
 use Rattle.counts.specs.Choice.{split_for}
 use Rattle.counts.specs.declared.choice.SplitStrategy.{SplitStrategy}
 use Rattle.counts.proofs.ChoiceLaws.{split_range}

@@ -22,7 +22,7 @@ use Rattle.number.specs.Tests.{too_high, is_full, full_parity, too_low}
 use Rattle.number.specs.FoldCall.{fold_refusal, fold_answer, fold_buffer, FoldCall}
 use Rattle.number.specs.inside.Folding.{Foldable, refusal_by, answer_by}
 use Rattle.number.specs.declared.fold.Folded.{Folded}
-use Rattle.number.proofs.Refusal.{none_holds}
+use Rattle.number.proofs.FirstRefusal.{none_holds}
 use Rattle.number.proofs.EverySecond.{length_odd_places}
 
 -- room for the fold is room for the coefficients that are copied

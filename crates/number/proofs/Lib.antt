@@ -2,7 +2,8 @@ pub mod Options
 pub mod Literals
 pub mod Signed
 mod SignLaws
-pub mod Refusal
+pub mod FirstRefusal
+pub mod Refused
 pub mod Within
 mod WholeFloats
 pub mod Exact

@@ -14,10 +14,11 @@ pub mod limits;
 pub mod magnitude;
 pub mod parity;
 pub mod powers;
+pub mod refusal;
 pub mod split;
 pub mod transform;
 
-pub use algebra::{Basis, Parity, PolynomialInputTransform};
+pub use algebra::{Basis, Parity, PolynomialInputTransform, UnknownKind};
 pub use degree::degree_of;
 pub use evaluate::evaluate_coeffs;
 pub use fold::{Folded, fold_parity};
@@ -28,7 +29,8 @@ pub use limits::{COUNT_LIMIT, DEGREE_LIMIT, PLAN_LIMIT, SCALE_LIMIT};
 pub use magnitude::{magnitude_of, sum_fits};
 pub use parity::{detect_parity, detect_parity_f64, is_allowed};
 pub use powers::bit_len;
-pub use split::{Parts, split_degree};
+pub use refusal::Refusal;
+pub use split::{Split, parts_of, split_degree};
 // What serves planning and conversion, which call it within its ranges.
 pub use copy::copy_coeffs;
 pub use factor::{factorize_coeffs_chebyshev, factorize_coeffs_chebyshev_f64};

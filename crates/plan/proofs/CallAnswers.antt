@@ -17,7 +17,7 @@ use Rattle.number.specs.Refusal.{first_refusal}
 use Rattle.number.specs.Tests.{degree_of}
 use Rattle.number.specs.declared.interval.Interval.{Interval}
 use Rattle.number.specs.inside.Between.{Between}
-use Rattle.number.proofs.Refusal.{first_kept, first_of_more, when_refused, when_accepted}
+use Rattle.number.proofs.FirstRefusal.{first_kept, first_of_more, when_refused, when_accepted}
 use Rattle.counts.specs.declared.choice.SplitStrategy.{SplitStrategy}
 use Rattle.walk.specs.declared.plan.Head.{Head}
 use Rattle.plan.specs.PlanHead.{head_of, no_head}

@@ -6,8 +6,7 @@ use Prim.Native.Nat.{ℕ, suc, ◌+◌, ◌*◌}
 use native.Mathlib.Omega.{arith}
 use lib.ListN.{set}
 use lib.Seq.{sets}
-use Rattle.number.specs.Split.{split_of}
-use Rattle.number.specs.declared.split.Parts.{Parts}
+use Rattle.number.specs.Split.{Parts, split_of}
 use Rattle.number.proofs.SplitParts.{parted, split_accepted}
 use Rattle.walk.specs.WalksHeld.{flat}
 use Rattle.plan.specs.inside.Writing.{StepFits, PowerFits, PowerPut}

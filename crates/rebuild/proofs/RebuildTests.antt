@@ -18,7 +18,7 @@ use Rattle.number.specs.Tests.{degree_of}
 use Rattle.number.specs.inside.Between.{Between}
 use Rattle.number.proofs.BothHold.{and_left, and_right}
 use Rattle.number.proofs.Options.{missing_some}
-use Rattle.number.proofs.Refusal.{none_holds, refusal_of, when_refused, when_accepted}
+use Rattle.number.proofs.FirstRefusal.{none_holds, refusal_of, when_refused, when_accepted}
 use Rattle.counts.specs.Choice.{split_for}
 use Rattle.counts.specs.declared.choice.SplitStrategy.{SplitStrategy}
 use Rattle.lists.specs.Tree.{Tree, plan_tree}

@@ -12,7 +12,7 @@ use lib.ListN.{length, take, drop, replicate, length-append, length-map, length-
 use lib.Seq.{sets, length-take-le}
 use Rattle.algebra.specs.Each.{Each}
 use Rattle.number.specs.Refusal.{Test, first_refusal, Numbered}
-use Rattle.number.proofs.Refusal.{none_holds, first_kept, first_of_more, first_passed, numbered_append, when_refused, when_accepted}
+use Rattle.number.proofs.FirstRefusal.{none_holds, first_kept, first_of_more, first_passed, numbered_append, when_refused, when_accepted}
 use Rattle.lists.specs.Lists.{joined}
 use Rattle.walk.specs.WalksHeld.{flat}
 use Rattle.walk.specs.declared.plan.Head.{Head}

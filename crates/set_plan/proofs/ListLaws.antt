@@ -7,7 +7,7 @@ use lib.IntN.{ℤ}
 use lib.ListN.{length, get_or, set, take, drop, length-drop, drop_of_length-le}
 use lib.Seq.{sets, sets-eq, length-sets, take_all, drop-drop}
 use Rattle.number.specs.Refusal.{first_refusal}
-use Rattle.number.proofs.Refusal.{first_passed, first_of_more}
+use Rattle.number.proofs.FirstRefusal.{first_passed, first_of_more}
 use Rattle.lists.specs.Lists.{joined}
 use Rattle.lists.proofs.Arranging.{length_ends}
 use Rattle.walk.specs.declared.plan.Head.{Head}

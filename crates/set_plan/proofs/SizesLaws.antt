@@ -9,7 +9,7 @@ use lib.Dec.{ltb, eqb}
 use lib.ListN.{length, get_or, take, drop}
 use Rattle.algebra.specs.Each.{Each}
 use Rattle.number.specs.Refusal.{Test, first_refusal, Numbered}
-use Rattle.number.proofs.Refusal.{none_holds, first_kept, first_of_more, first_passed, numbered_append, when_refused, when_accepted}
+use Rattle.number.proofs.FirstRefusal.{none_holds, first_kept, first_of_more, first_passed, numbered_append, when_refused, when_accepted}
 use Rattle.lists.specs.Lists.{joined}
 use Rattle.walk.specs.declared.plan.Head.{Head}
 use Rattle.plan.specs.PlanCall.{settings_tests}

@@ -11,7 +11,7 @@ use Rattle.number.specs.Limits.{plan_limit}
 use Rattle.number.specs.declared.interval.Interval.{Interval}
 use Rattle.number.specs.Refusal.{Test, first_refusal}
 use Rattle.number.specs.inside.Between.{Between}
-use Rattle.number.proofs.Refusal.{first_kept, first_of_more}
+use Rattle.number.proofs.FirstRefusal.{first_kept, first_of_more}
 use Rattle.lists.specs.Lists.{joined}
 use Rattle.walk.specs.declared.plan.Head.{Head}
 use Rattle.plan.specs.PlanSteps.{last_plain, list_steps}

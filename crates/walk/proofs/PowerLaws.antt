@@ -12,8 +12,7 @@ use lib.Seq.{get_or-set_same, get_or-set_other}
 use Rattle.algebra.specs.declared.Basis.{Basis}
 use Rattle.algebra.specs.declared.Basis.TheVariants.{Monomial, Chebyshev}
 use Rattle.number.specs.Limits.{plan_limit}
-use Rattle.number.specs.Split.{split_of}
-use Rattle.number.specs.declared.split.Parts.{Parts}
+use Rattle.number.specs.Split.{Parts, split_of}
 use Rattle.number.proofs.BothHold.{and_left, and_right}
 use Rattle.walk.specs.State.{Powers}
 use Rattle.walk.specs.Rules.{Rules}

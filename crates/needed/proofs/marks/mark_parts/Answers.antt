@@ -4,8 +4,7 @@ use mathlib.Core.Path.{◌≡◌, sym, ◌∙◌, ap}
 use Prim.Native.Nat.{ℕ, ◌≤◌}
 use native.Mathlib.Omega.{arith}
 use Rattle.number.specs.Limits.{degree_limit}
-use Rattle.number.specs.Split.{split_of, parts_of}
-use Rattle.number.specs.declared.split.Parts.{Parts}
+use Rattle.number.specs.Split.{Parts, split_of, parts_of}
 use Rattle.needed.specs.inside.Marks.{mark_at, mark_apart, mark_parts}
 use Rattle.number.proofs.SplitParts.{Parted, split_accepted, parted}
 use Rattle.needed.proofs.MarkLaws.{apart_monomial, apart_chebyshev}

@@ -3,7 +3,7 @@ use native.Mathlib.Omega.{arith}
 use Rattle.number.specs.Refusal.{unless_refused}
 use Rattle.number.specs.FoldCall.{no_fold}
 use Rattle.number.specs.inside.Folding.{answer_by}
-use Rattle.number.proofs.Refusal.{when_refused}
+use Rattle.number.proofs.FirstRefusal.{when_refused}
 use Rattle.number.proofs.fold.fold_answer.Goals as goal
 
 pub returns-then-refusal-eq0 : goal.returns-then-refusal-eq0

@@ -9,7 +9,7 @@ use Rattle.algebra.specs.declared.Parity.{Parity}
 use native.Mathlib.Omega.{arith}
 use Rattle.number.specs.Refusal.{first_refusal}
 use Rattle.number.specs.Tests.{degree_of}
-use Rattle.number.proofs.Refusal.{first_kept}
+use Rattle.number.proofs.FirstRefusal.{first_kept}
 use Rattle.plan.specs.PlanCall.{settings_tests, coefficient_tests, input_tests}
 use Rattle.plan.proofs.PlanTests.{late_input}
 use Rattle.plan.proofs.input.input_refusal.Goals as goal

@@ -2,7 +2,7 @@
 -- planned.
 use mathlib.Core.Path.{ap, ◌∙◌}
 use native.Mathlib.Omega.{arith}
-use Rattle.number.proofs.Refusal.{when_refused, when_accepted}
+use Rattle.number.proofs.FirstRefusal.{when_refused, when_accepted}
 use Rattle.plan.specs.PlanSizes.{no_sizes, sizes_refusal, sizes_of, sizes_call, PlanSizes}
 use Rattle.plan.specs.declared.outline.Outline.{Outline}
 use Rattle.plan.proofs.sizes.plan_sizes.Goals as goal

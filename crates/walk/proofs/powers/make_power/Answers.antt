@@ -5,7 +5,7 @@ use mathlib.Core.Option.{some}
 use Prim.Native.Nat.{◌≤◌}
 use native.Mathlib.Omega.{arith}
 use Rattle.number.specs.Limits.{plan_limit}
-use Rattle.number.specs.declared.split.Parts.{Parts}
+use Rattle.number.specs.Split.{Parts}
 use Rattle.walk.specs.Make.{power_from}
 use Rattle.walk.specs.inside.Arrays.{found, powers_of}
 use Rattle.walk.specs.inside.Arithmetic.{rules_of}
