@@ -12,18 +12,20 @@ use Rattle.needed.proofs.PlaceLaws.{filled, fill_start, fill_step, fill_end}
 use Rattle.needed.proofs.marks.mark_targets.Goals as goal
 
 pub loop-n-init : goal.loop-n-init
-loop-n-init c = (omega arith, c.requires.1 ∙ fill_start _ count_limit)
+loop-n-init c = c.requires.1 ∙ fill_start _ count_limit
 
 pub loop-n-preserved : goal.loop-n-preserved
 loop-n-preserved c =
     let loop = c.loop-n in
     let test = is_target c.args.parity c.args.top c.args.limit in
-    let inside : loop.n < count_limit = omega (arith, c.loop-n-test.true, c.requires.0) in
-    let step = fill_step test count_limit loop.n inside c.is_target.ensures in
-    (omega arith, ap (λ (marks : List Bool). set marks loop.n c.is_target.result) loop.invariant.1 ∙ step)
+    let inside : loop.n < count_limit = omega (arith, c.requires.0) in
+    ap (λ (marks : List Bool). set marks loop.n c.is_target.result) loop.invariant ∙ fill_step test count_limit loop.n inside c.is_target.ensures
 
-pub returns : goal.returns
-returns c =
+pub returns-2 : goal.returns-2
+returns-2 c =
+    let loop = c.loop-n in
     let test = is_target c.args.parity c.args.top c.args.limit in
-    let end : c.loop-n.n ≡ c.args.last + 1 = omega arith in
-    c.loop-n.invariant.1 ∙ ap (filled test count_limit) end ∙ fill_end test count_limit (c.args.last + 1)
+    let inside : loop.n < count_limit = omega (arith, c.requires.0) in
+    let end : loop.n + 1 ≡ c.args.last + 1 = omega arith in
+    ap (λ (marks : List Bool). set marks loop.n c.is_target.result) loop.invariant ∙ fill_step test count_limit loop.n inside c.is_target.ensures
+    ∙ ap (filled test count_limit) end ∙ fill_end test count_limit (c.args.last + 1)
