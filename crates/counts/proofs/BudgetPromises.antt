@@ -41,7 +41,7 @@ module _ (strategy : SplitStrategy) (budget input coeff : ℕ) where
 
   by_found : input ≤ scale_limit → coeff ≤ scale_limit → (found ≡ 0) ⊎ (0 < found) → Ending answer
   by_found g h (inl none) =
-      none_fits (g, h, (none_within_lem strategy budget input coeff).0 none) (none_found strategy budget input coeff g h refl none)
+      none_fits (g, h, (none_within_lem strategy budget input coeff).0 none) (none_found strategy budget input coeff g h none)
   by_found g h (inr some) =
       one_fits (g, h, greatest_within_lem strategy budget input coeff some) (one_found strategy budget input coeff g h refl (λ none. omega arith))
 

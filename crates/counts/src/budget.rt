@@ -1,5 +1,5 @@
 // The largest degree whose bits are within a budget.
-ghost use Rattle.std.specs.Prelude.{◌≡◌, ◌≤◌};
+ghost use Rattle.std.specs.Prelude.{◌≡◌, ◌≤◌, ◌<◌, MatchOption};
 ghost use Rattle.number.specs.Limits.{degree_limit, plan_limit, scale_limit};
 ghost use Rattle.number.specs.inside.Between.{Between};
 ghost use Rattle.counts.specs.LargestDegree.{greatest_within};
@@ -18,14 +18,14 @@ pub struct LargestDegree {
     pub degree: usize,
 }
 
-// A refusal.
+// Returns a refusal.
 fn no_largest(refusal: u8) -> LargestDegree
     ensures { result ≡ no_largest refusal }
 {
     LargestDegree { refusal, degree: 0 }
 }
 
-// The next lower degree whose bits may differ. Up to degree 8 it is the next one, since degree 5 is an exception.
+// Returns the next lower degree whose bits may differ. Up to degree 8 it is the next one, since degree 5 is an exception.
 fn lower_degree(strategy: SplitStrategy, degree: usize) -> usize
     requires { Between 1 degree degree_limit }
     ensures { SameDownTo strategy degree result }
@@ -50,24 +50,31 @@ fn lower_degree(strategy: SplitStrategy, degree: usize) -> usize
     }
 }
 
-// The greatest degree from 1 to 4,095 within the budget, 0 if there is none. Bits need not rise with the degree, so it is looked for from above,
-// and only degrees are passed over that have the bits of one that does not fit.
-fn greatest_within(strategy: SplitStrategy, budget: u64, input: usize, coeff: usize) -> usize
+// Returns the greatest degree from 1 to 4,095 within the budget. Bits need not rise with the degree, so it is looked for from above, and only
+// degrees are passed over that have the bits of one that does not fit: a `while`, since the steps down are of several lengths.
+fn greatest_within(
+    strategy: SplitStrategy,
+    budget: u64,
+    input: usize,
+    coeff: usize,
+) -> Option<usize>
     requires { (input ≤ scale_limit) × (coeff ≤ scale_limit) }
-    ensures { result ≡ greatest_within strategy budget input coeff plan_limit }
+    ensures { MatchOption result
+        (greatest_within strategy budget input coeff plan_limit ≡ 0)
+        (λ degree. (0 < degree) × (degree ≡ greatest_within strategy budget input coeff plan_limit)) }
 {
     let mut degree = PLAN_LIMIT;
     while 0 < degree {
         let bits = bits_from_one(strategy, degree, input, coeff);
         if bits as u64 <= budget {
-            return degree;
+            return Some(degree);
         }
         degree = lower_degree(strategy, degree);
     }
-    0
+    None
 }
 
-// The largest degree within a budget of bits: refusal 10 where a scale is above 65,535, then 31 where no degree from 1 to 4,095 is within it.
+// Returns the largest degree within a budget of bits: refusal 10 where a scale is above 65,535, then 31 where no degree from 1 to 4,095 is within it.
 pub fn largest_degree(
     strategy: SplitStrategy,
     budget: u64,
@@ -82,9 +89,8 @@ pub fn largest_degree(
     if SCALE_LIMIT < coeff {
         return no_largest(10);
     }
-    let degree = greatest_within(strategy, budget, input, coeff);
-    if degree == 0 {
-        return no_largest(31);
+    match greatest_within(strategy, budget, input, coeff) {
+        Some(degree) => LargestDegree { refusal: 0, degree },
+        None => no_largest(31),
     }
-    LargestDegree { refusal: 0, degree }
 }

@@ -1,5 +1,5 @@
 // The bits that an evaluation consumes: its heaviest chain, by the closed form.
-ghost use Rattle.std.specs.Prelude.{◌≡◌, ◌≤◌, max};
+ghost use Rattle.std.specs.Prelude.{◌≡◌, ◌≤◌};
 ghost use Rattle.number.specs.Limits.{degree_limit, scale_limit};
 ghost use Rattle.number.specs.inside.Between.{Between};
 ghost use Rattle.counts.specs.ConsumedBits.{pure_chain, chain_before, bits_of};
@@ -16,7 +16,7 @@ pub struct ConsumedBits {
     pub bits: usize,
 }
 
-// The ct-ct multiplications of the longest chain without a pt-ct.
+// Counts the ct-ct multiplications of the longest chain without a pt-ct.
 fn pure_chain(degree: usize) -> usize
     requires { Between 1 degree degree_limit }
     ensures { result ≡ pure_chain degree }
@@ -29,7 +29,7 @@ fn pure_chain(degree: usize) -> usize
     }
 }
 
-// The ct-ct multiplications of the longest chain with a pt-ct.
+// Counts the ct-ct multiplications of the longest chain with a pt-ct.
 fn chain_before(strategy: SplitStrategy, degree: usize) -> usize
     requires { Between 1 degree degree_limit }
     ensures { result ≡ chain_before strategy degree }
@@ -41,24 +41,17 @@ fn chain_before(strategy: SplitStrategy, degree: usize) -> usize
     }
 }
 
-// The greater of two numbers.
-fn greatest(a: usize, b: usize) -> usize
-    ensures { result ≡ max a b }
-{
-    if a < b { b } else { a }
-}
-
-// The bits of a degree from 1: the heavier of the two chains.
+// Returns the bits of a degree from 1: the heavier of the two chains.
 pub fn bits_from_one(strategy: SplitStrategy, degree: usize, input: usize, coeff: usize) -> usize
     requires { Between 1 degree degree_limit × (input ≤ scale_limit) × (coeff ≤ scale_limit) }
     ensures { result ≡ bits_of strategy degree input coeff }
 {
-    let pure = pure_chain(degree);
-    let before = chain_before(strategy, degree);
-    greatest(pure * input, before * input + coeff)
+    let pure = pure_chain(degree) * input;
+    let before = chain_before(strategy, degree) * input + coeff;
+    pure.max(before)
 }
 
-// The bits of a degree, 0 at degree 0: refusal 2 above 4,294,967,295, then 10 where a scale is above 65,535.
+// Returns the bits of a degree, 0 at degree 0: refusal 2 above 4,294,967,295, then 10 where a scale is above 65,535.
 pub fn bsgs_consumed_bits(
     strategy: SplitStrategy,
     degree: usize,

@@ -15,7 +15,7 @@ pub struct EvalDepth {
     pub depth: usize,
 }
 
-// The least degree of a bit length at which MinMult takes one level more.
+// Returns the least degree of a bit length at which MinMult takes one level more.
 pub fn depth_threshold(bits: usize) -> usize
     requires { Between 1 bits 32 }
     ensures { result ≡ threshold bits }
@@ -23,7 +23,7 @@ pub fn depth_threshold(bits: usize) -> usize
     power_of_two(bits) - power_of_two((bits - 1) / 2) + 1
 }
 
-// The depth of a degree from 1.
+// Returns the depth of a degree from 1.
 pub fn depth_from_one(strategy: SplitStrategy, degree: usize) -> usize
     requires { Between 1 degree degree_limit }
     ensures { result ≡ depth_of strategy degree }
@@ -39,7 +39,7 @@ pub fn depth_from_one(strategy: SplitStrategy, degree: usize) -> usize
     }
 }
 
-// The depth of a degree, 0 at degree 0: refusal 2 above 4,294,967,295.
+// Returns the depth of a degree, 0 at degree 0: refusal 2 above 4,294,967,295.
 pub fn bsgs_eval_depth(strategy: SplitStrategy, degree: usize) -> EvalDepth
     ensures { result ≡ depth_call strategy degree }
 {

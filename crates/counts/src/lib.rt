@@ -18,7 +18,7 @@ pub use consumed::{ConsumedBits, bsgs_consumed_bits};
 pub use depth::{EvalDepth, bsgs_eval_depth};
 pub use kind::strategy_number;
 // What serves planning, which calls it within its ranges.
-pub use choice::split_for_strategy;
+pub use choice::{min_depth_of, split_for_strategy};
 pub use depth::depth_from_one;
 pub use pair::{Pair, estimate_op_counts};
 pub use slices::allowed_to;

@@ -21,12 +21,12 @@ returns-then-degree-eq0 c = rw (le-ltb _ _ c.if-degree-gt-PLAN_LIMIT.false, c.if
 pub split_for_strategy-split-requires : goal.split_for_strategy-split-requires
 split_for_strategy-split-requires c = record { from = omega (arith, c.if-degree-eq0.false); to = c.if-degree-gt-PLAN_LIMIT.false }
 
-pub estimate_op_counts-pair-requires : goal.estimate_op_counts-pair-requires
-estimate_op_counts-pair-requires c =
+pub invariant_of-estimate_op_counts : goal.invariant_of-estimate_op_counts
+invariant_of-estimate_op_counts c =
     let args = c.args in
     let degrees : Between 1 args.degree plan_limit = record { from = omega (arith, c.if-degree-eq0.false); to = c.if-degree-gt-PLAN_LIMIT.false } in
     let splits = split_range args.strategy args.parity args.basis args.degree degrees in
-    record { degrees = degrees; splits = rw c.split_for_strategy-split.ensures splits }
+    record { planned = record { degrees = degrees; splits = rw c.split_for_strategy-split.ensures splits } }
 
 pub returns : goal.returns
 unfolding counts_call unless_refused

@@ -1,10 +1,8 @@
 -- `counts::choice::min_depth_split` meets its contract. Its tests are those of the refusals, in their order.
 -- A degree that passes them has 1 to 32 binary digits, and each of these lengths has its case.
-use native.Mathlib.Omega.{arith}
 use borrow.Author.Tests.{lt-ltb, le-ltb, eq-eqb, ne_eqb}
 use Rattle.number.specs.Refusal.{unless_refused}
 use Rattle.counts.specs.Calls.{min_depth_call}
-use Rattle.number.proofs.Bits.{digits_range}
 use Rattle.counts.proofs.choice.min_depth_split.Goals as goal
 
 pub returns-then-degree-gt-DEGREE_LIMIT : goal.returns-then-degree-gt-DEGREE_LIMIT
@@ -15,12 +13,7 @@ pub returns-then-degree-eq0 : goal.returns-then-degree-eq0
 unfolding min_depth_call unless_refused
 returns-then-degree-eq0 c = rw (le-ltb _ _ c.if-degree-gt-DEGREE_LIMIT.false, eq-eqb _ _ c.if-degree-eq0.true)
 
-pub min_depth-split-requires : goal.min_depth-split-requires
-min_depth-split-requires c =
-    let range = digits_range c.args.degree (record { from = omega (arith, c.if-degree-eq0.false); to = c.if-degree-gt-DEGREE_LIMIT.false }) in
-    record { from = omega (arith, c.bit_len.ensures); to = omega (arith, c.bit_len.ensures) }
-
 pub returns : goal.returns
 unfolding min_depth_call unless_refused
 returns c =
-    rw (le-ltb _ _ c.if-degree-gt-DEGREE_LIMIT.false, ne_eqb _ _ c.if-degree-eq0.false, c.min_depth-split.ensures, c.bit_len.ensures)
+    rw (le-ltb _ _ c.if-degree-gt-DEGREE_LIMIT.false, ne_eqb _ _ c.if-degree-eq0.false, c.min_depth_of-split.ensures)

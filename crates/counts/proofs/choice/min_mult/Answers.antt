@@ -13,8 +13,8 @@ returns-then-bits-le1 c =
     let args = c.args in
     sym (mult_low args.parity args.basis args.degree (omega (arith, c.bit_len-bits.ensures, c.if-bits-le1.true)))
 
-pub best_split-best-requires : goal.best_split-best-requires
-best_split-best-requires c =
+pub best_split-requires : goal.best_split-requires
+best_split-requires c =
     let range = few_digits c.args.degree c.requires in
     let positive = digit_some c.args.degree (omega (arith, c.bit_len-bits.ensures, c.if-bits-le1.false)) in (
       record { from = positive; to = c.requires },
@@ -25,5 +25,5 @@ pub returns : goal.returns
 returns c =
     let args = c.args in
     let two_digits : 1 < bit_len args.degree = omega (arith, c.bit_len-bits.ensures, c.if-bits-le1.false) in
-    let smallest = rw c.bit_len-bits.ensures at c.best_split-best.ensures in
+    let smallest = rw c.bit_len-bits.ensures at c.best_split.ensures in
     mult_only args.parity args.basis args.degree two_digits _ smallest
