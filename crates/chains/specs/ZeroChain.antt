@@ -5,10 +5,9 @@ use Rattle.algebra.specs.declared.Basis.{Basis}
 use Rattle.algebra.specs.declared.Basis.TheVariants.{Monomial}
 use Rattle.algebra.specs.declared.Parity.{Parity}
 use Rattle.algebra.specs.declared.Parity.TheVariants.{Full}
-use Rattle.counts.specs.Calls.{bits_call}
+use Rattle.counts.specs.Calls.{ConsumedBits, bits_call}
 use Rattle.counts.specs.declared.choice.SplitStrategy.{SplitStrategy}
 use Rattle.counts.specs.declared.choice.SplitStrategy.TheVariants.{MinDepth}
-use Rattle.counts.specs.declared.consumed.ConsumedBits.{ConsumedBits}
 use Rattle.lines.specs.Letters.{bases, parities, strategies, says}
 use Rattle.walk.specs.Chain.{chain_of}
 use Rattle.walk.specs.declared.chain.Chain.{Chain}

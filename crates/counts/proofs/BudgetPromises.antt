@@ -13,9 +13,8 @@ use Rattle.number.specs.Limits.{plan_limit, scale_limit}
 use Rattle.counts.specs.Depth.{depth_of}
 use Rattle.counts.specs.ConsumedBits.{pure_chain, chain_before, bits_of}
 use Rattle.counts.specs.LargestDegree.{greatest_within, GreatestWithin, NoneWithin}
-use Rattle.counts.specs.Calls.{no_largest, largest_call}
+use Rattle.counts.specs.Calls.{LargestDegree, no_largest, largest_call}
 use Rattle.counts.specs.BudgetPromises.{LargestDegrees, BitsFall, NoneBelowScale}
-use Rattle.counts.specs.declared.budget.LargestDegree.{LargestDegree}
 use Rattle.counts.specs.declared.choice.SplitStrategy.{SplitStrategy}
 use Rattle.counts.specs.declared.choice.SplitStrategy.TheVariants.{MinDepth, MinMult}
 use Rattle.counts.proofs.ConsumedLaws.{bits_from_one}

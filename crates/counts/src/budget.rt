@@ -3,27 +3,13 @@ ghost use Rattle.std.specs.Prelude.{◌≡◌, ◌≤◌, ◌<◌, MatchOption};
 ghost use Rattle.number.specs.Limits.{degree_limit, plan_limit, scale_limit};
 ghost use Rattle.number.specs.inside.Between.{Between};
 ghost use Rattle.counts.specs.LargestDegree.{greatest_within};
-ghost use Rattle.counts.specs.Calls.{no_largest, largest_call};
+ghost use Rattle.counts.specs.Calls.{largest_in, largest_call};
 ghost use Rattle.counts.specs.inside.SameBits.{SameDownTo};
 
 use super::choice::SplitStrategy;
 use super::consumed::bits_from_one;
 use super::depth::depth_threshold;
-use number::{PLAN_LIMIT, SCALE_LIMIT, bit_len, top_power};
-
-// The degree, or a refusal with zero.
-#[derive(Clone, Copy)]
-pub struct LargestDegree {
-    pub refusal: u8,
-    pub degree: usize,
-}
-
-// Returns a refusal.
-fn no_largest(refusal: u8) -> LargestDegree
-    ensures { result ≡ no_largest refusal }
-{
-    LargestDegree { refusal, degree: 0 }
-}
+use number::{PLAN_LIMIT, Refusal, SCALE_LIMIT, bit_len, top_power};
 
 // Returns the next lower degree whose bits may differ. Up to degree 8 it is the next one, since degree 5 is an exception.
 fn lower_degree(strategy: SplitStrategy, degree: usize) -> usize
@@ -74,23 +60,17 @@ fn greatest_within(
     None
 }
 
-// Returns the largest degree within a budget of bits: refusal 10 where a scale is above 65,535, then 31 where no degree from 1 to 4,095 is within it.
+// Returns the largest degree from 1 to 4,095 within a budget of bits. It refuses a scale above 65,535, then a budget that no degree is within.
 pub fn largest_degree(
     strategy: SplitStrategy,
     budget: u64,
     input: usize,
     coeff: usize,
-) -> LargestDegree
-    ensures { result ≡ largest_call strategy budget input coeff }
+) -> Result<usize, Refusal>
+    ensures { largest_in result ≡ largest_call strategy budget input coeff }
 {
-    if SCALE_LIMIT < input {
-        return no_largest(10);
+    if SCALE_LIMIT < input || SCALE_LIMIT < coeff {
+        return Err(Refusal::ScaleTooWide);
     }
-    if SCALE_LIMIT < coeff {
-        return no_largest(10);
-    }
-    match greatest_within(strategy, budget, input, coeff) {
-        Some(degree) => LargestDegree { refusal: 0, degree },
-        None => no_largest(31),
-    }
+    greatest_within(strategy, budget, input, coeff).ok_or(Refusal::NothingFits)
 }

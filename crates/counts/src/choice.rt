@@ -7,35 +7,21 @@ ghost use Rattle.counts.specs.Pair.{pair_at};
 ghost use Rattle.counts.specs.MinDepth.{min_depth};
 ghost use Rattle.counts.specs.MinMult.{Smallest, min_mult};
 ghost use Rattle.counts.specs.Choice.{split_for};
-ghost use Rattle.counts.specs.Calls.{min_depth_call, min_mult_call, counts_call};
+ghost use Rattle.counts.specs.Calls.{choice_in, counts_in, min_depth_call, min_mult_call, counts_call};
 ghost use Rattle.counts.specs.inside.BetterOf.{with_pair, BetterOf};
 
 use super::bound::fewest_ct;
 use super::pair::{Pair, estimate_op_counts};
+use super::settings::Settings;
 use algebra::{Basis, Parity};
 use needed::Slicing;
-use number::{DEGREE_LIMIT, PLAN_LIMIT, bit_len};
+use number::{DEGREE_LIMIT, PLAN_LIMIT, Refusal, bit_len};
 
 // Least depth, or fewest multiplications.
 #[derive(Clone, Copy, Debug, PartialEq, Eq)]
 pub enum SplitStrategy {
     MinDepth,
     MinMult,
-}
-
-// A split, or a refusal with zero.
-#[derive(Clone, Copy)]
-pub struct SplitChoice {
-    pub refusal: u8,
-    pub split: usize,
-}
-
-// The pair at the chosen split, or a refusal with zeros.
-#[derive(Clone, Copy)]
-pub struct OpCounts {
-    pub refusal: u8,
-    pub ct: usize,
-    pub pt: usize,
 }
 
 // A split with its pair. Of two the better is less: that with the lesser pair, and of equal pairs that with the smaller split.
@@ -143,83 +129,50 @@ fn min_mult(parity: Parity, basis: Basis, degree: usize) -> usize
 }
 
 // Returns the split that a strategy chooses.
-pub fn split_for_strategy(
-    strategy: SplitStrategy,
-    parity: Parity,
-    basis: Basis,
-    degree: usize,
-) -> usize
+pub fn split_for_strategy(settings: Settings, degree: usize) -> usize
     requires { Between 1 degree plan_limit }
-    ensures { result ≡ split_for strategy parity basis degree }
+    ensures { result ≡ split_for settings.strategy settings.parity settings.basis degree }
 {
-    match strategy {
+    match settings.strategy {
         SplitStrategy::MinDepth => min_depth_of(degree),
-        SplitStrategy::MinMult => min_mult(parity, basis, degree),
+        SplitStrategy::MinMult => min_mult(settings.parity, settings.basis, degree),
     }
 }
 
-// Returns MinDepth's split of a degree: refusal 2 above 4,294,967,295, then 1 at degree 0.
-pub fn min_depth_split(degree: usize) -> SplitChoice
-    ensures { result ≡ min_depth_call degree }
+// Returns MinDepth's split of a degree. It refuses a degree above 4,294,967,295, then degree 0.
+pub fn min_depth_split(degree: usize) -> Result<usize, Refusal>
+    ensures { choice_in result ≡ min_depth_call degree }
 {
     if DEGREE_LIMIT < degree {
-        return SplitChoice {
-            refusal: 2,
-            split: 0,
-        };
+        return Err(Refusal::DegreeTooHigh);
     }
     if degree == 0 {
-        return SplitChoice {
-            refusal: 1,
-            split: 0,
-        };
+        return Err(Refusal::DegreeZero);
     }
-    let split = min_depth_of(degree);
-    SplitChoice { refusal: 0, split }
+    Ok(min_depth_of(degree))
 }
 
-// Returns MinMult's split of a degree: refusal 2 above 4,095.
-pub fn min_mult_split(parity: Parity, basis: Basis, degree: usize) -> SplitChoice
-    ensures { result ≡ min_mult_call parity basis degree }
+// Returns MinMult's split of a degree. It refuses a degree above 4,095.
+pub fn min_mult_split(parity: Parity, basis: Basis, degree: usize) -> Result<usize, Refusal>
+    ensures { choice_in result ≡ min_mult_call parity basis degree }
 {
     if PLAN_LIMIT < degree {
-        return SplitChoice {
-            refusal: 2,
-            split: 0,
-        };
+        return Err(Refusal::DegreeTooHigh);
     }
-    let split = min_mult(parity, basis, degree);
-    SplitChoice { refusal: 0, split }
+    Ok(min_mult(parity, basis, degree))
 }
 
-// Returns the pair at the chosen split, (0, 0) at degree 0: refusal 2 above 4,095.
-pub fn bsgs_op_counts(
-    strategy: SplitStrategy,
-    parity: Parity,
-    basis: Basis,
-    degree: usize,
-) -> OpCounts
-    ensures { result ≡ counts_call strategy parity basis degree }
+// Returns the pair at the chosen split, (0, 0) at degree 0. It refuses a degree above 4,095.
+pub fn bsgs_op_counts(settings: Settings, degree: usize) -> Result<Pair, Refusal>
+    ensures { counts_in result ≡ counts_call settings.strategy settings.parity settings.basis degree }
 {
     if PLAN_LIMIT < degree {
-        return OpCounts {
-            refusal: 2,
-            ct: 0,
-            pt: 0,
-        };
+        return Err(Refusal::DegreeTooHigh);
     }
     if degree == 0 {
-        return OpCounts {
-            refusal: 0,
-            ct: 0,
-            pt: 0,
-        };
+        return Ok(Pair { ct: 0, pt: 0 });
     }
-    let split = split_for_strategy(strategy, parity, basis, degree);
-    let pair = estimate_op_counts(parity, basis, Slicing { degree, split });
-    OpCounts {
-        refusal: 0,
-        ct: pair.ct,
-        pt: pair.pt,
-    }
+    let split = split_for_strategy(settings, degree);
+    let at = Slicing { degree, split };
+    Ok(estimate_op_counts(settings.parity, settings.basis, at))
 }

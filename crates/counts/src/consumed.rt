@@ -3,18 +3,11 @@ ghost use Rattle.std.specs.Prelude.{◌≡◌, ◌≤◌};
 ghost use Rattle.number.specs.Limits.{degree_limit, scale_limit};
 ghost use Rattle.number.specs.inside.Between.{Between};
 ghost use Rattle.counts.specs.ConsumedBits.{pure_chain, chain_before, bits_of};
-ghost use Rattle.counts.specs.Calls.{bits_call};
+ghost use Rattle.counts.specs.Calls.{bits_in, bits_call};
 
 use super::choice::SplitStrategy;
 use super::depth::depth_from_one;
-use number::{DEGREE_LIMIT, SCALE_LIMIT, bit_len, top_power};
-
-// The bits, or a refusal with zero.
-#[derive(Clone, Copy)]
-pub struct ConsumedBits {
-    pub refusal: u8,
-    pub bits: usize,
-}
+use number::{DEGREE_LIMIT, Refusal, SCALE_LIMIT, bit_len, top_power};
 
 // Counts the ct-ct multiplications of the longest chain without a pt-ct.
 fn pure_chain(degree: usize) -> usize
@@ -51,39 +44,23 @@ pub fn bits_from_one(strategy: SplitStrategy, degree: usize, input: usize, coeff
     pure.max(before)
 }
 
-// Returns the bits of a degree, 0 at degree 0: refusal 2 above 4,294,967,295, then 10 where a scale is above 65,535.
+// Returns the bits of a degree, 0 at degree 0. It refuses a degree above 4,294,967,295, then a scale above 65,535.
 pub fn bsgs_consumed_bits(
     strategy: SplitStrategy,
     degree: usize,
     input: usize,
     coeff: usize,
-) -> ConsumedBits
-    ensures { result ≡ bits_call strategy degree input coeff }
+) -> Result<usize, Refusal>
+    ensures { bits_in result ≡ bits_call strategy degree input coeff }
 {
     if DEGREE_LIMIT < degree {
-        return ConsumedBits {
-            refusal: 2,
-            bits: 0,
-        };
+        return Err(Refusal::DegreeTooHigh);
     }
-    if SCALE_LIMIT < input {
-        return ConsumedBits {
-            refusal: 10,
-            bits: 0,
-        };
-    }
-    if SCALE_LIMIT < coeff {
-        return ConsumedBits {
-            refusal: 10,
-            bits: 0,
-        };
+    if SCALE_LIMIT < input || SCALE_LIMIT < coeff {
+        return Err(Refusal::ScaleTooWide);
     }
     if degree == 0 {
-        return ConsumedBits {
-            refusal: 0,
-            bits: 0,
-        };
+        return Ok(0);
     }
-    let bits = bits_from_one(strategy, degree, input, coeff);
-    ConsumedBits { refusal: 0, bits }
+    Ok(bits_from_one(strategy, degree, input, coeff))
 }

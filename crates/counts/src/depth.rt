@@ -3,17 +3,10 @@ ghost use Rattle.std.specs.Prelude.{◌≡◌};
 ghost use Rattle.number.specs.Limits.{degree_limit};
 ghost use Rattle.number.specs.inside.Between.{Between};
 ghost use Rattle.counts.specs.Depth.{threshold, depth_of};
-ghost use Rattle.counts.specs.Calls.{depth_call};
+ghost use Rattle.counts.specs.Calls.{depth_in, depth_call};
 
 use super::choice::SplitStrategy;
-use number::{DEGREE_LIMIT, bit_len, power_of_two};
-
-// The depth, or a refusal with zero.
-#[derive(Clone, Copy)]
-pub struct EvalDepth {
-    pub refusal: u8,
-    pub depth: usize,
-}
+use number::{DEGREE_LIMIT, Refusal, bit_len, power_of_two};
 
 // Returns the least degree of a bit length at which MinMult takes one level more.
 pub fn depth_threshold(bits: usize) -> usize
@@ -39,22 +32,15 @@ pub fn depth_from_one(strategy: SplitStrategy, degree: usize) -> usize
     }
 }
 
-// Returns the depth of a degree, 0 at degree 0: refusal 2 above 4,294,967,295.
-pub fn bsgs_eval_depth(strategy: SplitStrategy, degree: usize) -> EvalDepth
-    ensures { result ≡ depth_call strategy degree }
+// Returns the depth of a degree, 0 at degree 0. It refuses a degree above 4,294,967,295.
+pub fn bsgs_eval_depth(strategy: SplitStrategy, degree: usize) -> Result<usize, Refusal>
+    ensures { depth_in result ≡ depth_call strategy degree }
 {
     if DEGREE_LIMIT < degree {
-        return EvalDepth {
-            refusal: 2,
-            depth: 0,
-        };
+        return Err(Refusal::DegreeTooHigh);
     }
     if degree == 0 {
-        return EvalDepth {
-            refusal: 0,
-            depth: 0,
-        };
+        return Ok(0);
     }
-    let depth = depth_from_one(strategy, degree);
-    EvalDepth { refusal: 0, depth }
+    Ok(depth_from_one(strategy, degree))
 }

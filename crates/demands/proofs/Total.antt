@@ -32,6 +32,7 @@ use Rattle.conversion.specs.ConvertCall.{convert_tests, refusal_for}
 use Rattle.interpolation.specs.Interpolate.{coefficients_of}
 use Rattle.interpolation.specs.InterpolateCall.{interpolate_refusal, interpolate_answer, interpolate_buffer}
 use Rattle.interpolation.specs.declared.Interpolated.{Interpolated}
+use Rattle.counts.specs.Calls.{OpCounts, SplitChoice, ConsumedBits, LargestDegree, EvalDepth}
 use Rattle.counts.specs.Calls.{no_split, min_depth_refusal, min_depth_call, min_mult_refusal, min_mult_call, no_counts, counts_refusal, counts_call}
 use Rattle.counts.specs.Calls.{no_depth, depth_refusal, depth_call, no_bits, bits_refusal, bits_call, no_largest, largest_tests, largest_call}
 use Rattle.counts.specs.Choice.{split_for, counts_of}
@@ -40,13 +41,8 @@ use Rattle.counts.specs.LargestDegree.{greatest_within, GreatestWithin}
 use Rattle.counts.specs.Depth.{depth_of}
 use Rattle.counts.specs.MinDepth.{min_depth}
 use Rattle.counts.specs.MinMult.{min_mult}
-use Rattle.counts.specs.declared.choice.OpCounts.{OpCounts}
-use Rattle.counts.specs.declared.choice.SplitChoice.{SplitChoice}
 use Rattle.counts.specs.declared.choice.SplitStrategy.{SplitStrategy}
 use Rattle.counts.specs.declared.choice.SplitStrategy.TheVariants.{MinDepth, MinMult}
-use Rattle.counts.specs.declared.consumed.ConsumedBits.{ConsumedBits}
-use Rattle.counts.specs.declared.budget.LargestDegree.{LargestDegree}
-use Rattle.counts.specs.declared.depth.EvalDepth.{EvalDepth}
 use Rattle.counts.proofs.BudgetPromises.{largest_degrees}
 use Rattle.counts.proofs.Promises.{chosen}
 use Rattle.lists.specs.Tree.{relists, plan_tree}

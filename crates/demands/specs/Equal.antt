@@ -36,9 +36,8 @@ use Rattle.interpolation.specs.InterpolateLaw.{InterpolateLaw}
 use Rattle.needed.specs.Promises.{NeededPowers}
 use Rattle.counts.specs.SliceRule.{SliceRule}
 use Rattle.counts.specs.PlainCount.{AllowedCounts}
-use Rattle.counts.specs.Calls.{min_depth_call, min_mult_call, depth_call}
+use Rattle.counts.specs.Calls.{SplitChoice, min_depth_call, min_mult_call, depth_call}
 use Rattle.counts.specs.Promises.{Chosen}
-use Rattle.counts.specs.declared.choice.SplitChoice.{SplitChoice}
 use Rattle.counts.specs.declared.choice.SplitStrategy.{SplitStrategy}
 use Rattle.counts.specs.declared.choice.SplitStrategy.TheVariants.{MinDepth, MinMult}
 use Rattle.lists.specs.TreeRule.{TreesByRule}

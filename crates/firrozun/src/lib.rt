@@ -3,9 +3,8 @@
 
 pub use conversion::{Converted, convert_coeffs};
 pub use counts::{
-    ConsumedBits, EvalDepth, LargestDegree, OpCounts, SplitChoice, SplitStrategy,
-    bsgs_consumed_bits, bsgs_eval_depth, bsgs_op_counts, largest_degree, min_depth_split,
-    min_mult_split, strategy_number,
+    Pair, Settings, SplitStrategy, bsgs_consumed_bits, bsgs_eval_depth, bsgs_op_counts,
+    largest_degree, min_depth_split, min_mult_split, strategy_number,
 };
 pub use interpolation::{Interpolated, chebyshev_interpolate};
 pub use lists::{Listed, decompose_bsgs, decompose_bsgs_f64};

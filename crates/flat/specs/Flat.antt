@@ -6,11 +6,7 @@ use Rattle.number.specs.declared.fold.Folded.{Folded}
 use Rattle.number.specs.declared.interval.Interval.{Interval}
 use Rattle.interpolation.specs.declared.Interpolated.{Interpolated}
 use Rattle.conversion.specs.declared.call.Converted.{Converted}
-use Rattle.counts.specs.declared.choice.SplitChoice.{SplitChoice}
-use Rattle.counts.specs.declared.choice.OpCounts.{OpCounts}
-use Rattle.counts.specs.declared.depth.EvalDepth.{EvalDepth}
-use Rattle.counts.specs.declared.consumed.ConsumedBits.{ConsumedBits}
-use Rattle.counts.specs.declared.budget.LargestDegree.{LargestDegree}
+use Rattle.counts.specs.Calls.{SplitChoice, OpCounts, EvalDepth, ConsumedBits, LargestDegree}
 use Rattle.lists.specs.declared.call.Listed.{Listed}
 use Rattle.walk.specs.declared.call.Trial.{Trial}
 use Rattle.walk.specs.declared.chain.Chain.{Chain}

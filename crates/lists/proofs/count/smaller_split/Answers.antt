@@ -5,9 +5,8 @@ use native.Mathlib.Omega.{arith}
 use borrow.Author.Tests.{le-ltb, ne_eqb}
 use Rattle.number.specs.Bits.{bit_len}
 use Rattle.counts.specs.MinDepth.{min_depth}
-use Rattle.counts.specs.declared.choice.SplitChoice.{SplitChoice}
 use Rattle.number.specs.Refusal.{unless_refused}
-use Rattle.counts.specs.Calls.{min_depth_call}
+use Rattle.counts.specs.Calls.{SplitChoice, min_depth_call}
 use Rattle.lists.proofs.count.smaller_split.Goals as goal
 
 accepted : (d : ℕ) → 1 ≤ d → d ≤ 4294967295 → min_depth_call d ≡ record { refusal = 0; split = min_depth (bit_len d) }
