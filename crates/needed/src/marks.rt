@@ -8,7 +8,7 @@ ghost use Rattle.needed.specs.inside.Marks.{padded, places, mark_at, mark_parts,
 
 use super::slicing::Slicing;
 use algebra::{Basis, Parity};
-use number::{PLAN_LIMIT, bit_len, is_allowed, power_of_two, split_degree, top_power};
+use number::{PLAN_LIMIT, bit_len, is_allowed, parts_of, power_of_two, top_power};
 
 // A mark for each power from 0 to the greatest degree.
 pub const MARKS: usize = PLAN_LIMIT + 1;
@@ -47,7 +47,7 @@ fn mark_parts(basis: Basis, n: usize, marks: &mut [bool; MARKS])
     requires { (2 ≤ n) × (n < count_limit) }
     ensures { marks.new ≡ mark_parts basis n marks.old }
 {
-    let parts = split_degree(n);
+    let parts = parts_of(n);
     match basis {
         Basis::Monomial => {}
         Basis::Chebyshev => mark(parts.distance, marks),
