@@ -61,6 +61,7 @@ fn greatest_within(
 }
 
 // Returns the largest degree from 1 to 4,095 within a budget of bits. It refuses a scale above 65,535, then a budget that no degree is within.
+#[tactic(auto, unfolding(crate::specs::Calls::largest_call, number::specs::Refusal::unless_refused))]
 pub fn largest_degree(
     strategy: SplitStrategy,
     budget: u64,

@@ -129,6 +129,7 @@ fn min_mult(parity: Parity, basis: Basis, degree: usize) -> usize
 }
 
 // Returns the split that a strategy chooses.
+#[tactic(auto, unfolding(crate::specs::Choice::split_for))]
 pub fn split_for_strategy(settings: Settings, degree: usize) -> usize
     requires { Between 1 degree plan_limit }
     ensures { result ≡ split_for settings.strategy settings.parity settings.basis degree }
@@ -140,6 +141,7 @@ pub fn split_for_strategy(settings: Settings, degree: usize) -> usize
 }
 
 // Returns MinDepth's split of a degree. It refuses a degree above 4,294,967,295, then degree 0.
+#[tactic(auto, unfolding(crate::specs::Calls::min_depth_call, number::specs::Refusal::unless_refused))]
 pub fn min_depth_split(degree: usize) -> Result<usize, Refusal>
     ensures { choice_in result ≡ min_depth_call degree }
 {
@@ -153,6 +155,7 @@ pub fn min_depth_split(degree: usize) -> Result<usize, Refusal>
 }
 
 // Returns MinMult's split of a degree. It refuses a degree above 4,095.
+#[tactic(auto, unfolding(crate::specs::Calls::min_mult_call, number::specs::Refusal::unless_refused))]
 pub fn min_mult_split(parity: Parity, basis: Basis, degree: usize) -> Result<usize, Refusal>
     ensures { choice_in result ≡ min_mult_call parity basis degree }
 {
@@ -163,6 +166,7 @@ pub fn min_mult_split(parity: Parity, basis: Basis, degree: usize) -> Result<usi
 }
 
 // Returns the pair at the chosen split, (0, 0) at degree 0. It refuses a degree above 4,095.
+#[tactic(auto, using(crate::proofs::ChoiceLaws::split_range, crate::proofs::ChoiceLaws::counts_from_one), unfolding(crate::specs::Calls::counts_call, crate::specs::Choice::counts_of, number::specs::Refusal::unless_refused))]
 pub fn bsgs_op_counts(settings: Settings, degree: usize) -> Result<Pair, Refusal>
     ensures { counts_in result ≡ counts_call settings.strategy settings.parity settings.basis degree }
 {

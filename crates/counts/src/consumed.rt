@@ -45,6 +45,7 @@ pub fn bits_from_one(strategy: SplitStrategy, degree: usize, input: usize, coeff
 }
 
 // Returns the bits of a degree, 0 at degree 0. It refuses a degree above 4,294,967,295, then a scale above 65,535.
+#[tactic(auto, unfolding(crate::specs::Calls::bits_call, crate::specs::ConsumedBits::bits_of, number::specs::Refusal::unless_refused))]
 pub fn bsgs_consumed_bits(
     strategy: SplitStrategy,
     degree: usize,

@@ -33,6 +33,7 @@ pub fn depth_from_one(strategy: SplitStrategy, degree: usize) -> usize
 }
 
 // Returns the depth of a degree, 0 at degree 0. It refuses a degree above 4,294,967,295.
+#[tactic(auto, unfolding(crate::specs::Calls::depth_call, crate::specs::Depth::depth_of, number::specs::Refusal::unless_refused))]
 pub fn bsgs_eval_depth(strategy: SplitStrategy, degree: usize) -> Result<usize, Refusal>
     ensures { depth_in result ≡ depth_call strategy degree }
 {
