@@ -11,6 +11,7 @@ use needed::Slicing;
 use number::{bit_len, power_of_two, top_power};
 
 // Counts the powers from 2 to the degree that the parity allows.
+#[tactic(auto, using(crate::proofs::BoundLaws::allowed_one))]
 fn allowed_from_two(parity: Parity, degree: usize) -> usize
     requires { Between 1 degree plan_limit }
     ensures { result + allowed_to parity 1 ≡ allowed_to parity degree }

@@ -117,6 +117,7 @@ fn best_split(parity: Parity, basis: Basis, degree: usize, bits: usize) -> Best
 }
 
 // Returns MinMult's split.
+#[tactic(auto, using(number::proofs::Bits::few_digits, number::proofs::Bits::digit_some, crate::proofs::MinMultLaws::mult_low))]
 fn min_mult(parity: Parity, basis: Basis, degree: usize) -> usize
     requires { degree ≤ plan_limit }
     ensures { result ≡ min_mult parity basis degree }
@@ -166,7 +167,7 @@ pub fn min_mult_split(parity: Parity, basis: Basis, degree: usize) -> Result<usi
 }
 
 // Returns the pair at the chosen split, (0, 0) at degree 0. It refuses a degree above 4,095.
-#[tactic(auto, using(crate::proofs::ChoiceLaws::split_range, crate::proofs::ChoiceLaws::counts_from_one), unfolding(crate::specs::Calls::counts_call, crate::specs::Choice::counts_of, number::specs::Refusal::unless_refused))]
+#[tactic(auto, unfolding(crate::specs::Calls::counts_call, number::specs::Refusal::unless_refused))]
 pub fn bsgs_op_counts(settings: Settings, degree: usize) -> Result<Pair, Refusal>
     ensures { counts_in result ≡ counts_call settings.strategy settings.parity settings.basis degree }
 {

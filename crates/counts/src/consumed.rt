@@ -10,6 +10,7 @@ use super::depth::depth_from_one;
 use number::{DEGREE_LIMIT, Refusal, SCALE_LIMIT, bit_len, top_power};
 
 // Counts the ct-ct multiplications of the longest chain without a pt-ct.
+#[tactic(auto, using(number::proofs::Bits::digits_range, crate::proofs::ConsumedLaws::pure_less, crate::proofs::ConsumedLaws::pure_whole))]
 fn pure_chain(degree: usize) -> usize
     requires { Between 1 degree degree_limit }
     ensures { result ≡ pure_chain degree }
@@ -23,6 +24,7 @@ fn pure_chain(degree: usize) -> usize
 }
 
 // Counts the ct-ct multiplications of the longest chain with a pt-ct.
+#[tactic(auto, using(crate::proofs::DepthLaws::depth_bounds), unfolding(crate::specs::ConsumedBits::chain_before))]
 fn chain_before(strategy: SplitStrategy, degree: usize) -> usize
     requires { Between 1 degree degree_limit }
     ensures { result ≡ chain_before strategy degree }

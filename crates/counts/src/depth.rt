@@ -9,6 +9,7 @@ use super::choice::SplitStrategy;
 use number::{DEGREE_LIMIT, Refusal, bit_len, power_of_two};
 
 // Returns the least degree of a bit length at which MinMult takes one level more.
+#[tactic(auto, using(number::proofs::Bits::power_range, crate::proofs::DepthLaws::half_fits))]
 pub fn depth_threshold(bits: usize) -> usize
     requires { Between 1 bits 32 }
     ensures { result ≡ threshold bits }
