@@ -45,8 +45,7 @@ use Rattle.counts.proofs.Promises.{chosen}
 use Rattle.counts.proofs.SliceRule.{slice_rule}
 use Rattle.lists.specs.Tree.{relists}
 use Rattle.lists.specs.Arrange.{arranged, leaves_of}
-use Rattle.lists.specs.ListCall.{list_refusal, list_answer, list_coefficients, list_boundaries, ListCall}
-use Rattle.lists.specs.declared.call.Listed.{Listed}
+use Rattle.lists.specs.ListCall.{Listed, list_refusal, list_answer, list_coefficients, list_boundaries, ListCall}
 use Rattle.lists.proofs.Lists.{lists_in_order}
 use Rattle.lists.proofs.Promises.{lists_to_53, folded_lists_to_53, lists_same, folded_lists_same}
 use Rattle.lists.proofs.Same.{arranged_same}

@@ -16,10 +16,9 @@ use Rattle.counts.specs.Choice.{split_for}
 use Rattle.counts.specs.declared.choice.SplitStrategy.{SplitStrategy}
 use Rattle.lists.specs.Tree.{plan_tree}
 use Rattle.lists.specs.Arrange.{leaves_of}
-use Rattle.lists.specs.declared.call.Listed.{Listed}
+use Rattle.lists.specs.ListCall.{Listed}
 use Rattle.lists.proofs.Standing.{Stands, whole}
-use Rattle.rebuild.specs.RebuildCall.{RebuildCall}
-use Rattle.rebuild.specs.declared.call.Rebuilt.{Rebuilt}
+use Rattle.rebuild.specs.RebuildCall.{Rebuilt, RebuildCall}
 use Rattle.rebuild.proofs.RoundTrips.{gives_again, same_lists, lists_again, listed_front, ended_front}
 use Rattle.plan.specs.PlanHead.{head_of}
 use Rattle.plan.specs.PlanCall.{planned_coefficients, planned_parity, plan_coefficients, plan_boundaries, PlanCall, Planned}

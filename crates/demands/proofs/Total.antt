@@ -48,11 +48,9 @@ use Rattle.counts.proofs.Promises.{chosen}
 use Rattle.lists.specs.Tree.{relists, plan_tree}
 use Rattle.lists.specs.Arrange.{leaves_of}
 use Rattle.lists.specs.Lists.{lists_of}
-use Rattle.lists.specs.ListCall.{list_tests, list_refusal, list_answer, list_coefficients, list_boundaries}
-use Rattle.lists.specs.declared.call.Listed.{Listed}
+use Rattle.lists.specs.ListCall.{Listed, list_tests, list_refusal, list_answer, list_coefficients, list_boundaries}
 use Rattle.lists.proofs.Lists.{lists_in_order}
-use Rattle.rebuild.specs.RebuildCall.{coefficients_from, rebuild_tests, rebuild_refusal, rebuild_answer, rebuild_coefficients}
-use Rattle.rebuild.specs.declared.call.Rebuilt.{Rebuilt}
+use Rattle.rebuild.specs.RebuildCall.{Rebuilt, coefficients_from, rebuild_tests, rebuild_refusal, rebuild_answer, rebuild_coefficients}
 use Rattle.rebuild.proofs.RoundTrips.{rebuilt_facts, rebuilt_size, count_is, buffer_is}
 use Rattle.walk.specs.Limits.{modulus_limit}
 use Rattle.walk.specs.Lent.{exact_walk}

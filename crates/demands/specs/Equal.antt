@@ -42,9 +42,8 @@ use Rattle.counts.specs.declared.choice.SplitStrategy.{SplitStrategy}
 use Rattle.counts.specs.declared.choice.SplitStrategy.TheVariants.{MinDepth, MinMult}
 use Rattle.lists.specs.TreeRule.{TreesByRule}
 use Rattle.lists.specs.Lists.{ListsInOrder}
-use Rattle.lists.specs.ListCall.{ListCall}
+use Rattle.lists.specs.ListCall.{Listed, ListCall}
 use Rattle.lists.specs.Promises.{ListsTo53, FoldedListsTo53, ListsSame, FoldedListsSame}
-use Rattle.lists.specs.declared.call.Listed.{Listed}
 use Rattle.walk.specs.declared.plan.Head.{Head}
 use Rattle.plan.specs.Reported.{transform_cost}
 use Rattle.plan.specs.PlanCall.{planned_parity, Accepted, planned, head_for, coefficients_for, boundaries_for}

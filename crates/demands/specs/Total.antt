@@ -38,10 +38,8 @@ use Rattle.counts.specs.declared.choice.SplitStrategy.TheVariants.{MinDepth, Min
 use Rattle.lists.specs.Tree.{plan_tree}
 use Rattle.lists.specs.Arrange.{arranged, ends_of}
 use Rattle.lists.specs.Lists.{lists_of}
-use Rattle.lists.specs.ListCall.{list_tests, ListCall}
-use Rattle.lists.specs.declared.call.Listed.{Listed}
-use Rattle.rebuild.specs.RebuildCall.{coefficients_from, rebuild_tests, RebuildCall}
-use Rattle.rebuild.specs.declared.call.Rebuilt.{Rebuilt}
+use Rattle.lists.specs.ListCall.{Listed, list_tests, ListCall}
+use Rattle.rebuild.specs.RebuildCall.{Rebuilt, coefficients_from, rebuild_tests, RebuildCall}
 use Rattle.walk.specs.Lent.{exact_walk}
 use Rattle.walk.specs.Trial.{trial_tests, trial_of}
 use Rattle.walk.specs.Chain.{chain_tests, chain_of}

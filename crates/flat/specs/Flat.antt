@@ -7,10 +7,10 @@ use Rattle.number.specs.declared.interval.Interval.{Interval}
 use Rattle.interpolation.specs.declared.Interpolated.{Interpolated}
 use Rattle.conversion.specs.declared.call.Converted.{Converted}
 use Rattle.counts.specs.Calls.{SplitChoice, OpCounts, EvalDepth, ConsumedBits, LargestDegree}
-use Rattle.lists.specs.declared.call.Listed.{Listed}
+use Rattle.lists.specs.ListCall.{Listed}
 use Rattle.walk.specs.declared.call.Trial.{Trial}
 use Rattle.walk.specs.declared.chain.Chain.{Chain}
-use Rattle.rebuild.specs.declared.call.Rebuilt.{Rebuilt}
+use Rattle.rebuild.specs.RebuildCall.{Rebuilt}
 use Rattle.plan.specs.PlanSizes.{PlanSizes}
 use Rattle.flat.specs.declared.flat.CParts.{CParts}
 use Rattle.flat.specs.declared.flat.CSplit.{CSplit}

@@ -1,17 +1,16 @@
--- The list calls' tests: what holds where none of them does, what an early one leaves of the others, and the shape after a refusal and without one.
-use mathlib.Core.Path.{◌≡◌, refl, ◌∙◌}
+-- The list calls' tests: what holds where none of them does, and what an early one leaves of the others.
+use mathlib.Core.Path.{◌≡◌, ◌∙◌}
 use mathlib.Core.Bool.{Bool, true}
 use mathlib.Core.List.{List, [], ◌∷◌, ◌++◌}
-use Prim.Native.Nat.{ℕ, zero, suc, ◌-◌, ◌^◌, ◌≤◌, ◌<◌}
+use Prim.Native.Nat.{ℕ, ◌-◌, ◌≤◌, ◌<◌}
 use native.Mathlib.Omega.{arith}
 use borrow.Author.Tests.{lt-ltb, le-ltb, ltb-false, eqb-false, not-false}
 use Rattle.number.specs.Limits.{plan_limit}
-use Rattle.number.specs.Refusal.{Test, first_refusal, unless_refused, Numbered, NoneHolds}
+use Rattle.number.specs.Refusal.{Test, first_refusal, Numbered, NoneHolds}
 use Rattle.number.specs.Tests.{no_boundaries}
 use Rattle.number.specs.inside.Between.{Between}
 use Rattle.number.proofs.FirstRefusal.{none_holds, first_kept, first_of_more}
-use Rattle.lists.specs.ListCall.{no_lists}
-use Rattle.lists.specs.inside.Shape.{early_tests, early_refusal, refusal_by, shape_of}
+use Rattle.lists.specs.inside.Shape.{early_tests, early_refusal, refusal_by}
 
 -- ---- the tests of the list calls
 
@@ -62,22 +61,3 @@ module _ (n : ℕ) (small : Bool) (room : ℕ) where
         let all : Numbered tests = (omega arith, (omega arith, (omega arith, (omega arith, (omega arith, tt))))) in
         let passed = none_holds tests all none in
         (facts (no_boundaries boundaries lists ∷ []) passed, ltb-false boundaries lists passed.1.1.1.1.0)
-
--- ---- the shape
-
--- after a refusal the other numbers do not matter
-pub zeros : (refusal n split lists : ℕ) → 0 < refusal → shape_of refusal 0 0 0 ≡ shape_of refusal n split lists
-unfolding shape_of unless_refused
-zeros zero n split lists some = absurd (omega arith)
-zeros (suc k) n split lists some = refl
-
-pub zero_shape : (refusal : ℕ) → 0 < refusal → record { split = 0; answer = no_lists refusal } ≡ shape_of refusal 0 0 0
-unfolding shape_of unless_refused
-zero_shape zero some = absurd (omega arith)
-zero_shape (suc k) some = refl
-
--- without a refusal all of them stand
-pub full_shape : {refusal split lists : ℕ} (n : ℕ) {s l base : ℕ} → refusal ≡ 0 → s ≡ split → l ≡ lists → base ≡ 2 ^ s
-    → record { split = s; answer = record { refusal = 0; degree = n - 1; base = base; coefficients = n; lists = l } } ≡ shape_of refusal n split lists
-unfolding shape_of unless_refused
-full_shape n none split_is lists_is base_is = rw (none, base_is, split_is, lists_is)

@@ -23,9 +23,8 @@ use Rattle.counts.specs.declared.choice.SplitStrategy.{SplitStrategy}
 use Rattle.counts.proofs.ChoiceLaws.{split_range}
 use Rattle.lists.specs.Tree.{Tree, relists, plan_tree}
 use Rattle.lists.specs.Arrange.{arranged, leaves_of, ends_of}
-use Rattle.lists.specs.ListCall.{list_refusal, list_answer, list_coefficients, list_boundaries, ListCall}
+use Rattle.lists.specs.ListCall.{Listed, list_refusal, list_answer, list_coefficients, list_boundaries, ListCall}
 use Rattle.lists.specs.TreeFacts.{Sound}
-use Rattle.lists.specs.declared.call.Listed.{Listed}
 use Rattle.lists.proofs.ArrangedSums.{listed_sum, listed_multiple}
 use Rattle.lists.proofs.Arranging.{length_ends}
 use Rattle.lists.proofs.ListCall.{list_passed, front_take}

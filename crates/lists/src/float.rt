@@ -1,17 +1,16 @@
 // Listing f64 coefficients in place: the functions of whole.rt over floats. Nothing is asked of the coefficients.
 ghost use Rattle.std.specs.Prelude.{◌≡◌, ◌+◌, ◌≤◌, ◌<◌, ◌^◌, length};
-ghost use Rattle.std.proofs.lemmas.List.Edits.{sets};
 ghost use Rattle.algebra.specs.Cut.{cut_at};
 ghost use Rattle.number.specs.Numbers.{float_ops, float_numbers};
 ghost use Rattle.number.specs.Tests.{degree_of};
 ghost use Rattle.lists.specs.Tree.{tree_of};
-ghost use Rattle.lists.specs.ListCall.{ListCall};
+ghost use Rattle.lists.specs.ListCall.{listed_in, ListCall};
 ghost use Rattle.lists.specs.inside.Listing.{Listable, InPlace};
 
-use super::call::{Listed, shape_for};
-use super::count::{listed_again, relists, smaller_split};
-use counts::SplitStrategy;
-use number::{Basis, Parity, factorize_coeffs_chebyshev_f64, power_of_two, top_power};
+use super::call::{Listing, check_sizes};
+use super::count::{count_lists, listed_again, relists, smaller_split};
+use counts::{Settings, split_for_strategy};
+use number::{Basis, Refusal, factorize_coeffs_chebyshev_f64, power_of_two, top_power};
 
 // The coefficients cut at p.
 fn cut_coeffs_f64(basis: Basis, p: usize, c: &mut [f64])
@@ -77,46 +76,32 @@ fn list_slice_f64(
     n + 1
 }
 
-// The coefficients copied to the front of a buffer.
-fn copy_coeffs_f64(c: &[f64], out: &mut [f64])
-    requires { length c.now ≤ length out.old }
-    ensures { out.new ≡ sets out.old 0 c.now }
-{
-    let mut i = 0;
-    while i < c.len() {
-        out[i] = c[i];
-        i += 1;
-    }
-}
-
-// The list call: the lists of c one after another in `out`, and in `bounds` the place just past each.
+// The list call: writes the lists of c one after another to `out`, and the place just past each to `bounds`. Every test is made before the first write.
 pub fn decompose_bsgs_f64(
-    strategy: SplitStrategy,
-    parity: Parity,
-    basis: Basis,
+    settings: Settings,
     c: &[f64],
     out: &mut [f64],
     bounds: &mut [u16],
-) -> Listed
-    ensures { ListCall float_numbers strategy parity basis c.now out.old bounds.old
-        result out.new bounds.new }
+) -> Result<Listing, Refusal>
+    ensures { ListCall float_numbers settings.strategy settings.parity settings.basis c.now out.old bounds.old
+        (listed_in result) out.new bounds.new }
 {
     let n = c.len();
-    let shape = shape_for(strategy, parity, basis, n, true, out.len(), bounds.len());
-    let answer = shape.answer;
-    if 0 < answer.refusal {
-        return answer;
+    check_sizes(n, true, out.len())?;
+    let degree = n - 1;
+    let split = split_for_strategy(settings, degree);
+    let leading = relists(settings.strategy);
+    let lists = count_lists(leading, degree, degree, split);
+    if bounds.len() < lists {
+        return Err(Refusal::BoundariesShort);
     }
-    copy_coeffs_f64(c, out);
-    list_coeffs_f64(
-        relists(strategy),
-        basis,
-        n - 1,
-        shape.split,
-        0,
-        0,
-        &mut out[..n],
-        bounds,
-    );
-    answer
+    let part = &mut out[..n];
+    part.copy_from_slice(c);
+    list_coeffs_f64(leading, settings.basis, degree, split, 0, 0, part, bounds);
+    Ok(Listing {
+        degree,
+        base: power_of_two(split),
+        coefficients: n,
+        lists,
+    })
 }

@@ -7,15 +7,15 @@ ghost use Rattle.number.specs.Exact.{AllTo52};
 ghost use Rattle.number.specs.inside.Room.{SumByLengthTo53};
 ghost use Rattle.number.specs.Tests.{degree_of};
 ghost use Rattle.lists.specs.Tree.{tree_of};
-ghost use Rattle.lists.specs.ListCall.{ListCall};
+ghost use Rattle.lists.specs.ListCall.{listed_in, ListCall};
 ghost use Rattle.lists.specs.inside.Listing.{Listable, InPlace};
 
-use super::call::{Listed, shape_for};
-use super::count::{listed_again, relists, smaller_split};
-use counts::SplitStrategy;
+use super::call::{Listing, check_sizes};
+use super::count::{count_lists, listed_again, relists, smaller_split};
+use counts::{Settings, split_for_strategy};
 // It stands in `number`, which conversion needs it from too.
 pub use number::copy_coeffs;
-use number::{Basis, Parity, factorize_coeffs_chebyshev, power_of_two, sum_fits, top_power};
+use number::{Basis, Refusal, factorize_coeffs_chebyshev, power_of_two, sum_fits, top_power};
 
 // The coefficients cut at p.
 fn cut_coeffs(basis: Basis, p: usize, c: &mut [i64])
@@ -81,35 +81,32 @@ fn list_slice(
     n + 1
 }
 
-// The list call: the lists of c one after another in `out`, and in `bounds` the place just past each.
+// The list call: writes the lists of c one after another to `out`, and the place just past each to `bounds`. Every test is made before the first write.
 pub fn decompose_bsgs(
-    strategy: SplitStrategy,
-    parity: Parity,
-    basis: Basis,
+    settings: Settings,
     c: &[i64],
     out: &mut [i64],
     bounds: &mut [u16],
-) -> Listed
-    ensures { ListCall whole_numbers strategy parity basis c.now out.old bounds.old
-        result out.new bounds.new }
+) -> Result<Listing, Refusal>
+    ensures { ListCall whole_numbers settings.strategy settings.parity settings.basis c.now out.old bounds.old
+        (listed_in result) out.new bounds.new }
 {
     let n = c.len();
-    let small = sum_fits(c);
-    let shape = shape_for(strategy, parity, basis, n, small, out.len(), bounds.len());
-    let answer = shape.answer;
-    if 0 < answer.refusal {
-        return answer;
+    check_sizes(n, sum_fits(c), out.len())?;
+    let degree = n - 1;
+    let split = split_for_strategy(settings, degree);
+    let leading = relists(settings.strategy);
+    let lists = count_lists(leading, degree, degree, split);
+    if bounds.len() < lists {
+        return Err(Refusal::BoundariesShort);
     }
-    copy_coeffs(c, out);
-    list_coeffs(
-        relists(strategy),
-        basis,
-        n - 1,
-        shape.split,
-        0,
-        0,
-        &mut out[..n],
-        bounds,
-    );
-    answer
+    let part = &mut out[..n];
+    part.copy_from_slice(c);
+    list_coeffs(leading, settings.basis, degree, split, 0, 0, part, bounds);
+    Ok(Listing {
+        degree,
+        base: power_of_two(split),
+        coefficients: n,
+        lists,
+    })
 }

@@ -24,9 +24,8 @@ use Rattle.counts.specs.declared.choice.SplitStrategy.{SplitStrategy}
 use Rattle.lists.specs.Tree.{Tree, plan_tree}
 use Rattle.lists.specs.Arrange.{ends_of}
 use Rattle.rebuild.specs.Rebuild.{rebuilt}
-use Rattle.rebuild.specs.RebuildCall.{begins, no_rebuilt, matches_settings, coefficients_from, rebuild_tests}
+use Rattle.rebuild.specs.RebuildCall.{Rebuilt, begins, no_rebuilt, matches_settings, coefficients_from, rebuild_tests}
 use Rattle.rebuild.specs.RebuildCall.{rebuild_refusal, rebuild_answer, rebuild_coefficients, RebuildCall}
-use Rattle.rebuild.specs.declared.call.Rebuilt.{Rebuilt}
 use Rattle.rebuild.specs.inside.Rebuilding.{coefficients_at, Written}
 
 -- base and lists of the settings

@@ -9,8 +9,6 @@ use Rattle.counts.specs.Choice.{split_for}
 use Rattle.counts.specs.declared.choice.SplitStrategy.{SplitStrategy}
 use Rattle.lists.specs.Tree.{plan_tree}
 use Rattle.lists.specs.Arrange.{leaves_of}
-use Rattle.lists.specs.ListCall.{no_lists}
-use Rattle.lists.specs.declared.call.Shape.{Shape}
 
 -- the tests ahead of the boundaries, by whether the coefficients are small enough, for a coefficient buffer of `room` places
 abbrev pub early_tests : (n : ℕ) → (small : Bool) → (room : ℕ) → List Test
@@ -23,16 +21,3 @@ early_refusal n small room = first_refusal (early_tests n small room)
 -- and the same of all tests, for a boundary buffer of `boundaries` places
 unfoldable pub refusal_by : (n : ℕ) → (small : Bool) → (room boundaries lists : ℕ) → ℕ
 refusal_by n small room boundaries lists = first_refusal (early_tests n small room ++ (no_boundaries boundaries lists ∷ []))
-
--- the answer, and the split that the lister goes by; after a refusal the split is 0 too
-unfoldable pub shape_of : (refusal n split lists : ℕ) → Shape
-shape_of refusal n split lists = unless_refused refusal (record {
-  split = split;
-  answer = record { refusal = 0; degree = n - 1; base = 2 ^ split; coefficients = n; lists = lists };
-}) (record { split = 0; answer = no_lists refusal })
-
--- of a polynomial of n coefficients
-abbrev pub plan_shape : SplitStrategy → Parity → Basis → (n : ℕ) → (small : Bool) → (room boundaries : ℕ) → Shape
-plan_shape strategy parity basis n small room boundaries =
-    shape_of (refusal_by n small room boundaries (leaves_of (plan_tree strategy parity basis (n - 1)))) n (split_for strategy parity basis (n - 1))
-    (leaves_of (plan_tree strategy parity basis (n - 1)))

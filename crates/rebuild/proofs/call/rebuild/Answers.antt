@@ -22,14 +22,14 @@ degrees c = record { from = omega arith; to = omega arith }
 
 -- the lists have the settings
 has : (c : Else-not-matches_settings) → let asked = c.args in
-    matches_settings asked.strategy asked.parity asked.basis asked.degree asked.base asked.lists.now asked.bounds.now ≡ true
+    matches_settings asked.settings.strategy asked.settings.parity asked.settings.basis asked.degree asked.base asked.lists.now asked.bounds.now ≡ true
 has c = sym c.matches_settings.ensures ∙ c.if-not-matches_settings.false
 
 -- so there is a number for each coefficient
 places : (c : Else-not-matches_settings) → let asked = c.args in asked.degree + 1 ≤ length asked.lists.now
 places c =
     let asked = c.args in
-    let settings = tests.settings_of asked.strategy asked.parity asked.basis asked.degree asked.base asked.lists.now asked.bounds.now
+    let settings = tests.settings_of asked.settings.strategy asked.settings.parity asked.settings.basis asked.degree asked.base asked.lists.now asked.bounds.now
     (has c) in
     omega (arith, settings.places)
 
@@ -39,23 +39,23 @@ size c = let asked = c.args in length-take-le (asked.degree + 1) asked.lists.now
 
 -- what the call below answers and writes
 written : (c : After-rebuild_in_scratch-refusal) → let asked = c.args in asked.degree + 1 ≤ length asked.lists.now →
-    Written (coefficients_from asked.strategy asked.parity asked.basis asked.degree asked.lists.now) (suc asked.degree) asked.out.now
+    Written (coefficients_from asked.settings.strategy asked.settings.parity asked.settings.basis asked.degree asked.lists.now) (suc asked.degree) asked.out.now
     c.rebuild_in_scratch-refusal.result c.rebuild_in_scratch-refusal.new.out
 written c enough =
     let asked = c.args in
-    tests.written_from asked.strategy asked.parity asked.basis asked.degree asked.base asked.lists.now asked.bounds.now
+    tests.written_from asked.settings.strategy asked.settings.parity asked.settings.basis asked.degree asked.base asked.lists.now asked.bounds.now
     (add-one asked.degree) enough c.split_for_strategy-split.ensures c.rebuild_in_scratch-refusal.ensures
 
 pub returns-then-degree-gt-PLAN_LIMIT : goal.returns-then-degree-gt-PLAN_LIMIT
 returns-then-degree-gt-PLAN_LIMIT c =
     let asked = c.args in
-    tests.refused_high asked.strategy asked.parity asked.basis asked.degree asked.base asked.lists.now asked.bounds.now
+    tests.refused_high asked.settings.strategy asked.settings.parity asked.settings.basis asked.degree asked.base asked.lists.now asked.bounds.now
     asked.out.now c.if-degree-gt-PLAN_LIMIT.true c.refused.ensures
 
 pub returns-then-degree-eq0 : goal.returns-then-degree-eq0
 returns-then-degree-eq0 c =
     let asked = c.args in
-    tests.refused_none asked.strategy asked.parity asked.basis asked.degree asked.base asked.lists.now asked.bounds.now
+    tests.refused_none asked.settings.strategy asked.settings.parity asked.settings.basis asked.degree asked.base asked.lists.now asked.bounds.now
     asked.out.now c.if-degree-eq0.true c.refused-then-degree-eq0.ensures
 
 pub split_for_strategy-split-requires : goal.split_for_strategy-split-requires
@@ -67,7 +67,7 @@ matches_settings-requires c = (degrees (goal.at.matches_settings-requires c).Els
 pub returns-then-not-matches_settings : goal.returns-then-not-matches_settings
 returns-then-not-matches_settings c =
     let asked = c.args in
-    tests.refused_settings asked.strategy asked.parity asked.basis asked.degree asked.base asked.lists.now asked.bounds.now
+    tests.refused_settings asked.settings.strategy asked.settings.parity asked.settings.basis asked.degree asked.base asked.lists.now asked.bounds.now
     asked.out.now (degrees (goal.at.returns-then-not-matches_settings c).Else-degree-eq0) (sym c.matches_settings.ensures ∙ c.if-not-matches_settings.true)
     c.refused-then-not-matches_settings.ensures
 
@@ -82,7 +82,7 @@ rebuild_in_scratch-refusal-requires c =
     let here = goal.at.rebuild_in_scratch-refusal-requires c in
     let asked = c.args in
     let few = degrees here.Else-degree-eq0 in
-    let range = split_range asked.strategy asked.parity asked.basis asked.degree few in
+    let range = split_range asked.settings.strategy asked.settings.parity asked.settings.basis asked.degree few in
     let count = size here.Else-not-matches_settings in
     record {
       degrees = record { from = omega (arith, count, few.from); to = omega (arith, count, few.to) };
@@ -94,7 +94,7 @@ returns-then-refusal-gt0 c =
     let here = goal.at.returns-then-refusal-gt0 c in
     let asked = c.args in
     let wrote = written here.After-rebuild_in_scratch-refusal (places here.Else-not-matches_settings) in
-    tests.refused_last asked.strategy asked.parity asked.basis asked.degree asked.base asked.lists.now asked.bounds.now
+    tests.refused_last asked.settings.strategy asked.settings.parity asked.settings.basis asked.degree asked.base asked.lists.now asked.bounds.now
     asked.out.now (degrees here.Else-degree-eq0) (has here.Else-not-matches_settings) wrote c.if-refusal-gt0.true c.refused-then-refusal-gt0.ensures
 
 pub returns : goal.returns
@@ -102,6 +102,6 @@ returns c =
     let here = goal.at.returns c in
     let asked = c.args in
     let wrote = written here.After-rebuild_in_scratch-refusal (places here.Else-not-matches_settings) in
-    tests.call_made asked.strategy asked.parity asked.basis asked.degree asked.base asked.lists.now asked.bounds.now
+    tests.call_made asked.settings.strategy asked.settings.parity asked.settings.basis asked.degree asked.base asked.lists.now asked.bounds.now
     asked.out.now (degrees here.Else-degree-eq0) (has here.Else-not-matches_settings) wrote (omega arith)
     (ap (λ n. record { refusal = 0; coefficients = n }) (add-one asked.degree))

@@ -1,4 +1,4 @@
--- `lists::call::early_refusal` meets its contract: it makes the definition's tests in the definition's order. Each answer is given where the
+-- `lists::call::check_sizes` meets its contract: it makes the definition's tests in the definition's order. Each answer is given where the
 -- tests ahead of it failed and its own held, or, for 0, where all failed.
 use mathlib.Core.Path.{◌≡◌, ◌∙◌}
 use mathlib.Core.Bool.{false}
@@ -8,8 +8,8 @@ use borrow.Author.Tests.{lt-ltb, le-ltb, eq-eqb, ne_eqb}
 use lib.Dec.{ltb, eqb}
 use Rattle.number.specs.Limits.{plan_limit}
 use Rattle.lists.specs.inside.Shape.{early_refusal}
-use Rattle.lists.proofs.call.early_refusal.Goals as goal
-use Rattle.lists.proofs.call.early_refusal.Goals.{Else-degree-eq0, Else-degree-gt-PLAN_LIMIT}
+use Rattle.lists.proofs.call.check_sizes.Goals as goal
+use Rattle.lists.proofs.call.check_sizes.Goals.{Else-degree-eq0, Else-degree-gt-PLAN_LIMIT}
 
 -- the degree is not too high, and not 0
 not_high : (c : Else-degree-gt-PLAN_LIMIT) → ltb plan_limit (c.args.n - 1) ≡ false
@@ -42,9 +42,9 @@ returns-then-room-n c =
     let args = c.args in
     rw (not_high here.Else-degree-gt-PLAN_LIMIT, not-zero here.Else-degree-eq0, c.if-not-small.false, lt-ltb args.room args.n c.if-room-n.true)
 
-pub returns-else-room-n : goal.returns-else-room-n
+pub returns : goal.returns
 unfolding early_refusal
-returns-else-room-n c =
-    let here = goal.at.returns-else-room-n c in
+returns c =
+    let here = goal.at.returns c in
     let args = c.args in
     rw (not_high here.Else-degree-gt-PLAN_LIMIT, not-zero here.Else-degree-eq0, c.if-not-small.false, le-ltb args.room args.n c.if-room-n.false)
