@@ -4,6 +4,8 @@ use mathlib.Core.List.{List}
 use mathlib.Core.Bool.{true, false}
 use mathlib.Core.Option.{Option, some, none}
 use Prim.Native.Nat.{ℕ, ◌/◌, ◌≤◌, ◌<◌}
+use Rattle.std.proofs.Common.{inl, inr}
+use Rattle.std.proofs.lemmas.Bool.{cases_lt}
 use borrow.Author.Tests.{le-leb, lt-leb, lt-ltb, le-ltb}
 use lib.IntN.{ℤ}
 use lib.ListN.{length}
@@ -77,13 +79,22 @@ module _ {A : Type 0} (𝓡 : Rules A) (head : Head) (cs : List ℤ) (bs ss : Li
 
 -- the answer, by the modulus and the walk
 module _ (head : Head) (cs : List ℤ) (bs ss : List ℕ) (x : ℤ) (m : ℕ) where
-  pub modulus_low : m < 2 → no_trial 11 ≡ trial_of head cs bs ss x m
+  modulus_low : m < 2 → no_trial 11 ≡ trial_of head cs bs ss x m
   unfolding trial_of trial_refusal unless_refused
   modulus_low h = rw (lt-ltb m 2 h)
 
-  pub modulus_high : 2 ≤ m → modulus_limit < m → no_trial 11 ≡ trial_of head cs bs ss x m
+  modulus_high : 2 ≤ m → modulus_limit < m → no_trial 11 ≡ trial_of head cs bs ss x m
   unfolding trial_of trial_refusal unless_refused
   modulus_high g h = rw (le-ltb m 2 g, lt-ltb modulus_limit m h)
+
+  pub modulus_refused : (IsModulus m → ⊥) → no_trial 11 ≡ trial_of head cs bs ss x m
+  modulus_refused bad = elim (cases_lt m 2) [
+    | inl low ↦ modulus_low low
+    | inr from_two ↦ elim (cases_lt modulus_limit m) [
+      | inl high ↦ modulus_high from_two high
+      | inr most ↦ absurd (bad (record { low = from_two; high = most }))
+    ]
+  ]
 
   module _ (h : IsModulus m) where
     pub no_walk : trial_walk head cs bs ss x m ≡ none → no_trial 24 ≡ trial_of head cs bs ss x m

@@ -2,10 +2,9 @@
 ghost use Rattle.std.specs.Prelude.{◌≡◌};
 ghost use Rattle.walk.specs.Chain.{no_chain, chain_of};
 
-use crate::arithmetic::Arithmetic;
 use crate::call::walk_lent;
 use crate::plan::Head;
-use crate::powers::Found;
+use crate::weights::Weights;
 use number::SCALE_LIMIT;
 
 // What the call answers: 0 or the refusal, and the weight, zero after a refusal.
@@ -15,14 +14,11 @@ pub struct Chain {
     pub weight: u64,
 }
 
-// A refusal.
+// Returns a refusal.
 fn no_chain(refusal: u8) -> Chain
     ensures { result ≡ no_chain refusal }
 {
-    Chain {
-        refusal: refusal,
-        weight: 0,
-    }
+    Chain { refusal, weight: 0 }
 }
 
 // The heaviest chain: refusal 10 for a scale, 24 for a plan that the walk can't run. The point of the walk makes no difference.
@@ -42,8 +38,11 @@ pub fn heaviest_chain(
     if SCALE_LIMIT < coeff {
         return no_chain(10);
     }
-    let arithmetic = Arithmetic::Weights(input as u64, coeff as u64);
-    let Found::Number(weight) = walk_lent(head, 0, arithmetic, coefficients, bounds, steps) else {
+    let weights = Weights {
+        input: input as u64,
+        coeff: coeff as u64,
+    };
+    let Some(weight) = walk_lent(head, 0, weights, coefficients, bounds, steps) else {
         return no_chain(24);
     };
     Chain { refusal: 0, weight }

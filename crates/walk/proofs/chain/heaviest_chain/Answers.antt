@@ -1,7 +1,6 @@
--- `walk::chain::heaviest_chain` meets its contract. The tests of the scales are made first, in the definition's order. Past them the walk over weights
--- answers as the walk over values does, by the greatest weight of its value.
-use mathlib.Core.Path.{sym, ◌∙◌, ap}
-use Rattle.walk.specs.inside.Arrays.{found}
+-- The tests of the scales are made first, in the definition's order. Past them the walk over weights answers as the walk over values does, by the
+-- greatest weight of its value.
+use Rattle.std.proofs.Common.{◌∙◌}
 use Rattle.walk.proofs.ChainLaws.{input_wide, coeff_wide, weights_answer}
 use Rattle.walk.proofs.chain.heaviest_chain.Goals as goal
 
@@ -22,10 +21,10 @@ returns-in_default c =
     let a = c.args in
     c.no_chain-in_default.ensures
     ∙ weights_answer a.head a.coefficients.now a.bounds.now a.steps.now a.input a.coeff c.if-input-gt-SCALE_LIMIT.false
-    c.if-coeff-gt-SCALE_LIMIT.false _ (sym (ap found c.in_default.is) ∙ c.walk_lent.ensures)
+    c.if-coeff-gt-SCALE_LIMIT.false _ c.in_default.ensures
 
 pub returns : goal.returns
 returns c =
     let a = c.args in
     weights_answer a.head a.coefficients.now a.bounds.now a.steps.now a.input a.coeff c.if-input-gt-SCALE_LIMIT.false
-    c.if-coeff-gt-SCALE_LIMIT.false _ (sym (ap found c.in-Number.is) ∙ c.walk_lent.ensures)
+    c.if-coeff-gt-SCALE_LIMIT.false _ c.in-Some.ensures
