@@ -58,8 +58,8 @@ use Rattle.walk.specs.Trial.{trial_tests, trial_refusal, trial_of}
 use Rattle.walk.specs.declared.plan.Head.{Head}
 use Rattle.walk.specs.Chain.{answer_made, chain_tests, chain_refusal, chain_of}
 use Rattle.walk.specs.HeaviestChain.{GreatestOfAnswer}
-use Rattle.walk.specs.declared.call.Trial.{Trial}
-use Rattle.walk.specs.declared.chain.Chain.{Chain}
+use Rattle.walk.specs.Trial.{Trial}
+use Rattle.walk.specs.Chain.{Chain}
 use Rattle.walk.proofs.TrialFollows.{trial_follows}
 use Rattle.walk.proofs.Paths.{heaviest_greatest}
 use Rattle.walk.proofs.ChainLaws.{one_made}

@@ -8,8 +8,8 @@ use Rattle.interpolation.specs.declared.Interpolated.{Interpolated}
 use Rattle.conversion.specs.declared.call.Converted.{Converted}
 use Rattle.counts.specs.Calls.{SplitChoice, OpCounts, EvalDepth, ConsumedBits, LargestDegree}
 use Rattle.lists.specs.ListCall.{Listed}
-use Rattle.walk.specs.declared.call.Trial.{Trial}
-use Rattle.walk.specs.declared.chain.Chain.{Chain}
+use Rattle.walk.specs.Trial.{Trial}
+use Rattle.walk.specs.Chain.{Chain}
 use Rattle.rebuild.specs.RebuildCall.{Rebuilt}
 use Rattle.plan.specs.PlanSizes.{PlanSizes}
 use Rattle.flat.specs.declared.flat.CParts.{CParts}

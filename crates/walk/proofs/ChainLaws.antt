@@ -18,7 +18,7 @@ use Rattle.walk.specs.MadeRules.{value_making, made_rules}
 use Rattle.walk.specs.Chain.{no_chain, answer_made, chain_refusal, chain_of}
 use Rattle.walk.specs.inside.Weights.{capped, weight_making}
 use Rattle.walk.specs.declared.plan.Head.{Head}
-use Rattle.walk.specs.declared.chain.Chain.{Chain}
+use Rattle.walk.specs.Chain.{Chain}
 use Rattle.walk.proofs.CarryLaw.{carry_law}
 use Rattle.walk.proofs.MadeRules.{capped_taken}
 use Rattle.walk.proofs.WeightBound.{weight_bound}

@@ -1,7 +1,7 @@
 // The trial walk.
 ghost use Rattle.std.specs.Prelude.{◌≡◌};
 ghost use Rattle.walk.specs.Lent.{lent_walk};
-ghost use Rattle.walk.specs.Trial.{no_trial, trial_of};
+ghost use Rattle.walk.specs.Trial.{trial_in, trial_of};
 ghost use Rattle.walk.specs.inside.Found.{found};
 
 use crate::arithmetic::Arithmetic;
@@ -10,23 +10,7 @@ use crate::remainder::Modulus;
 use crate::steps::run_steps;
 use crate::sums::PlanLists;
 use crate::transform::{input_of, output_of};
-
-// What a trial walk answers: 0 or the refusal, and the remainder, zero after a refusal.
-#[derive(Clone, Copy)]
-pub struct Trial {
-    pub refusal: u8,
-    pub remainder: u64,
-}
-
-// Returns a refusal.
-fn no_trial(refusal: u8) -> Trial
-    ensures { result ≡ no_trial refusal }
-{
-    Trial {
-        refusal,
-        remainder: 0,
-    }
-}
+use number::Refusal;
 
 // Walks a lent plan, and returns its value, or `None` where the walk can't run it.
 pub fn walk_lent<A: Arithmetic>(
@@ -58,7 +42,8 @@ pub fn walk_lent<A: Arithmetic>(
     Some(output_of(head.transform, x, v, arithmetic))
 }
 
-// The trial walk: refusal 11 for the modulus, 24 for a plan that the walk can't run.
+// Walks a lent plan modulo a modulus, and returns the remainder of its value. It refuses a modulus that is out of range, and a plan that the walk can't
+// run.
 pub fn trial_walk(
     head: Head,
     coefficients: &[i64],
@@ -66,17 +51,9 @@ pub fn trial_walk(
     steps: &[u16],
     point: i64,
     modulus: u64,
-) -> Trial
-    ensures { result ≡ trial_of head coefficients.now bounds.now steps.now point modulus }
+) -> Result<u64, Refusal>
+    ensures { trial_in result ≡ trial_of head coefficients.now bounds.now steps.now point modulus }
 {
-    let Some(modulus) = Modulus::new(modulus) else {
-        return no_trial(11);
-    };
-    let Some(remainder) = walk_lent(head, point, modulus, coefficients, bounds, steps) else {
-        return no_trial(24);
-    };
-    Trial {
-        refusal: 0,
-        remainder,
-    }
+    let modulus = Modulus::new(modulus).ok_or(Refusal::ModulusOutOfRange)?;
+    walk_lent(head, point, modulus, coefficients, bounds, steps).ok_or(Refusal::Unwalkable)
 }

@@ -10,8 +10,9 @@ ghost use Rattle.walk.specs.inside.Found.{found};
 ghost use Rattle.walk.specs.inside.Powers.{powers_of, state_of};
 
 use crate::arithmetic::Arithmetic;
+use crate::make::make_power;
 use crate::plan::{Instruction, Step, step_at};
-use crate::powers::{Powers, make_power};
+use crate::powers::Powers;
 use crate::sums::{PlanLists, sum_list};
 use crate::waiting::Waiting;
 use number::{Basis, Parity};
