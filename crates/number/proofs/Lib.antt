@@ -1,7 +1,6 @@
 pub mod Options
 pub mod Literals
 pub mod Signed
-mod SignLaws
 pub mod FirstRefusal
 pub mod Refused
 pub mod Within
@@ -20,7 +19,7 @@ mod Rows
 mod FoldLoops
 pub mod FoldCall
 pub mod FoldSame
-mod EvaluateLoops
+mod EvaluateFolds
 pub mod EvaluateLaw
 pub mod ParityTold
 pub mod BothHold

@@ -13,31 +13,30 @@ pub struct Interval {
     pub w: f64,
 }
 
-// The interval from a to b with its change pair.
+// Returns the interval from a to b with its change pair.
 pub fn change_of_basis(basis: Basis, a: f64, b: f64) -> Interval
     ensures { result ≡ change_of_basis basis a b }
 {
     match basis {
         Basis::Monomial => Interval {
-            a: a,
-            b: b,
+            a,
+            b,
             u: 1.0,
             w: 0.0,
         },
         Basis::Chebyshev => {
-            let two = 1.0f64 + 1.0f64;
             let span = b - a;
             Interval {
-                a: a,
-                b: b,
-                u: two / span,
+                a,
+                b,
+                u: 2.0 / span,
                 w: -(a + b) / span,
             }
         }
     }
 }
 
-// The interval of a refusal: +0 in every field.
+// Returns the interval of a refusal: +0 in every field.
 pub fn no_interval() -> Interval
     ensures { result ≡ no_interval }
 {
