@@ -23,89 +23,69 @@ pub struct Interpolated {
     pub interval: Interval,
 }
 
-// Every element becomes +0.
-fn clear(sums: &mut [f64])
-    ensures { sums.new ≡ replicate (length sums.old) float_ops.zero }
-{
-    let mut i = 0;
-    while i < sums.len() {
-        sums[i] = 0.0;
-        i += 1;
-    }
-}
-
-// One node: value·T_i(node) is added to element i.
+// Adds one node: value·T_i(node) to element i.
 fn add_node(sums: &mut [f64], node: f64, value: f64)
     ensures { sums.new ≡ add_node float_ops 0 node value sums.old }
 {
-    let two = 1.0f64 + 1.0f64;
-    let mut t_prev = 1.0f64;
+    let mut t_prev = 1.0;
     let mut t = node;
-    let mut i = 0;
-    while i < sums.len() {
-        sums[i] = sums[i] + value * t_prev;
-        let t_next = two * node * t - t_prev;
+    for sum in sums.iter_mut() {
+        *sum += value * t_prev;
+        let t_next = 2.0 * node * t - t_prev;
         t_prev = t;
         t = t_next;
-        i += 1;
     }
 }
 
-// Each node with its value, in the order lent.
+// Adds each node with its value, in the order lent.
 fn add_nodes(sums: &mut [f64], nodes: &[f64], values: &[f64])
     requires { length nodes.now ≡ length values.now }
     ensures { sums.new ≡ add_nodes float_ops nodes.now values.now sums.old }
 {
-    let mut k = 0;
-    while k < nodes.len() {
-        add_node(sums, nodes[k], values[k]);
-        k += 1;
+    for (node, value) in nodes.iter().zip(values) {
+        add_node(sums, *node, *value);
     }
 }
 
-// Every element times `factor`.
+// Multiplies every element by `factor`.
 fn scale_by(sums: &mut [f64], factor: f64)
     ensures { sums.new ≡ scaled_by float_ops factor sums.old }
 {
-    let mut i = 0;
-    while i < sums.len() {
-        sums[i] = sums[i] * factor;
-        i += 1;
+    for sum in sums.iter_mut() {
+        *sum *= factor;
     }
 }
 
-// The first element over n, the others twice that.
+// Divides the first element by n, and the others by half of that.
 fn scale(sums: &mut [f64], n: usize)
     requires { (n ≤ count_limit) × (0 < length sums.old) }
     ensures { sums.new ≡ scaled float_ops (inverse_of n) sums.old }
 {
     let inv_n = 1.0 / (n as f64);
-    let two = 1.0f64 + 1.0f64;
-    let two_over_n = two * inv_n;
-    sums[0] = sums[0] * inv_n;
-    scale_by(&mut sums[1..], two_over_n);
+    sums[0] *= inv_n;
+    scale_by(&mut sums[1..], 2.0 * inv_n);
 }
 
-// Writes the coefficients, one for each node, and tells their parity.
+// Writes the coefficients, one for each node, and returns their parity.
 fn fill(out: &mut [f64], nodes: &[f64], values: &[f64]) -> Parity
     requires { Fillable nodes.now values.now out.old }
     ensures { (result ≡ parity_of float_numbers (coefficients_of nodes.now values.now))
         × (out.new ≡ coefficients_of nodes.now values.now) }
 {
-    clear(out);
+    out.fill(0.0);
     add_nodes(out, nodes, values);
     scale(out, nodes.len());
     detect_parity_f64(out)
 }
 
-// Whether nodes and values are unequal in number, none, or above the limit.
+// Tells whether nodes and values are unequal in number, none, or above the limit.
 fn miscounted(nodes: usize, values: usize) -> bool
     ensures { result ≡ (miscounted nodes values).0 }
 {
     nodes != values || (nodes == 0 || COUNT_LIMIT < nodes)
 }
 
-// The first test that holds, or 0.
+// Returns the refusal of the first test that holds, or 0.
 fn interpolate_refusal(nodes: &[f64], values: &[f64], a: f64, b: f64, out: &[f64]) -> u8
     ensures { result ≡ interpolate_refusal nodes.now values.now a b out.now }
 {
@@ -121,7 +101,7 @@ fn interpolate_refusal(nodes: &[f64], values: &[f64], a: f64, b: f64, out: &[f64
     if out.len() < n { 21 } else { 0 }
 }
 
-// Interpolates: the coefficients in the first places of `out`, their number, parity and interval.
+// Interpolates: writes the coefficients to the first places of `out`, and returns their number, parity and interval.
 pub fn chebyshev_interpolate(
     nodes: &[f64],
     values: &[f64],
@@ -133,21 +113,19 @@ pub fn chebyshev_interpolate(
 {
     let refusal = interpolate_refusal(nodes, values, a, b, out);
     if 0 < refusal {
-        let interval = no_interval();
         return Interpolated {
-            refusal: refusal,
+            refusal,
             count: 0,
             parity: Parity::Full,
-            interval: interval,
+            interval: no_interval(),
         };
     }
     let n = nodes.len();
     let parity = fill(&mut out[..n], nodes, values);
-    let interval = change_of_basis(Basis::Chebyshev, a, b);
     Interpolated {
         refusal: 0,
         count: n,
-        parity: parity,
-        interval: interval,
+        parity,
+        interval: change_of_basis(Basis::Chebyshev, a, b),
     }
 }

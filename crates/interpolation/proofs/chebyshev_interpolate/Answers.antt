@@ -11,7 +11,7 @@ none : (c : Else-refusal-gt0) → c.interpolate_refusal-refusal.result ≡ 0
 none c = omega arith
 
 pub returns-then-refusal-gt0 : goal.returns-then-refusal-gt0
-returns-then-refusal-gt0 c = interpolate_refused _ _ _ _ _ c.interpolate_refusal-refusal.ensures c.if-refusal-gt0.true c.no_interval-interval.ensures
+returns-then-refusal-gt0 c = interpolate_refused _ _ _ _ _ c.interpolate_refusal-refusal.ensures c.if-refusal-gt0.true c.no_interval.ensures
 
 pub slice_bounds-fill-end : goal.slice_bounds-fill-end
 slice_bounds-fill-end c = room _ _ _ _ _ c.interpolate_refusal-refusal.ensures (none (goal.at.slice_bounds-fill-end c).Else-refusal-gt0)
@@ -28,4 +28,4 @@ returns c =
     let refusal_is = c.interpolate_refusal-refusal.ensures in
     let size = c.fill-parity.auto.out ∙ (fillable _ _ _ _ _ refusal_is (none here.Else-refusal-gt0)).places in
     let filled = c.fill-parity.ensures in
-    interpolate_done _ _ _ _ _ refusal_is (none here.Else-refusal-gt0) size filled.0 filled.1 c.change_of_basis-interval.ensures
+    interpolate_done _ _ _ _ _ refusal_is (none here.Else-refusal-gt0) size filled.0 filled.1 c.change_of_basis.ensures
