@@ -5,7 +5,7 @@ ghost use Rattle.conversion.specs.inside.Tested.{input_refusal, output_refusal};
 
 use super::sums::new_coeffs;
 use super::whole::is_whole;
-use number::{Basis, copy_coeffs, degree_of, sum_fits};
+use number::{Basis, degree_of, sum_fits};
 
 // What a conversion answers: 0 or the refusal, and the number of coefficients written.
 #[derive(Clone, Copy)]
@@ -17,7 +17,7 @@ pub struct Converted {
 // The greatest degree that is converted.
 pub const CONVERT_LIMIT: usize = 20;
 
-// The first test of the coefficients that holds, or 0.
+// Returns the refusal of the first test of the coefficients that holds, or 0.
 fn input_refusal(to: Basis, c: &[i64]) -> u8
     ensures { result ≡ input_refusal to c.now }
 {
@@ -30,7 +30,7 @@ fn input_refusal(to: Basis, c: &[i64]) -> u8
     if is_whole(to, c) { 0 } else { 38 }
 }
 
-// The first test of the new coefficients that holds, with `room` places for them, or 0.
+// Returns the refusal of the first test of the new coefficients that holds, with `room` places for them, or 0.
 fn output_refusal(new: &[i64], room: usize) -> u8
     ensures { result ≡ output_refusal new.now room }
 {
@@ -40,14 +40,11 @@ fn output_refusal(new: &[i64], room: usize) -> u8
     if room < new.len() { 21 } else { 0 }
 }
 
-// The answer to what is refused.
+// Returns the answer to what is refused.
 fn refused(refusal: u8) -> Converted
     ensures { result ≡ record { refusal = refusal; count = 0 } }
 {
-    Converted {
-        refusal: refusal,
-        count: 0,
-    }
+    Converted { refusal, count: 0 }
 }
 
 // Converts coefficients that pass the tests of the input. `new` holds as many zeros, and takes the new coefficients ahead of the tests of the output.
@@ -60,7 +57,7 @@ fn convert_passed(to: Basis, c: &[i64], new: &mut [i64], out: &mut [i64]) -> Con
     if 0 < refusal {
         return refused(refusal);
     }
-    copy_coeffs(new, out);
+    out[..new.len()].copy_from_slice(new);
     Converted {
         refusal: 0,
         count: c.len(),
@@ -76,6 +73,6 @@ pub fn convert_coeffs(to: Basis, c: &[i64], out: &mut [i64]) -> Converted
         return refused(refusal);
     }
     let n = c.len();
-    let mut new: [i64; 21] = [0; 21];
+    let mut new = [0; CONVERT_LIMIT + 1];
     convert_passed(to, c, &mut new[..n], out)
 }
