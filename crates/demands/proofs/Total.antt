@@ -30,8 +30,7 @@ use Rattle.bases.specs.Convert.{converted}
 use Rattle.bases.proofs.Promises.{values_kept}
 use Rattle.conversion.specs.ConvertCall.{convert_tests, refusal_for}
 use Rattle.interpolation.specs.Interpolate.{coefficients_of}
-use Rattle.interpolation.specs.InterpolateCall.{interpolate_refusal, interpolate_answer, interpolate_buffer}
-use Rattle.interpolation.specs.declared.Interpolated.{Interpolated}
+use Rattle.interpolation.specs.InterpolateCall.{Interpolated, interpolate_refusal, interpolate_answer, interpolate_buffer}
 use Rattle.counts.specs.Calls.{OpCounts, SplitChoice, ConsumedBits, LargestDegree, EvalDepth}
 use Rattle.counts.specs.Calls.{no_split, min_depth_refusal, min_depth_call, min_mult_refusal, min_mult_call, no_counts, counts_refusal, counts_call}
 use Rattle.counts.specs.Calls.{no_depth, depth_refusal, depth_call, no_bits, bits_refusal, bits_call, no_largest, largest_tests, largest_call}

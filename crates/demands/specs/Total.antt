@@ -22,11 +22,9 @@ use Rattle.number.specs.Split.{parts_of, no_parts, split_of}
 use Rattle.number.specs.Tests.{degree_of, no_degree, too_high, unordered, miscounted, out_of_range, too_wide, no_room}
 use Rattle.number.specs.declared.fold.Folded.{Folded}
 use Rattle.bases.specs.Promises.{SameAtWholes}
-use Rattle.conversion.specs.ConvertCall.{convert_tests, ConvertCall}
-use Rattle.conversion.specs.declared.call.Converted.{Converted}
+use Rattle.conversion.specs.ConvertCall.{Converted, convert_tests, ConvertCall}
 use Rattle.interpolation.specs.Interpolate.{coefficients_of}
-use Rattle.interpolation.specs.InterpolateCall.{InterpolateCall}
-use Rattle.interpolation.specs.declared.Interpolated.{Interpolated}
+use Rattle.interpolation.specs.InterpolateCall.{Interpolated, InterpolateCall}
 use Rattle.counts.specs.Calls.{min_depth_call, min_mult_call, no_counts, counts_call, depth_call, bits_call, largest_tests, largest_call}
 use Rattle.counts.specs.Choice.{split_for, counts_of}
 use Rattle.counts.specs.ConsumedBits.{bits_of}

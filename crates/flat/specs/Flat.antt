@@ -4,8 +4,8 @@ use Rattle.algebra.specs.EnumNumbers.{parity_number, transform_number}
 use Rattle.number.specs.Split.{Parts}
 use Rattle.number.specs.declared.fold.Folded.{Folded}
 use Rattle.number.specs.declared.interval.Interval.{Interval}
-use Rattle.interpolation.specs.declared.Interpolated.{Interpolated}
-use Rattle.conversion.specs.declared.call.Converted.{Converted}
+use Rattle.interpolation.specs.InterpolateCall.{Interpolated}
+use Rattle.conversion.specs.ConvertCall.{Converted}
 use Rattle.counts.specs.Calls.{SplitChoice, OpCounts, EvalDepth, ConsumedBits, LargestDegree}
 use Rattle.lists.specs.ListCall.{Listed}
 use Rattle.walk.specs.Trial.{Trial}

@@ -5,19 +5,17 @@ ghost use Rattle.std.specs.Prelude.{◌≡◌, ◌<◌, ◌≤◌, length, repli
 ghost use Rattle.number.specs.Limits.{count_limit};
 ghost use Rattle.number.specs.Numbers.{float_ops, float_numbers};
 ghost use Rattle.number.specs.Parity.{parity_of};
+ghost use Rattle.number.specs.Refused.{refusal_of};
 ghost use Rattle.number.specs.Tests.{miscounted};
 ghost use Rattle.interpolation.specs.Interpolate.{add_node, add_nodes, scaled_by, scaled, inverse_of, coefficients_of};
-ghost use Rattle.interpolation.specs.InterpolateCall.{interpolate_refusal, InterpolateCall};
+ghost use Rattle.interpolation.specs.InterpolateCall.{interpolate_refusal, interpolated_in, InterpolateCall};
 ghost use Rattle.interpolation.specs.inside.Filling.{Fillable};
 
-use number::{
-    Basis, COUNT_LIMIT, Interval, Parity, change_of_basis, detect_parity_f64, no_interval,
-};
+use number::{Basis, COUNT_LIMIT, Interval, Parity, Refusal, change_of_basis, detect_parity_f64};
 
-// What interpolation answers: 0 or the refusal, the number of coefficients, their parity, and the interval with its change pair.
-#[derive(Clone, Copy)]
-pub struct Interpolated {
-    pub refusal: u8,
+// What interpolation makes: the number of coefficients, their parity, and the interval with its change pair.
+#[derive(Clone, Copy, Debug, PartialEq)]
+pub struct Interpolation {
     pub count: usize,
     pub parity: Parity,
     pub interval: Interval,
@@ -85,20 +83,21 @@ fn miscounted(nodes: usize, values: usize) -> bool
     nodes != values || (nodes == 0 || COUNT_LIMIT < nodes)
 }
 
-// Returns the refusal of the first test that holds, or 0.
-fn interpolate_refusal(nodes: &[f64], values: &[f64], a: f64, b: f64, out: &[f64]) -> u8
-    ensures { result ≡ interpolate_refusal nodes.now values.now a b out.now }
+// Makes the call's tests in order, and returns the refusal of the first that holds.
+fn check_lent(nodes: &[f64], values: &[f64], a: f64, b: f64, out: &[f64]) -> Result<(), Refusal>
+    ensures { refusal_of result ≡ interpolate_refusal nodes.now values.now a b out.now }
 {
     let n = nodes.len();
-    let wrong_count = miscounted(n, values.len());
-    let unordered = !(a < b);
-    if wrong_count {
-        return 8;
+    if miscounted(n, values.len()) {
+        return Err(Refusal::NodesMiscounted);
     }
-    if unordered {
-        return 7;
+    if !(a < b) {
+        return Err(Refusal::IntervalUnordered);
     }
-    if out.len() < n { 21 } else { 0 }
+    if out.len() < n {
+        return Err(Refusal::CoefficientsShort);
+    }
+    Ok(())
 }
 
 // Interpolates: writes the coefficients to the first places of `out`, and returns their number, parity and interval.
@@ -108,24 +107,15 @@ pub fn chebyshev_interpolate(
     a: f64,
     b: f64,
     out: &mut [f64],
-) -> Interpolated
-    ensures { InterpolateCall nodes.now values.now a b out.old result out.new }
+) -> Result<Interpolation, Refusal>
+    ensures { InterpolateCall nodes.now values.now a b out.old (interpolated_in result) out.new }
 {
-    let refusal = interpolate_refusal(nodes, values, a, b, out);
-    if 0 < refusal {
-        return Interpolated {
-            refusal,
-            count: 0,
-            parity: Parity::Full,
-            interval: no_interval(),
-        };
-    }
+    check_lent(nodes, values, a, b, out)?;
     let n = nodes.len();
     let parity = fill(&mut out[..n], nodes, values);
-    Interpolated {
-        refusal: 0,
+    Ok(Interpolation {
         count: n,
         parity,
         interval: change_of_basis(Basis::Chebyshev, a, b),
-    }
+    })
 }

@@ -5,7 +5,7 @@ ghost use Rattle.number.specs.Interval.{change_of_basis, no_interval};
 use algebra::Basis;
 
 // From a to b, with y = u·x + w.
-#[derive(Clone, Copy)]
+#[derive(Clone, Copy, Debug, PartialEq)]
 pub struct Interval {
     pub a: f64,
     pub b: f64,
