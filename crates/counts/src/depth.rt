@@ -1,4 +1,5 @@
-// The depth of an evaluation.
+// The depth of an evaluation. Here and beside, a degree from 1 stays a bare number with a `requires`: a struct around one number would have to be
+// opened at every use.
 ghost use Rattle.std.specs.Prelude.{◌≡◌};
 ghost use Rattle.number.specs.Limits.{degree_limit};
 ghost use Rattle.number.specs.inside.Between.{Between};
