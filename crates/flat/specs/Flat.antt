@@ -1,9 +1,13 @@
 -- Answers as structs of numbers: field by field, a kind by its number.
-use Rattle.std.specs.Prelude.{ℕ}
+use Rattle.std.specs.Prelude.{ℕ, Float, Result}
+use Rattle.number.specs.Numbers.{float_ops}
 use Rattle.algebra.specs.EnumNumbers.{parity_number, transform_number}
 use Rattle.number.specs.Split.{Parts}
-use Rattle.number.specs.declared.fold.Folded.{Folded}
+use Rattle.number.specs.FoldCall.{Folded}
+use Rattle.number.specs.Interval.{no_interval}
+use Rattle.number.specs.Refused.{numbered}
 use Rattle.number.specs.declared.interval.Interval.{Interval}
+use Rattle.number.specs.declared.refusal.Refusal.{Refusal}
 use Rattle.interpolation.specs.InterpolateCall.{Interpolated}
 use Rattle.conversion.specs.ConvertCall.{Converted}
 use Rattle.counts.specs.Calls.{SplitChoice, OpCounts, EvalDepth, ConsumedBits, LargestDegree}
@@ -12,6 +16,7 @@ use Rattle.walk.specs.Trial.{Trial}
 use Rattle.walk.specs.Chain.{Chain}
 use Rattle.rebuild.specs.RebuildCall.{Rebuilt}
 use Rattle.plan.specs.PlanSizes.{PlanSizes}
+use Rattle.flat.specs.declared.flat.CValue.{CValue}
 use Rattle.flat.specs.declared.flat.CParts.{CParts}
 use Rattle.flat.specs.declared.flat.CSplit.{CSplit}
 use Rattle.flat.specs.declared.flat.CCounts.{CCounts}
@@ -54,6 +59,13 @@ flat_converted r = record { refusal = r.refusal; count = r.count }
 
 abbrev pub flat_interval : (refusal : ℕ) → Interval → CInterval
 flat_interval refusal r = record { refusal = refusal; a = r.a; b = r.b; u = r.u; w = r.w }
+
+-- of a call that refuses by a result: +0 in every field
+abbrev pub value_in : Result Float Refusal → CValue
+value_in = numbered (λ (value : Float). record { refusal = 0; value = value }) (λ (refusal : ℕ). record { refusal = refusal; value = float_ops.zero })
+
+abbrev pub interval_in : Result Interval Refusal → CInterval
+interval_in = numbered (flat_interval 0) (λ (refusal : ℕ). flat_interval refusal no_interval)
 
 abbrev pub flat_interpolated : Interpolated → CInterpolated
 flat_interpolated r = record {
