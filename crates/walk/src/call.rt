@@ -54,6 +54,6 @@ pub fn trial_walk(
 ) -> Result<u64, Refusal>
     ensures { trial_in result ≡ trial_of head coefficients.now bounds.now steps.now point modulus }
 {
-    let modulus = Modulus::new(modulus).ok_or(Refusal::ModulusOutOfRange)?;
+    let modulus = Modulus::new(modulus)?;
     walk_lent(head, point, modulus, coefficients, bounds, steps).ok_or(Refusal::Unwalkable)
 }

@@ -1,5 +1,5 @@
 // Remainders modulo a number, for the trial walk. The operations ask no range of what they are handed.
-ghost use Rattle.std.specs.Prelude.{◌≡◌, MatchOption};
+ghost use Rattle.std.specs.Prelude.{◌≡◌, MatchResult};
 ghost use Rattle.algebra.specs.Operations.{double};
 ghost use Rattle.algebra.specs.Remainder.{rem, remainders};
 ghost use Rattle.walk.specs.Rules.{trial_rules};
@@ -8,6 +8,7 @@ ghost use Rattle.walk.specs.inside.Arithmetic.{remainders_are_made};
 
 use crate::arithmetic::Arithmetic;
 use crate::limits::MODULUS_LIMIT;
+use number::Refusal;
 
 // A trial modulus, from 2 to 2,147,483,647.
 #[derive(Clone, Copy)]
@@ -17,17 +18,17 @@ pub struct Modulus {
 }
 
 impl Modulus {
-    // Returns m as a modulus, or `None` where it is out of range.
-    pub fn new(m: u64) -> Option<Modulus>
-        ensures { MatchOption result (¬ IsModulus m) (λ modulus. modulus.m ≡ m) }
+    // Returns m as a modulus, and refuses one that is out of range.
+    pub fn new(m: u64) -> Result<Modulus, Refusal>
+        ensures { MatchResult result (λ modulus. modulus.m ≡ m) (λ refusal. (refusal ≡ Refusal.ModulusOutOfRange) × (¬ IsModulus m)) }
     {
         if m < 2 {
-            return None;
+            return Err(Refusal::ModulusOutOfRange);
         }
         if MODULUS_LIMIT < m {
-            return None;
+            return Err(Refusal::ModulusOutOfRange);
         }
-        Some(Modulus { m })
+        Ok(Modulus { m })
     }
 
     // Returns the remainder of a whole number, from 0 to m - 1.
