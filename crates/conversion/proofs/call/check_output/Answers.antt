@@ -1,12 +1,12 @@
--- `conversion::call::output_refusal` meets its contract: it makes the definition's tests of the new coefficients in the definition's order.
+-- `conversion::call::check_output` meets its contract: it makes the definition's tests of the new coefficients in the definition's order.
 use mathlib.Core.Path.{◌≡◌, sym, ◌∙◌, ap}
 use mathlib.Core.Bool.{Bool, not}
 use borrow.Author.Tests.{lt-ltb, le-ltb}
 use lib.ListN.{length}
 use Rattle.number.specs.Numbers.{whole_numbers}
 use Rattle.conversion.proofs.TestedLaws as call
-use Rattle.conversion.proofs.call.output_refusal.Goals as goal
-use Rattle.conversion.proofs.call.output_refusal.Goals.{After-sum_fits}
+use Rattle.conversion.proofs.call.check_output.Goals as goal
+use Rattle.conversion.proofs.call.check_output.Goals.{After-sum_fits}
 
 small : {flag : Bool} (c : After-sum_fits) → c.sum_fits.result ≡ flag → not (whole_numbers.small c.args.new.now) ≡ not flag
 small c e = ap not (sym c.sum_fits.ensures ∙ e)
@@ -21,7 +21,7 @@ returns-then-room-new c =
     call.no_room_lem c.args.new.now c.args.room (small (goal.at.returns-then-room-new c).After-sum_fits c.if-not-sum_fits.false)
     (lt-ltb c.args.room (length c.args.new.now) c.if-room-new.true)
 
-pub returns-else-room-new : goal.returns-else-room-new
-returns-else-room-new c =
-    call.enough_room c.args.new.now c.args.room (small (goal.at.returns-else-room-new c).After-sum_fits c.if-not-sum_fits.false)
+pub returns : goal.returns
+returns c =
+    call.enough_room c.args.new.now c.args.room (small (goal.at.returns c).After-sum_fits c.if-not-sum_fits.false)
     (le-ltb c.args.room (length c.args.new.now) c.if-room-new.false)

@@ -1,4 +1,4 @@
--- `conversion::call::input_refusal` meets its contract: it makes the definition's tests of the coefficients in the definition's order.
+-- `conversion::call::check_input` meets its contract: it makes the definition's tests of the coefficients in the definition's order.
 use mathlib.Core.Path.{◌≡◌, sym, ◌∙◌, ap}
 use mathlib.Core.Bool.{Bool, false, not}
 use Prim.Native.Nat.{◌-◌}
@@ -8,8 +8,8 @@ use lib.Dec.{ltb}
 use lib.ListN.{length}
 use Rattle.number.specs.Numbers.{whole_numbers}
 use Rattle.conversion.proofs.TestedLaws as call
-use Rattle.conversion.proofs.call.input_refusal.Goals as goal
-use Rattle.conversion.proofs.call.input_refusal.Goals.{After-sum_fits, Else-degree_of-gt-CONVERT_LIMIT}
+use Rattle.conversion.proofs.call.check_input.Goals as goal
+use Rattle.conversion.proofs.call.check_input.Goals.{After-sum_fits, Else-degree_of-gt-CONVERT_LIMIT}
 
 -- the degree is not too high
 low : (c : Else-degree_of-gt-CONVERT_LIMIT) → ltb 20 (length c.args.c.now - 1) ≡ false
@@ -29,18 +29,14 @@ returns-then-not-sum_fits c =
     let here = goal.at.returns-then-not-sum_fits c in
     call.too_large_lem c.args.to c.args.c.now (low here.Else-degree_of-gt-CONVERT_LIMIT) (small here.After-sum_fits c.if-not-sum_fits.true)
 
-pub is_whole-requires : goal.is_whole-requires
-is_whole-requires c =
-    omega (arith, c.degree_of.ensures, c.if-degree_of-gt-CONVERT_LIMIT.false)
-
-pub returns-then-is_whole : goal.returns-then-is_whole
-returns-then-is_whole c =
-    let here = goal.at.returns-then-is_whole c in
-    call.whole c.args.to c.args.c.now (low here.Else-degree_of-gt-CONVERT_LIMIT) (small here.After-sum_fits c.if-not-sum_fits.false)
-    (sym c.is_whole.ensures ∙ c.if-is_whole.true)
-
-pub returns-else-is_whole : goal.returns-else-is_whole
-returns-else-is_whole c =
-    let here = goal.at.returns-else-is_whole c in
+pub returns-then-not-is_whole : goal.returns-then-not-is_whole
+returns-then-not-is_whole c =
+    let here = goal.at.returns-then-not-is_whole c in
     call.not_whole_lem c.args.to c.args.c.now (low here.Else-degree_of-gt-CONVERT_LIMIT) (small here.After-sum_fits c.if-not-sum_fits.false)
-    (sym c.is_whole.ensures ∙ c.if-is_whole.false)
+    (sym c.is_whole.ensures ∙ c.if-not-is_whole.true)
+
+pub returns : goal.returns
+returns c =
+    let here = goal.at.returns c in
+    call.whole c.args.to c.args.c.now (low here.Else-degree_of-gt-CONVERT_LIMIT) (small here.After-sum_fits c.if-not-sum_fits.false)
+    (sym c.is_whole.ensures ∙ c.if-not-is_whole.false)
