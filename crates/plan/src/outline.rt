@@ -13,7 +13,7 @@ use super::input::{planned_count, planned_settings};
 use super::sizes::Sizes;
 use counts::{Settings, allowed_to, split_for_strategy};
 use lists::{listed_again, low_lists, relists, smaller_split};
-use needed::count_needed;
+use needed::Slicing;
 use number::{Parity, power_of_two, top_power};
 
 // How many lists, the allowed powers from 1 up over all of them, and the length of the last.
@@ -22,6 +22,15 @@ pub struct Totals {
     pub lists: usize,
     pub pt: usize,
     pub last: usize,
+}
+
+impl Totals {
+    // Says whether the last list is a constant alone, which is the rule of kind 4.
+    pub fn last_plain(self) -> bool
+        ensures { result ≡ eqb self.last 1 }
+    {
+        self.last == 1
+    }
 }
 
 // The numbers that a plan's head and steps go by.
@@ -107,13 +116,6 @@ fn total_slice(leading: bool, parity: Parity, whole: usize, degree: usize, split
     }
 }
 
-// The rule of kind 4: the last list is a constant alone.
-pub fn last_plain(last: usize) -> bool
-    ensures { result ≡ eqb last 1 }
-{
-    last == 1
-}
-
 // How many steps: one for each power, one for each list, and a combine for each list but the first.
 fn count_steps(powers: usize, lists: usize) -> usize
     requires { (powers ≤ count_limit) × Between 1 lists count_limit }
@@ -131,8 +133,8 @@ pub fn outline_of(settings: Settings, degree: usize) -> Outline
     let split = split_for_strategy(settings, degree);
     let leading = relists(settings.strategy);
     let totals = total_lists(leading, settings.parity, degree, degree, split);
-    let powers = count_needed(settings.parity, settings.basis, degree, split);
-    let plain = last_plain(totals.last);
+    let powers = Slicing { degree, split }.count_needed(settings.parity, settings.basis);
+    let plain = totals.last_plain();
     let steps = count_steps(powers, totals.lists);
     Outline {
         split,

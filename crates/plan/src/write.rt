@@ -11,12 +11,13 @@ ghost use Rattle.plan.specs.inside.Filling.{CoefficientsFit, ListsFit, ListsPut,
 use super::input::planned_settings;
 use super::outline::Outline;
 use super::powers::write_powers;
-use super::tree::write_tree;
+use super::tree::{Place, write_tree};
 use counts::Settings;
 use lists::{list_coeffs, relists};
-use number::{Basis, Parity, copy_coeffs, fold_into};
+use needed::Slicing;
+use number::{Basis, Parity, fold_into};
 
-// The planned coefficients, at the front of a buffer.
+// Writes the planned coefficients to the front of a buffer.
 fn place_coeffs(fold: bool, parity: Parity, basis: Basis, c: &[i64], out: &mut [i64])
     requires { CoefficientsFit fold parity c.now out.old }
     ensures { out.new ≡ sets out.old 0 (planned_coefficients fold parity basis c.now) }
@@ -24,11 +25,11 @@ fn place_coeffs(fold: bool, parity: Parity, basis: Basis, c: &[i64], out: &mut [
     if fold {
         fold_into(parity, basis, c, out);
     } else {
-        copy_coeffs(c, out);
+        out[..c.len()].copy_from_slice(c);
     }
 }
 
-// The lists of `count` planned coefficients at the front of `out`, and their boundaries from boundary `list` on.
+// Writes the lists of `count` planned coefficients to the front of `out`, and their boundaries from boundary `list` on.
 pub fn write_lists(
     settings: Settings,
     fold: bool,
@@ -58,31 +59,26 @@ pub fn write_lists(
     );
 }
 
-// All steps of a degree.
-fn write_steps(
-    settings: Settings,
-    degree: usize,
-    outline: Outline,
-    steps: &mut [u16],
-)
+// Writes all steps of a degree.
+fn write_steps(settings: Settings, degree: usize, outline: Outline, steps: &mut [u16])
     requires { StepsFit (relists settings.strategy) outline.plain settings.parity settings.basis degree outline.split steps.old }
     ensures { steps.new ≡ sets steps.old 0 (flat (steps_at (relists settings.strategy) settings.parity settings.basis degree outline.split)) }
 {
     let split = outline.split;
-    let step = write_powers(settings.parity, settings.basis, degree, split, steps);
+    let slicing = Slicing { degree, split };
+    let step = write_powers(slicing, settings.parity, settings.basis, steps);
     write_tree(
         relists(settings.strategy),
         outline.plain,
         degree,
         degree,
         split,
-        0,
-        step,
+        Place { list: 0, step },
         steps,
     );
 }
 
-// The plan of `count` coefficients in the three buffers.
+// Writes the plan of `count` coefficients to the three buffers.
 pub fn fill(
     settings: Settings,
     fold: bool,

@@ -2,13 +2,12 @@
 ghost use Rattle.sets.specs.SetCall.{SetCall, set_in};
 
 use super::filling::write_all_lists;
-use super::record::{set_record, total_sizes};
+use super::outline::set_outline;
+use super::record::set_record;
 use number::Refusal;
 use plan::call::check_buffers;
 use sets::call::check_ahead;
-use sets::input::set_heads;
-use sets::marks::{common_marks, count_common};
-use sets::powers::write_set;
+use sets::steps::write_set;
 use sets::{CurveSet, Members};
 
 // Plans curves of one reading as a set. Their coefficients stand one after another in `c`. The call leaves their lists one after another in `out`, in
@@ -24,16 +23,12 @@ pub fn plan_set(
     ensures { SetCall members c.now out.old bounds.old steps.old
         (set_in result) out.new bounds.new steps.new }
 {
-    check_ahead(members, c)?;
-    let count = members.count;
-    let heads = set_heads(members);
-    let first = heads[0];
-    let basis = first.basis;
-    let marks = common_marks(basis, heads, count);
-    let powers = count_common(heads, count, marks);
-    let sizes = total_sizes(heads, count, powers);
-    check_buffers(sizes, out.len(), bounds.len(), steps.len())?;
-    write_all_lists(members, heads, c.len(), c, out, bounds);
-    write_set(heads, count, marks, powers, steps);
-    Ok(set_record(heads, count, powers))
+    check_ahead(&members, c)?;
+    let curves = members.list();
+    let outline = set_outline(curves);
+    check_buffers(outline.sizes, out.len(), bounds.len(), steps.len())?;
+    let heads = &outline.heads[..curves.len()];
+    write_all_lists(curves, heads, c, out, bounds);
+    write_set(heads, &outline.marks, steps);
+    Ok(set_record(outline.heads, curves.len(), outline.powers))
 }

@@ -4,6 +4,7 @@
 pub mod call;
 pub mod costs;
 pub mod filling;
+pub mod outline;
 pub mod record;
 pub mod sizes;
 

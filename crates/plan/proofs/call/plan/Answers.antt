@@ -10,7 +10,7 @@ use Rattle.plan.proofs.call.plan.Goals.{After-planned_outline-outline, Else-not-
 
 -- no test of the polynomial holds
 accepted : (c : Else-wrong-gt0) →
-    Accepted c.args.fold c.args.parity c.args.c.now
+    Accepted c.args.fold c.args.settings.parity c.args.c.now
 accepted c = omega (arith, c.input_refusal-wrong.ensures, c.if-wrong-gt0.false)
 
 -- nor that of the interval
@@ -20,28 +20,28 @@ ordered c = c.if-not-a-b.false
 
 -- so the outline is that of what is planned
 outlined : (c : After-planned_outline-outline) →
-    OutlinePlanned c.args.strategy c.args.parity c.args.basis c.args.fold c.args.c.now c.planned_outline-outline.result
+    OutlinePlanned c.args.settings.strategy c.args.settings.parity c.args.settings.basis c.args.fold c.args.c.now c.planned_outline-outline.result
 outlined c =
-    outline_planned c.args.strategy c.args.parity c.args.basis c.args.fold c.args.c.now
+    outline_planned c.args.settings.strategy c.args.settings.parity c.args.settings.basis c.args.fold c.args.c.now
     (omega (arith, c.input_refusal-wrong.ensures, c.if-wrong-gt0.false)) c.degree_of.ensures c.planned_outline-outline.ensures
 
 pub returns-then-wrong-gt0 : goal.returns-then-wrong-gt0
 returns-then-wrong-gt0 c =
-    refused_input c.args.strategy c.args.parity c.args.basis c.args.fold c.args.c.now c.args.a
+    refused_input c.args.settings.strategy c.args.settings.parity c.args.settings.basis c.args.fold c.args.c.now c.args.a
     c.args.b c.args.out.now c.args.bounds.now c.args.steps.now c.input_refusal-wrong.ensures
     c.if-wrong-gt0.true c.refused.ensures
 
 pub returns-then-not-a-b : goal.returns-then-not-a-b
 returns-then-not-a-b c =
     let at = goal.at.returns-then-not-a-b c in
-    refused_interval c.args.strategy c.args.parity c.args.basis c.args.fold c.args.c.now c.args.a
+    refused_interval c.args.settings.strategy c.args.settings.parity c.args.settings.basis c.args.fold c.args.c.now c.args.a
     c.args.b c.args.out.now c.args.bounds.now c.args.steps.now (accepted at.Else-wrong-gt0) c.if-not-a-b.true
     c.refused-then-not-a-b.ensures
 
 pub planned_outline-outline-requires : goal.planned_outline-outline-requires
 planned_outline-outline-requires c =
     let at = goal.at.planned_outline-outline-requires c in
-    rw c.degree_of.ensures (settings_accepted c.args.fold c.args.parity c.args.c.now (accepted at.Else-wrong-gt0))
+    rw c.degree_of.ensures (settings_accepted c.args.fold c.args.settings.parity c.args.c.now (accepted at.Else-wrong-gt0))
 
 pub overflow_sub-count : goal.overflow_sub-count
 overflow_sub-count c = omega (arith, (outlined (goal.at.overflow_sub-count c).After-planned_outline-outline).degrees.from)
@@ -54,7 +54,7 @@ head_of-head-requires c =
 pub returns-then-short-gt0 : goal.returns-then-short-gt0
 returns-then-short-gt0 c =
     let at = goal.at.returns-then-short-gt0 c in
-    refused_buffers c.args.strategy c.args.parity c.args.basis c.args.fold c.args.c.now c.args.a
+    refused_buffers c.args.settings.strategy c.args.settings.parity c.args.settings.basis c.args.fold c.args.c.now c.args.a
     c.args.b c.args.out.now c.args.bounds.now c.args.steps.now (accepted at.Else-wrong-gt0) (ordered at.Else-not-a-b)
     (outlined at.After-planned_outline-outline).count_is c.change_of_basis-interval.ensures c.head_of-head.ensures
     c.buffer_refusal-short.ensures c.if-short-gt0.true c.refused-then-short-gt0.ensures
@@ -63,7 +63,7 @@ pub fill-requires : goal.fill-requires
 fill-requires c =
     let at = goal.at.fill-requires c in
     let told = outlined at.After-planned_outline-outline in
-    plan_fits c.args.strategy c.args.parity c.args.basis c.args.fold c.args.c.now c.args.a
+    plan_fits c.args.settings.strategy c.args.settings.parity c.args.settings.basis c.args.fold c.args.c.now c.args.a
     c.args.b c.args.out.now c.args.bounds.now c.args.steps.now (accepted at.Else-wrong-gt0) (ordered at.Else-not-a-b)
     told.count_is c.change_of_basis-interval.ensures c.head_of-head.ensures c.buffer_refusal-short.ensures
     (omega (arith, c.if-short-gt0.false)) told.outline_is
@@ -71,7 +71,7 @@ fill-requires c =
 pub returns : goal.returns
 returns c =
     let at = goal.at.returns c in
-    planned_call c.args.strategy c.args.parity c.args.basis c.args.fold c.args.c.now c.args.a
+    planned_call c.args.settings.strategy c.args.settings.parity c.args.settings.basis c.args.fold c.args.c.now c.args.a
     c.args.b c.args.out.now c.args.bounds.now c.args.steps.now (accepted at.Else-wrong-gt0) (ordered at.Else-not-a-b)
     (outlined at.After-planned_outline-outline).count_is c.change_of_basis-interval.ensures c.head_of-head.ensures
     c.buffer_refusal-short.ensures (omega (arith, c.if-short-gt0.false)) c.fill.ensures

@@ -10,6 +10,3 @@ invariant-loop-k l = record {
       ≡ length l.initial.steps;
   left : Left l.split l.digits l.step l.initial.steps l.k l.next l.steps;
 }
-
-abbrev pub decreases-loop-k : goal.decreases-loop-k
-decreases-loop-k l = l.digits - l.k

@@ -3,4 +3,4 @@ use Rattle.set_plan.proofs.CallLaws.{refused_is}
 use Rattle.set_plan.proofs.call.refused_set.Goals as goal
 
 pub returns : goal.returns
-returns c = refused_is c.no_head-none.ensures
+returns c = refused_is c.no_head.ensures

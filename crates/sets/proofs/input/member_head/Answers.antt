@@ -9,23 +9,23 @@ use Rattle.sets.proofs.input.member_head.Goals as goal
 
 pub planned_outline-outline-requires : goal.planned_outline-outline-requires
 planned_outline-outline-requires c =
-    let member = c.args.member in
+    let member = c.args.member.now in
     ap (λ (n : ℕ). first_refusal (settings_tests member.fold member.parity n)) c.degree_of.ensures ∙ c.requires
 
-pub overflow_sub-count : goal.overflow_sub-count
-overflow_sub-count c =
-    omega (arith, count_is c.args.member c.requires c.degree_of.ensures c.planned_outline-outline.ensures)
+pub overflow_sub-outline : goal.overflow_sub-outline
+overflow_sub-outline c =
+    omega (arith, count_is c.args.member.now c.requires c.degree_of.ensures c.planned_outline-outline.ensures)
 
 pub head_of-head-requires : goal.head_of-head-requires
 head_of-head-requires c =
-    head_asked c.args.member c.requires c.degree_of.ensures c.planned_outline-outline.ensures
+    head_asked c.args.member.now c.requires c.degree_of.ensures c.planned_outline-outline.ensures
 
-pub overflow_sub-own : goal.overflow_sub-own
-overflow_sub-own c =
-    powers_within c.args.member c.requires c.degree_of.ensures c.planned_outline-outline.ensures
+pub overflow_sub-result : goal.overflow_sub-result
+overflow_sub-result c =
+    powers_within c.args.member.now c.requires c.degree_of.ensures c.planned_outline-outline.ensures
 
 pub returns : goal.returns
 returns c =
     let head = c.head_of-head in
-    head_put c.args.member c.requires c.degree_of.ensures c.planned_outline-outline.ensures
+    head_put c.args.member.now c.requires c.degree_of.ensures c.planned_outline-outline.ensures
     c.change_of_basis-interval.ensures head.ensures
