@@ -1,4 +1,5 @@
 pub mod KindNumbers
 pub mod HeadsShown
-pub mod Known
+pub mod Reading
+pub mod SameMembers
 mod PlaceByPlace

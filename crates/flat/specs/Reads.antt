@@ -14,7 +14,7 @@ abbrev pub Reads : {X : Type 0} → (known : Bool) → (meant : X) → Result X 
 Reads known meant r = MatchResult r (λ x. (known ≡ true) × (x ≡ meant)) (λ refusal. (known ≡ false) × (refusal ≡ UnknownKind))
 
 -- the settings that three numbers mean
-unfoldable pub settings_meant : (strategy parity basis : ℕ) → Settings
+abbrev pub settings_meant : (strategy parity basis : ℕ) → Settings
 settings_meant strategy parity basis = record { strategy = strategy_numbered strategy; parity = parity_numbered parity; basis = basis_numbered basis }
 
 -- of a set those that the count says are read; no call asks for what stands in the places beyond them
