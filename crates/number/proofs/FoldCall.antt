@@ -3,7 +3,7 @@
 use mathlib.Core.Path.{◌≡◌, sym, ◌∙◌}
 use mathlib.Core.Bool.{Bool, true, false, not}
 use mathlib.Core.List.{List, [], ◌∷◌}
-use Prim.Native.Nat.{ℕ, zero, suc, ◌-◌, ◌≤◌, ◌<◌}
+use Prim.Native.Nat.{ℕ, zero, suc, ◌-◌, ◌/◌, ◌≤◌, ◌<◌}
 use native.Mathlib.Omega.{arith}
 use borrow.Author.Tests.{ltb-false, not-false}
 use lib.Dec.{ltb}
@@ -33,6 +33,11 @@ even_room {c = c} f = omega (arith, length_every_second c, f.room)
 pub odd_room : {A : Type 0} {c out : List A} → Foldable Odd c out → length (every_second (drop 1 c)) ≤ length out
 unfolding folded_length
 odd_room {c = c} f = omega (arith, length_odd_places c, f.room)
+
+-- and of an odd Chebyshev fold, half as many places as coefficients
+pub odd_places : {A : Type 0} {c out : List A} → Foldable Odd c out → length c / 2 ≤ length out
+unfolding folded_length
+odd_places f = f.room
 
 -- ---- a call that every test passes
 

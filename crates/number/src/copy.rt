@@ -7,9 +7,5 @@ pub fn copy_coeffs(c: &[i64], out: &mut [i64])
     requires { length c.now ≤ length out.old }
     ensures { out.new ≡ sets out.old 0 c.now }
 {
-    let mut i = 0;
-    while i < c.len() {
-        out[i] = c[i];
-        i += 1;
-    }
+    out[..c.len()].copy_from_slice(c);
 }

@@ -1,21 +1,15 @@
-// Folding of whole polynomials of one parity, and what the fold calls on whole and f64 coefficients share.
-ghost use Rattle.std.specs.Prelude.{◌≡◌, ◌≤◌, length, drop, nat_abs, ◌*ℤ◌};
+// Folding of polynomials of one parity.
+ghost use Rattle.std.specs.Prelude.{◌≡◌, true, ◌≤◌, length, drop};
 ghost use Rattle.std.proofs.lemmas.List.Edits.{sets};
-ghost use Rattle.algebra.specs.Operations.{whole_ops};
-ghost use Rattle.algebra.specs.Magnitude.{sum_abs};
-ghost use Rattle.algebra.specs.Fold.{every_second, folded_length, coeff_r, fold};
-ghost use Rattle.algebra.specs.declared.Basis.TheVariants.{Chebyshev};
-ghost use Rattle.algebra.specs.declared.Parity.TheVariants.{Odd};
-ghost use Rattle.number.specs.Limits.{sum_limit};
-ghost use Rattle.number.specs.Numbers.{whole_numbers};
+ghost use Rattle.algebra.specs.Fold.{every_second, folded_length, fold};
+ghost use Rattle.number.specs.Numbers.{float_numbers};
 ghost use Rattle.number.specs.Tests.{is_full, least_folded};
 ghost use Rattle.number.specs.FoldCall.{FoldCall};
 ghost use Rattle.number.specs.inside.Folding.{Foldable, refusal_by, answer_by};
 
-use crate::arithmetic::{minus, twice};
+use crate::coefficient::Coefficient;
 use crate::degree::degree_of;
 use crate::limits::PLAN_LIMIT;
-use crate::magnitude::sum_fits;
 use crate::parity::has_parity;
 use crate::transform::transform_of;
 use algebra::{Basis, Parity, PolynomialInputTransform};
@@ -35,8 +29,7 @@ pub fn is_full(parity: Parity) -> bool
 {
     match parity {
         Parity::Full => true,
-        Parity::Even => false,
-        Parity::Odd => false,
+        Parity::Even | Parity::Odd => false,
     }
 }
 
@@ -109,71 +102,49 @@ pub fn fold_answer(refusal: u8, parity: Parity, basis: Basis, count: usize) -> F
     }
 }
 
-// s times coefficient i of R_i: once at place 0, twice elsewhere.
-fn times_lead(i: usize, s: i64) -> i64
-    requires { nat_abs s ≤ sum_limit }
-    ensures { result ≡ s *ℤ coeff_r whole_ops i i }
-{
-    if i == 0 { s } else { twice(s) }
-}
-
 // Writes every second coefficient from place `from` on.
-fn copy_second(c: &[i64], from: usize, out: &mut [i64])
+fn copy_second<C: Coefficient>(c: &[C], from: usize, out: &mut [C])
     requires { length (every_second (drop from c.now)) ≤ length out.old }
     ensures { out.new ≡ sets out.old 0 (every_second (drop from c.now)) }
 {
-    let mut i = 0;
-    let mut j = from;
-    while j < c.len() {
-        out[i] = c[j];
-        i += 1;
-        j += 2;
+    let count = c.len().saturating_sub(from).div_ceil(2);
+    for i in 0..count {
+        out[i] = c[2 * i + from];
     }
 }
 
-// Writes the fold of an odd Chebyshev polynomial, from the end: s is c[2i+1] - c[2i+3] + c[2i+5] - ..
-fn fold_odd(c: &[i64], out: &mut [i64])
-    requires { Foldable Odd c.now out.old × (sum_abs c.now ≤ sum_limit) }
-    ensures { out.new ≡ sets out.old 0 (fold whole_ops Odd Chebyshev c.now) }
+// Writes the fold of coefficients that are small enough.
+pub fn fold_into<C: Coefficient>(parity: Parity, basis: Basis, c: &[C], out: &mut [C])
+    requires { Foldable parity c.now out.old × (C.numbers.small c.now ≡ true) }
+    ensures { out.new ≡ sets out.old 0 (fold C.numbers.ops parity basis c.now) }
 {
-    let mut s: i64 = 0;
-    let mut left = c.len() / 2;
-    while 0 < left {
-        let i = left - 1;
-        let x = c[2 * i + 1];
-        s = minus(x, s);
-        out[i] = times_lead(i, s);
-        left = i;
+    match (parity, basis) {
+        (Parity::Full, _) => {}
+        (Parity::Even, _) => copy_second(c, 0, out),
+        (Parity::Odd, Basis::Monomial) => copy_second(c, 1, out),
+        (Parity::Odd, Basis::Chebyshev) => C::fold_odd(c, out),
     }
 }
 
-// Writes the fold, of whole coefficients with magnitudes summing to at most the limit.
-pub fn fold_into(parity: Parity, basis: Basis, c: &[i64], out: &mut [i64])
-    requires { Foldable parity c.now out.old × (sum_abs c.now ≤ sum_limit) }
-    ensures { out.new ≡ sets out.old 0 (fold whole_ops parity basis c.now) }
-{
-    match parity {
-        Parity::Full => {}
-        Parity::Even => copy_second(c, 0, out),
-        Parity::Odd => match basis {
-            Basis::Monomial => copy_second(c, 1, out),
-            Basis::Chebyshev => fold_odd(c, out),
-        },
-    }
-}
-
-// Folds a whole polynomial of parity Even or Odd into one of half the degree.
-pub fn fold_parity(parity: Parity, basis: Basis, c: &[i64], out: &mut [i64]) -> Folded
-    ensures { FoldCall whole_numbers parity basis c.now out.old result out.new }
+// Folds a polynomial of parity Even or Odd into one of half the degree.
+pub fn fold_parity<C: Coefficient>(parity: Parity, basis: Basis, c: &[C], out: &mut [C]) -> Folded
+    ensures { FoldCall C.numbers parity basis c.now out.old result out.new }
 {
     let n = c.len();
     let count = fold_count(parity, n);
     let fits = has_parity(parity, c);
-    let small = sum_fits(c);
+    let small = C::sum_fits(c);
     let refusal = fold_refusal(parity, n, fits, small, out.len() < count);
     if 0 < refusal {
         return fold_answer(refusal, parity, basis, count);
     }
     fold_into(parity, basis, c, out);
     fold_answer(0, parity, basis, count)
+}
+
+// The f64 name stands until its callers have moved.
+pub fn fold_parity_f64(parity: Parity, basis: Basis, c: &[f64], out: &mut [f64]) -> Folded
+    ensures { FoldCall float_numbers parity basis c.now out.old result out.new }
+{
+    fold_parity(parity, basis, c, out)
 }

@@ -2,12 +2,13 @@
 #![tactic(auto)]
 
 pub mod arithmetic;
+pub mod coefficient;
 pub mod copy;
 pub mod degree;
 pub mod evaluate;
 pub mod factor;
+pub mod float;
 pub mod fold;
-pub mod fold_f64;
 pub mod interval;
 pub mod kind;
 pub mod limits;
@@ -17,12 +18,13 @@ pub mod powers;
 pub mod refusal;
 pub mod split;
 pub mod transform;
+pub mod whole;
 
 pub use algebra::{Basis, Parity, PolynomialInputTransform, UnknownKind};
+pub use coefficient::Coefficient;
 pub use degree::degree_of;
 pub use evaluate::evaluate_coeffs;
-pub use fold::{Folded, fold_parity};
-pub use fold_f64::fold_parity_f64;
+pub use fold::{Folded, fold_parity, fold_parity_f64};
 pub use interval::{Interval, change_of_basis, no_interval};
 pub use kind::{basis_number, parity_number, transform_number};
 pub use limits::{COUNT_LIMIT, DEGREE_LIMIT, PLAN_LIMIT, SCALE_LIMIT};

@@ -1,18 +1,14 @@
--- `number::factor::cut_one` meets its contract. Both coefficients are read before either is written, and up to 2^52 their difference and the
--- double are those of ℤ.
-use mathlib.Core.Path.{refl}
+-- `number::factor::cut_one` meets its contract: both coefficients are read before either is written.
+use mathlib.Core.Path.{ap, ap₂, ◌∙◌}
 use native.Mathlib.Omega.{arith}
-use lib.ListN.{length-set}
-use lib.IntN.{pos}
-use Rattle.algebra.specs.Operations.{whole_ops}
-use Rattle.number.proofs.Pair.{one_stored, less_made, double_made}
+use Rattle.std.proofs.lemmas.List.{get_or_read}
+use Rattle.algebra.specs.Operations.{double}
+use Rattle.number.proofs.Pair.{one_stored}
 use Rattle.number.proofs.factor.cut_one.Goals as goal
 
-pub bounds-c-high : goal.bounds-c-high
-bounds-c-high c = simp length-set (omega arith)
-
 pub returns : goal.returns
-returns c =
-    let minus_call = c.minus in
-    let small = c.requires.1.1 in
-    one_stored whole_ops (pos 0) _ _ _ _ _ (less_made small minus_call.type_inv minus_call.ensures) (double_made small refl c.twice.type_inv c.twice.ensures)
+returns g c =
+    let o = g.C.Coefficient.numbers.ops in
+    let at_low = get_or_read c.args.c.now c.args.low c.index-c-low.result (omega arith) c.index-c-low.is o.zero in
+    let at_high = get_or_read c.args.c.now c.args.high c.index-c-high.result (omega arith) c.index-c-high.is o.zero in
+    one_stored o o.zero _ _ _ _ _ (c.minus.ensures ∙ ap₂ o.sub at_low at_high) (c.twice.ensures ∙ ap (double o) at_high)
