@@ -7,11 +7,16 @@ use Prim.Native.Nat.{ℕ, ◌+◌, ◌-◌, ◌^◌, ◌≤◌, ◌<◌}
 use native.Mathlib.Omega.{arith}
 use lib.ListN.{length, take, drop}
 use lib.Seq.{sets, sets-eq, take_at}
+use Rattle.std.specs.Prelude.{Result, Ok, Err}
+use Rattle.std.specs.Result.{IsErrAnd}
 use Rattle.algebra.specs.declared.Basis.{Basis}
 use Rattle.algebra.specs.declared.Parity.{Parity}
 use Rattle.number.specs.Limits.{plan_limit}
 use Rattle.number.specs.Numbers.{Numbers}
+use Rattle.number.specs.Refused.{refusal_number}
 use Rattle.number.specs.Tests.{degree_of}
+use Rattle.number.specs.declared.refusal.Refusal.{Refusal}
+use Rattle.number.proofs.Refused.{refused}
 use Rattle.number.specs.inside.Between.{Between}
 use Rattle.number.proofs.FirstRefusal.{when_refused, when_accepted}
 use Rattle.counts.specs.Choice.{split_for}
@@ -19,7 +24,8 @@ use Rattle.counts.specs.declared.choice.SplitStrategy.{SplitStrategy}
 use Rattle.counts.proofs.ChoiceLaws.{split_range}
 use Rattle.lists.specs.Tree.{tree_of, relists, plan_tree}
 use Rattle.lists.specs.Arrange.{arranged, leaves_of, ends_of}
-use Rattle.lists.specs.ListCall.{no_lists, list_refusal, list_answer, list_coefficients, list_boundaries, ListCall}
+use Rattle.lists.specs.ListCall.{no_lists, listed_in, list_refusal, list_answer, list_coefficients, list_boundaries, ListCall}
+use Rattle.lists.specs.declared.call.Listing.{Listing}
 use Rattle.lists.specs.inside.Listing.{Listable, InPlace}
 use Rattle.lists.specs.inside.Shape.{early_refusal, refusal_by}
 use Rattle.lists.proofs.Shape.{Early, early_refused, late_refused, none_refused, all_passed}
@@ -50,7 +56,7 @@ unfolding list_refusal refusal_by
 list_passed numbers strategy parity basis c out bounds none =
     all_passed (length c) (numbers.small c) (length out) (length bounds) (leaves_of (plan_tree strategy parity basis (degree_of c))) none
 
-module _ {A : Type 0} {numbers : Numbers A} {strategy : SplitStrategy} {parity : Parity} {basis : Basis} {c out : List A} {bounds : List ℕ} where
+module _ {A : Type 0} (numbers : Numbers A) (strategy : SplitStrategy) (parity : Parity) (basis : Basis) (c out : List A) (bounds : List ℕ) where
   -- how many lists there are
   abbrev lists : ℕ
   lists = leaves_of (plan_tree strategy parity basis (degree_of c))
@@ -66,20 +72,28 @@ module _ {A : Type 0} {numbers : Numbers A} {strategy : SplitStrategy} {parity :
     boundaries = when_refused _ _ bounds (rw is some);
   }
 
+  -- a refusal that is handed on
+  pub call_handed : (refusal : Refusal) (r : Result Listing Refusal) → IsErrAnd r (λ (f : Refusal). f ≡ refusal)
+      → list_refusal numbers strategy parity basis c out bounds ≡ refusal_number refusal
+      → ListCall numbers strategy parity basis c out bounds (listed_in r) out bounds
+  call_handed refusal (Ok listing) handed is = absurd handed
+  call_handed refusal (Err f) handed is = call_refused (refused f) (is ∙ ap refusal_number (sym handed))
+
+  -- the tests ahead of the boundaries, and then that on the boundaries
   module _ {small : Bool} (small_is : small ≡ numbers.small c) where
     pub early_is : 0 < early_refusal (length c) small (length out)
         → list_refusal numbers strategy parity basis c out bounds ≡ early_refusal (length c) small (length out)
     unfolding list_refusal refusal_by
-    early_is some = rw (← small_is) (early_refused (length c) small (length out) (length bounds) lists some)
+    early_is some = rw small_is (early_refused (length c) (numbers.small c) (length out) (length bounds) lists (rw small_is at some))
 
     module _ (none : early_refusal (length c) small (length out) ≡ 0) where
       pub late_is : length bounds < lists → list_refusal numbers strategy parity basis c out bounds ≡ 22
       unfolding list_refusal refusal_by
-      late_is short = rw (← small_is) (late_refused (length c) small (length out) (length bounds) lists none short)
+      late_is short = late_refused (length c) (numbers.small c) (length out) (length bounds) lists (rw small_is at none) short
 
       pub none_is : lists ≤ length bounds → list_refusal numbers strategy parity basis c out bounds ≡ 0
       unfolding list_refusal refusal_by
-      none_is long = rw (← small_is) (none_refused (length c) small (length out) (length bounds) lists none long)
+      none_is long = none_refused (length c) (numbers.small c) (length out) (length bounds) lists (rw small_is at none) long
 
   -- ---- accepted: a copy of the coefficients is what the lister is handed
 
@@ -88,7 +102,7 @@ module _ {A : Type 0} {numbers : Numbers A} {strategy : SplitStrategy} {parity :
     tree_is : tree_of leading (degree_of c) (degree_of c) split ≡ plan_tree strategy parity basis (degree_of c)
     tree_is = ap₂ (λ (s : ℕ) (l : Bool). tree_of l (degree_of c) (degree_of c) s) split_is leading_is
 
-    pub listable : lists ≤ length bounds → Listable leading (degree_of c) split 0 0 part bounds
+    pub listable : leaves_of (plan_tree strategy parity basis (degree_of c)) ≤ length bounds → Listable leading (degree_of c) split 0 0 part bounds
     listable long =
         let split_fits : split ≤ 12 = omega (arith, split_is, split_range strategy parity basis (degree_of c) degree) in
         rw copy (whole_listable leading split c bounds degree split_fits (rw tree_is long))
@@ -107,7 +121,9 @@ module _ {A : Type 0} {numbers : Numbers A} {strategy : SplitStrategy} {parity :
         let joined : z ++ drop (length c) out ≡ sets out 0 z =
         ap (λ (k : ℕ). z ++ drop k out) (sym long) ∙ sym (front z out (omega (arith, long, fits))) in
         record {
-          answer = rw (base_is, split_is, count_is) (when_accepted _ _ accepted);
+          answer =
+              ap₂ (λ (k n : ℕ). record { refusal = 0; degree = degree_of c; base = k; coefficients = length c; lists = n }) (base_is ∙ ap (2 ^◌) split_is) count_is
+              ∙ when_accepted _ (no_lists (list_refusal numbers strategy parity basis c out bounds)) accepted;
           coefficients = joined ∙ ap (sets out 0) arranges ∙ when_accepted _ out accepted;
           boundaries = ends ∙ when_accepted _ bounds accepted;
         }

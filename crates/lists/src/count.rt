@@ -16,10 +16,7 @@ use number::{bit_len, power_of_two, top_power};
 pub fn relists(strategy: SplitStrategy) -> bool
     ensures { result ≡ tree.relists strategy }
 {
-    match strategy {
-        SplitStrategy::MinDepth => true,
-        SplitStrategy::MinMult => false,
-    }
+    matches!(strategy, SplitStrategy::MinDepth)
 }
 
 // Returns the split at which a slice is listed again.
@@ -30,7 +27,7 @@ pub fn smaller_split(degree: usize) -> usize
     min_depth_of(degree)
 }
 
-// Returns whether a slice is listed again at a smaller split: the leading one, near the end of the whole degree's power of two.
+// Returns whether a slice is listed again at a smaller split: the leading one is, near the end of the whole degree's power of two.
 pub fn listed_again(leading: bool, whole: usize, degree: usize, split: usize) -> bool
     requires { Ranges whole degree split }
     ensures { result ≡ (leading && listed_again whole degree split) }

@@ -1,10 +1,7 @@
-// Listing whole coefficients in place.
+// Listing coefficients in place.
 ghost use Rattle.std.specs.Prelude.{◌≡◌, ◌+◌, ◌≤◌, ◌<◌, ◌^◌, length};
-ghost use Rattle.algebra.specs.Operations.{whole_ops};
 ghost use Rattle.algebra.specs.Cut.{cut_at};
-ghost use Rattle.number.specs.Numbers.{whole_numbers};
-ghost use Rattle.number.specs.Exact.{AllTo52};
-ghost use Rattle.number.specs.inside.Room.{SumByLengthTo53};
+ghost use Rattle.algebra.specs.Each.{Each};
 ghost use Rattle.number.specs.Tests.{degree_of};
 ghost use Rattle.lists.specs.Tree.{tree_of};
 ghost use Rattle.lists.specs.ListCall.{listed_in, ListCall};
@@ -13,14 +10,12 @@ ghost use Rattle.lists.specs.inside.Listing.{Listable, InPlace};
 use super::call::{Listing, check_sizes};
 use super::count::{count_lists, listed_again, relists, smaller_split};
 use counts::{Settings, split_for_strategy};
-// It stands in `number`, which conversion needs it from too.
-pub use number::copy_coeffs;
-use number::{Basis, Refusal, factorize_coeffs_chebyshev, power_of_two, sum_fits, top_power};
+use number::{Basis, Coefficient, Refusal, factorize_coeffs_chebyshev, power_of_two, top_power};
 
-// The coefficients cut at p.
-fn cut_coeffs(basis: Basis, p: usize, c: &mut [i64])
-    requires { (p < length c.old) × ((length c.old ≤ p + p) × AllTo52 c.old) }
-    ensures { c.new ≡ cut_at whole_ops basis p c.old }
+// Cuts the coefficients at p.
+fn cut_coeffs<C: Coefficient>(basis: Basis, p: usize, c: &mut [C])
+    requires { (p < length c.old) × ((length c.old ≤ p + p) × Each C.CanCut c.old) }
+    ensures { c.new ≡ cut_at C.numbers.ops basis p c.old }
 {
     match basis {
         Basis::Monomial => {}
@@ -28,21 +23,21 @@ fn cut_coeffs(basis: Basis, p: usize, c: &mut [i64])
     }
 }
 
-// The source's decompose_bsgs_coeffs: lists c, which stands from place `at` on behind n lists, at a split. `whole` is the degree of the
-// whole polynomial, and `leading` says that only high parts led here and that the strategy is MinDepth. Answers how many lists there are then.
+// Lists c, which stands from place `at` on behind n lists, at a split, as the source's decompose_bsgs_coeffs does. `whole` is the degree of the whole
+// polynomial, and `leading` says that only high parts led here and that the strategy is MinDepth. Returns how many lists there are then.
 #[cycle(list_coeffs_list_slice)]
-pub fn list_coeffs(
+pub fn list_coeffs<C: Coefficient>(
     leading: bool,
     basis: Basis,
     whole: usize,
     split: usize,
     at: usize,
     n: usize,
-    c: &mut [i64],
+    c: &mut [C],
     bounds: &mut [u16],
 ) -> usize
-    requires { Listable leading whole split at n c.old bounds.old × SumByLengthTo53 c.old }
-    ensures { InPlace whole_ops basis (tree_of leading whole (degree_of c.old) split) at n c.old bounds.old
+    requires { Listable leading whole split at n c.old bounds.old × C.CanList c.old }
+    ensures { InPlace C.numbers.ops basis (tree_of leading whole (degree_of c.old) split) at n c.old bounds.old
         result c.new bounds.new }
 {
     let base = power_of_two(split);
@@ -58,18 +53,18 @@ pub fn list_coeffs(
 
 // Lists a slice: one list, or, if it is the leading one, again at a smaller split.
 #[cycle(list_coeffs_list_slice)]
-fn list_slice(
+fn list_slice<C: Coefficient>(
     leading: bool,
     basis: Basis,
     whole: usize,
     split: usize,
     at: usize,
     n: usize,
-    c: &mut [i64],
+    c: &mut [C],
     bounds: &mut [u16],
 ) -> usize
-    requires { Listable leading whole split at n c.old bounds.old × (SumByLengthTo53 c.old × (degree_of c.old < 2 ^ split)) }
-    ensures { InPlace whole_ops basis (tree_of leading whole (degree_of c.old) split) at n c.old bounds.old
+    requires { Listable leading whole split at n c.old bounds.old × (C.CanList c.old × (degree_of c.old < 2 ^ split)) }
+    ensures { InPlace C.numbers.ops basis (tree_of leading whole (degree_of c.old) split) at n c.old bounds.old
         result c.new bounds.new }
 {
     let degree = c.len() - 1;
@@ -82,17 +77,17 @@ fn list_slice(
 }
 
 // The list call: writes the lists of c one after another to `out`, and the place just past each to `bounds`. Every test is made before the first write.
-pub fn decompose_bsgs(
+pub fn decompose_bsgs<C: Coefficient>(
     settings: Settings,
-    c: &[i64],
-    out: &mut [i64],
+    c: &[C],
+    out: &mut [C],
     bounds: &mut [u16],
 ) -> Result<Listing, Refusal>
-    ensures { ListCall whole_numbers settings.strategy settings.parity settings.basis c.now out.old bounds.old
+    ensures { ListCall C.numbers settings.strategy settings.parity settings.basis c.now out.old bounds.old
         (listed_in result) out.new bounds.new }
 {
     let n = c.len();
-    check_sizes(n, sum_fits(c), out.len())?;
+    check_sizes(n, C::sum_fits(c), out.len())?;
     let degree = n - 1;
     let split = split_for_strategy(settings, degree);
     let leading = relists(settings.strategy);
