@@ -3,7 +3,7 @@
 
 ghost use Rattle.std.specs.Prelude.{◌≡◌};
 ghost use Rattle.algebra.specs.EnumNumbers.{basis_number, parity_number, transform_number};
-ghost use Rattle.algebra.specs.Decodes.{DecodesBasis, DecodesParity, DecodesTransform};
+ghost use Rattle.algebra.specs.Decodes.{Decodes};
 
 // X^n, or T_n.
 #[derive(Clone, Copy, Debug, PartialEq, Eq)]
@@ -48,7 +48,7 @@ impl From<Basis> for u8 {
 impl TryFrom<u8> for Basis {
     type Error = UnknownKind;
 
-    ghost try_from_gives = { DecodesBasis };
+    ghost try_from_gives = { Decodes basis_number 1 };
 
     fn try_from(n: u8) -> Result<Self, UnknownKind> {
         match n {
@@ -74,7 +74,7 @@ impl From<Parity> for u8 {
 impl TryFrom<u8> for Parity {
     type Error = UnknownKind;
 
-    ghost try_from_gives = { DecodesParity };
+    ghost try_from_gives = { Decodes parity_number 2 };
 
     fn try_from(n: u8) -> Result<Self, UnknownKind> {
         match n {
@@ -103,7 +103,7 @@ impl From<PolynomialInputTransform> for u8 {
 impl TryFrom<u8> for PolynomialInputTransform {
     type Error = UnknownKind;
 
-    ghost try_from_gives = { DecodesTransform };
+    ghost try_from_gives = { Decodes transform_number 4 };
 
     fn try_from(n: u8) -> Result<Self, UnknownKind> {
         match n {

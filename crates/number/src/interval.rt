@@ -5,7 +5,7 @@ ghost use Rattle.number.specs.Interval.{change_of_basis, no_interval};
 use algebra::Basis;
 
 // From a to b, with y = u·x + w.
-#[derive(Clone, Copy, Debug, PartialEq)]
+#[derive(Clone, Copy, Debug, PartialEq, Default)]
 pub struct Interval {
     pub a: f64,
     pub b: f64,
@@ -40,10 +40,5 @@ pub fn change_of_basis(basis: Basis, a: f64, b: f64) -> Interval
 pub fn no_interval() -> Interval
     ensures { result ≡ no_interval }
 {
-    Interval {
-        a: 0.0,
-        b: 0.0,
-        u: 0.0,
-        w: 0.0,
-    }
+    Interval::default()
 }
