@@ -74,7 +74,7 @@ pub fn count_marks(marks: [bool; MARKS], places: usize) -> usize
     requires { places ≤ count_limit }
     ensures { result ≡ count_marks (take places marks) }
 {
-    marks[..places].iter().filter(|mark| **mark).count()
+    marks[..places].iter().map(|mark| usize::from(*mark)).sum()
 }
 
 impl Slicing {
