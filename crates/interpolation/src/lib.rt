@@ -11,7 +11,7 @@ ghost use Rattle.interpolation.specs.Interpolate.{add_node, add_nodes, scaled_by
 ghost use Rattle.interpolation.specs.InterpolateCall.{interpolate_refusal, interpolated_in, InterpolateCall};
 ghost use Rattle.interpolation.specs.inside.Filling.{Fillable};
 
-use number::{Basis, COUNT_LIMIT, Interval, Parity, Refusal, change_of_basis, detect_parity_f64};
+use number::{Basis, COUNT_LIMIT, Interval, Parity, Refusal, change_of_basis, detect_parity};
 
 // What interpolation makes: the number of coefficients, their parity, and the interval with its change pair.
 #[derive(Clone, Copy, Debug, PartialEq)]
@@ -73,7 +73,7 @@ fn fill(out: &mut [f64], nodes: &[f64], values: &[f64]) -> Parity
     out.fill(0.0);
     add_nodes(out, nodes, values);
     scale(out, nodes.len());
-    detect_parity_f64(out)
+    detect_parity(out)
 }
 
 // Tells whether nodes and values are unequal in number, none, or above the limit.

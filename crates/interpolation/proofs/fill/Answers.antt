@@ -19,4 +19,4 @@ returns c =
     let zeros = cleared ∙ rw zero_is (ap (λ (n : ℕ). replicate n float_ops.zero) c.requires.places) in
     let sums = c.add_nodes.ensures ∙ ap (add_nodes float_ops nodes values) zeros in
     let coefficients = c.scale.ensures ∙ ap (scaled float_ops (inverse_of (length nodes))) sums in
-    (c.detect_parity_f64.ensures ∙ ap (parity_of float_numbers) coefficients, coefficients)
+    (c.detect_parity.ensures ∙ ap (parity_of float_numbers) coefficients, coefficients)
