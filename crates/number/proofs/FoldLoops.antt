@@ -26,7 +26,7 @@ use Rattle.number.specs.Limits.{sum_limit}
 use Rattle.number.specs.Numbers.{float_ops}
 use Rattle.number.specs.inside.Folding.{odd_place}
 use Rattle.number.proofs.EverySecond.{every_second_step, every_second_end, length_odd_places, get_d_every_second_from, drop_every_second_from}
-use Rattle.number.proofs.FillFromEnd.{filled_from, filled_length, filled_none, filled_step}
+use Rattle.number.proofs.FillFromEnd.{filled_from, filled_none, filled_step}
 use Rattle.number.proofs.Rows.{next_coeff, add_more, add_end, alternating, alternating_end, alternating_more, alternating_small, column_is}
 
 -- ---- copying every second coefficient, from place `from` on
@@ -96,9 +96,6 @@ module _ (c start : List ℤ) (room : length c / 2 ≤ length start) where
       }
 
   module _ {out : List ℤ} {s : ℤ} {left : ℕ} (t : Summing c start out s left) where
-    pub sum_length : length out ≡ length start
-    sum_length = ap length t.so_far ∙ filled_length (fold whole_ops Odd Chebyshev c) start room_odd left (omega (arith, t.within))
-
     pub sum_abs_lem : nat_abs s ≤ sum_abs c
     sum_abs_lem = omega (arith, ap nat_abs t.sum, abs_alternating c (2 * left + 1))
 
@@ -142,9 +139,6 @@ module _ (c start : List ℤ) (room : length c / 2 ≤ length start) where
             sum = sum_is e;
             so_far = ap (λ (l : List ℤ). set l i v) t.so_far ∙ filled_step F start room_odd left i (pos 0) v next place v_is;
           }
-
-    pub sum_end : left ≡ 0 → out ≡ sets start 0 (fold whole_ops Odd Chebyshev c)
-    sum_end e = t.so_far ∙ ap (filled_from (fold whole_ops Odd Chebyshev c) start) e
 
 -- ---- f64, place by place: the sum of a place from +0, in the source's order
 
@@ -194,9 +188,6 @@ placing_start 𝓞 c start = record { within = omega arith; so_far = refl }
 module _ {A : Type 0} {𝓞 : Operations A} {c start out : List A} {i : ℕ} (room : length c / 2 ≤ length start) (t : Placing 𝓞 c start out i) where
   long : length (fold 𝓞 Odd Chebyshev c) ≤ length start
   long = omega (arith, length_odd 𝓞 c)
-
-  pub placing_length : length out ≡ length start
-  placing_length = ap length t.so_far ∙ filling.copy_length (fold 𝓞 Odd Chebyshev c) start i (omega (arith, length_odd 𝓞 c, t.within)) long
 
   pub placing_step : {v : A} (d : A) → i < length c / 2 → v ≡ odd_place 𝓞 c i → Placing 𝓞 c start (set out i v) (i + 1)
   placing_step {v} d h e =

@@ -1,7 +1,6 @@
 // The number layer: index splitting, factorisation, folding, evaluation.
 #![tactic(auto)]
 
-pub mod arithmetic;
 pub mod coefficient;
 pub mod copy;
 pub mod degree;
@@ -35,7 +34,7 @@ pub use refusal::Refusal;
 pub use split::{Split, parts_of, split_degree};
 // What serves planning and conversion, which call it within its ranges.
 pub use copy::copy_coeffs;
-pub use factor::{factorize_coeffs_chebyshev, factorize_coeffs_chebyshev_f64};
+pub use factor::factorize_coeffs_chebyshev;
 pub use fold::{fold_count, fold_into, is_full, least_folded};
 pub use parity::has_parity;
 pub use powers::{power_of_two, top_power};
