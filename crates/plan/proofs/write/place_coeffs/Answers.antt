@@ -2,15 +2,18 @@
 use mathlib.Core.Path.{sym, ap, ◌∙◌}
 use mathlib.Core.Bool.{Bool}
 use mathlib.Core.List.{List, ◌++◌}
+use borrow.Author.Tests.{le-leb}
 use lib.IntN.{ℤ}
 use lib.ListN.{length, drop}
 use lib.Seq.{sets}
+use Rattle.algebra.specs.Magnitude.{sum_abs}
+use Rattle.number.specs.Limits.{sum_limit}
 use Rattle.lists.proofs.ListCall.{front}
 use Rattle.plan.specs.PlanCall.{planned_coefficients}
 use Rattle.plan.proofs.write.place_coeffs.Goals as goal
 
 pub fold_into-requires : goal.fold_into-requires
-fold_into-requires c = (c.requires.foldable c.if-fold.true, c.requires.sum_limit_lem)
+fold_into-requires c = (c.requires.foldable c.if-fold.true, le-leb (sum_abs c.args.c.now) sum_limit c.requires.sum_limit_lem)
 
 pub returns-then-fold : goal.returns-then-fold
 returns-then-fold c =
