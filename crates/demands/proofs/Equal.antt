@@ -26,7 +26,7 @@ use Rattle.number.specs.FoldCall.{fold_tests, fold_refusal, fold_answer, fold_bu
 use Rattle.number.specs.Limits.{plan_limit, sum_limit, degree_limit}
 use Rattle.number.specs.Numbers.{whole_numbers, float_ops, float_numbers}
 use Rattle.number.specs.Refusal.{unless_refused}
-use Rattle.number.specs.declared.fold.Folded.{Folded}
+use Rattle.number.specs.FoldCall.{Folded}
 use Rattle.number.proofs.Bits.{digits_by_halving, powers_of_two}
 use Rattle.number.proofs.CutSame.{cuts_same}
 use Rattle.number.proofs.EvaluateLaw.{evaluate_law}

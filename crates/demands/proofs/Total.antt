@@ -23,7 +23,7 @@ use Rattle.number.specs.Numbers.{Numbers, float_numbers}
 use Rattle.number.specs.Refusal.{Test, first_refusal, unless_refused, Numbered}
 use Rattle.number.specs.Split.{Parts, parts_by, parts_of, no_parts, split_refusal, split_of}
 use Rattle.number.specs.Tests.{degree_of, no_degree, too_high, unordered, miscounted, out_of_range, too_wide, no_room}
-use Rattle.number.specs.declared.fold.Folded.{Folded}
+use Rattle.number.specs.FoldCall.{Folded}
 use Rattle.number.proofs.FirstRefusal.{none_holds, numbered_append, refusals_say, refusal_of, when_refused, when_accepted}
 use Rattle.number.proofs.Options.{missing_image, missing_some}
 use Rattle.bases.specs.Convert.{converted}

@@ -31,7 +31,7 @@ use Rattle.number.specs.Exact.{num, ExactTo53}
 use Rattle.number.specs.FoldCall.{FoldCall}
 use Rattle.number.specs.FoldSame.{FoldsSame}
 use Rattle.number.specs.Numbers.{float_ops, float_numbers}
-use Rattle.number.specs.declared.fold.Folded.{Folded}
+use Rattle.number.specs.FoldCall.{Folded}
 use Rattle.interpolation.specs.InterpolateLaw.{InterpolateLaw}
 use Rattle.needed.specs.Promises.{NeededPowers}
 use Rattle.counts.specs.SliceRule.{SliceRule}

@@ -20,7 +20,7 @@ use Rattle.number.specs.Parity.{parity_of}
 use Rattle.number.specs.Refusal.{Test, NoneHolds, FirstHolds}
 use Rattle.number.specs.Split.{parts_of, no_parts, split_of}
 use Rattle.number.specs.Tests.{degree_of, no_degree, too_high, unordered, miscounted, out_of_range, too_wide, no_room}
-use Rattle.number.specs.declared.fold.Folded.{Folded}
+use Rattle.number.specs.FoldCall.{Folded}
 use Rattle.bases.specs.Promises.{SameAtWholes}
 use Rattle.conversion.specs.ConvertCall.{Converted, convert_tests, ConvertCall}
 use Rattle.interpolation.specs.Interpolate.{coefficients_of}

@@ -2,22 +2,22 @@
 ghost use Rattle.std.specs.Prelude.{◌≡◌, true, ◌≤◌, length, drop};
 ghost use Rattle.std.proofs.lemmas.List.Edits.{sets};
 ghost use Rattle.algebra.specs.Fold.{every_second, folded_length, fold};
-ghost use Rattle.number.specs.Numbers.{float_numbers};
 ghost use Rattle.number.specs.Tests.{is_full, least_folded};
-ghost use Rattle.number.specs.FoldCall.{FoldCall};
-ghost use Rattle.number.specs.inside.Folding.{Foldable, refusal_by, answer_by};
+ghost use Rattle.number.specs.FoldCall.{FoldCall, folded_in};
+ghost use Rattle.number.specs.Refused.{refusal_of};
+ghost use Rattle.number.specs.inside.Folding.{Foldable, refusal_by};
 
 use crate::coefficient::Coefficient;
 use crate::degree::degree_of;
 use crate::limits::PLAN_LIMIT;
 use crate::parity::has_parity;
+use crate::refusal::Refusal;
 use crate::transform::transform_of;
 use algebra::{Basis, Parity, PolynomialInputTransform};
 
-// What a fold call answers: 0 or the refusal, the transform, the result's parity and the number of coefficients written.
-#[derive(Clone, Copy)]
-pub struct Folded {
-    pub refusal: u8,
+// What a fold call answers: the transform, the result's parity and the number of coefficients written.
+#[derive(Clone, Copy, Debug, PartialEq, Eq)]
+pub struct Fold {
     pub transform: PolynomialInputTransform,
     pub parity: Parity,
     pub count: usize,
@@ -55,51 +55,32 @@ pub fn fold_count(parity: Parity, n: usize) -> usize
     }
 }
 
-// The first test that holds for n coefficients, or 0: by whether they have the parity, are small enough and find no room.
-pub fn fold_refusal(parity: Parity, n: usize, fits: bool, small: bool, short: bool) -> u8
-    ensures { result ≡ refusal_by parity n fits small short }
+// Refuses n coefficients by the first test that holds of them: whether they have the parity, are small enough and find no room is told.
+fn check_fold(parity: Parity, n: usize, fits: bool, small: bool, short: bool) -> Result<(), Refusal>
+    ensures { refusal_of result ≡ refusal_by parity n fits small short }
 {
     let degree = degree_of(n);
     if PLAN_LIMIT < degree {
-        return 2;
+        return Err(Refusal::DegreeTooHigh);
     }
     if is_full(parity) {
-        return 5;
+        return Err(Refusal::FoldsFull);
     }
     let low = degree < least_folded(parity);
     let wrong = !fits;
     if low {
-        return 6;
+        return Err(Refusal::FoldsTooLow);
     }
     if wrong {
-        return 4;
+        return Err(Refusal::WrongParity);
     }
     if !small {
-        return 3;
+        return Err(Refusal::SumTooLarge);
     }
-    if short { 21 } else { 0 }
-}
-
-// The answer of a fold call: count coefficients, or a refusal.
-pub fn fold_answer(refusal: u8, parity: Parity, basis: Basis, count: usize) -> Folded
-    ensures { result ≡ answer_by refusal parity basis count }
-{
-    if refusal == 0 {
-        let transform = transform_of(parity, basis);
-        Folded {
-            refusal: 0,
-            transform: transform,
-            parity: Parity::Full,
-            count: count,
-        }
-    } else {
-        Folded {
-            refusal: refusal,
-            transform: PolynomialInputTransform::Identity,
-            parity: Parity::Full,
-            count: 0,
-        }
+    if short {
+        return Err(Refusal::CoefficientsShort);
     }
+    Ok(())
 }
 
 // Writes every second coefficient from place `from` on.
@@ -126,25 +107,24 @@ pub fn fold_into<C: Coefficient>(parity: Parity, basis: Basis, c: &[C], out: &mu
     }
 }
 
-// Folds a polynomial of parity Even or Odd into one of half the degree.
-pub fn fold_parity<C: Coefficient>(parity: Parity, basis: Basis, c: &[C], out: &mut [C]) -> Folded
-    ensures { FoldCall C.numbers parity basis c.now out.old result out.new }
+// Folds a polynomial of parity Even or Odd into one of half the degree. A refused call writes nothing.
+pub fn fold_parity<C: Coefficient>(
+    parity: Parity,
+    basis: Basis,
+    c: &[C],
+    out: &mut [C],
+) -> Result<Fold, Refusal>
+    ensures { FoldCall C.numbers parity basis c.now out.old (folded_in result) out.new }
 {
     let n = c.len();
     let count = fold_count(parity, n);
     let fits = has_parity(parity, c);
     let small = C::sum_fits(c);
-    let refusal = fold_refusal(parity, n, fits, small, out.len() < count);
-    if 0 < refusal {
-        return fold_answer(refusal, parity, basis, count);
-    }
+    check_fold(parity, n, fits, small, out.len() < count)?;
     fold_into(parity, basis, c, out);
-    fold_answer(0, parity, basis, count)
-}
-
-// The f64 name stands until its callers have moved.
-pub fn fold_parity_f64(parity: Parity, basis: Basis, c: &[f64], out: &mut [f64]) -> Folded
-    ensures { FoldCall float_numbers parity basis c.now out.old result out.new }
-{
-    fold_parity(parity, basis, c, out)
+    Ok(Fold {
+        transform: transform_of(parity, basis),
+        parity: Parity::Full,
+        count,
+    })
 }

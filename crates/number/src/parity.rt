@@ -1,7 +1,6 @@
 // Whether coefficients have a parity, and the parity that they have.
 ghost use Rattle.std.specs.Prelude.{◌≡◌};
 ghost use Rattle.algebra.specs.Allowed.{allows};
-ghost use Rattle.number.specs.Numbers.{float_numbers};
 ghost use Rattle.number.specs.Parity.{has_parity, parity_of};
 
 use crate::coefficient::Coefficient;
@@ -39,11 +38,4 @@ pub fn detect_parity<C: Coefficient>(c: &[C]) -> Parity
     } else {
         Parity::Full
     }
-}
-
-// The f64 names stand until their callers have moved.
-pub fn detect_parity_f64(c: &[f64]) -> Parity
-    ensures { result ≡ parity_of float_numbers c.now }
-{
-    detect_parity(c)
 }

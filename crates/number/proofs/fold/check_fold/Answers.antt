@@ -1,4 +1,4 @@
--- `number::fold::fold_refusal` meets its contract: it makes the definition's tests in the definition's order.
+-- `number::fold::check_fold` meets its contract: it makes the definition's tests in the definition's order.
 use borrow.Author.Tests.{lt-ltb, le-ltb}
 use mathlib.Core.Path.{◌≡◌, sym, ap₂, ◌∙◌}
 use mathlib.Core.Bool.{Bool, false}
@@ -8,8 +8,8 @@ use lib.Dec.{ltb}
 use Rattle.number.specs.Limits.{plan_limit}
 use Rattle.number.specs.Tests.{is_full, least_folded}
 use Rattle.number.specs.inside.Folding.{refusal_by}
-use Rattle.number.proofs.fold.fold_refusal.Goals as goal
-use Rattle.number.proofs.fold.fold_refusal.Goals.{After-least_folded, Else-degree-gt-PLAN_LIMIT}
+use Rattle.number.proofs.fold.check_fold.Goals as goal
+use Rattle.number.proofs.fold.check_fold.Goals.{After-least_folded, Else-degree-gt-PLAN_LIMIT}
 
 -- the degree is not too high
 not_high : (c : Else-degree-gt-PLAN_LIMIT) → ltb plan_limit (c.args.n - 1) ≡ false
@@ -72,10 +72,10 @@ returns-then-short c =
       c.if-short.true,
     )
 
-pub returns-else-short : goal.returns-else-short
+pub returns : goal.returns
 unfolding refusal_by
-returns-else-short c =
-    let here = goal.at.returns-else-short c in
+returns c =
+    let here = goal.at.returns c in
     rw (
       passed here.After-least_folded,
       not_full here.After-least_folded,
