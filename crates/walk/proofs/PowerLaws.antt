@@ -1,13 +1,12 @@
 -- The powers in their places, at the start and after a store, and what may be made.
 use mathlib.Core.Path.{◌≡◌, refl, fun_ext}
 use mathlib.Core.List.{List}
-use mathlib.Core.Bool.{true}
+use mathlib.Core.Bool.{Bool, true, false}
 use Prim.Native.Nat.{ℕ, zero, suc, ◌≤◌, ◌<◌}
 use native.Mathlib.Omega.{arith}
 use native.Mathlib.Decide.{ℕ_discrete}
 use borrow.Author.Tests.{eq-eqb, ne_eqb, eqb-true, leb-true}
 use lib.Dec.{eqb, leb}
-use Rattle.std.specs.Prelude.{Option as Answer, Some, None}
 use lib.ListN.{length, replicate, set}
 use lib.Seq.{get_or-set_same, get_or-set_other}
 use Rattle.number.specs.Limits.{plan_limit}
@@ -19,25 +18,28 @@ use Rattle.walk.specs.inside.Powers.{powers_in}
 use Rattle.walk.proofs.RunLaws.{get_d_replicate}
 
 -- a power is put beside the others
-pub powers_set : (places : List (Answer ℕ)) (n v : ℕ) → n < length places → powers_in (set places n (Some v)) ≡ with_power n v (powers_in places)
+pub powers_set : (values : List ℕ) (made : List Bool) (n v : ℕ) → n < length values → n < length made
+    → powers_in (set values n v) (set made n true) ≡ with_power n v (powers_in values made)
 unfolding with_power
-powers_set places n v h = fun_ext (λ m. at m (ℕ_discrete m n))
+powers_set values made n v h g = fun_ext (λ m. at m (ℕ_discrete m n))
   where
-    at : (m : ℕ) → Dec (m ≡ n) → powers_in (set places n (Some v)) m ≡ with_power n v (powers_in places) m
-    at m (yes e) = rw (eq-eqb m n e, e, get_or-set_same places n (Some v) None h)
-    at m (no e) = rw (ne_eqb m n e, get_or-set_other places n m (Some v) None e)
+    at : (m : ℕ) → Dec (m ≡ n) → powers_in (set values n v) (set made n true) m ≡ with_power n v (powers_in values made) m
+    at m (yes e) = rw (eq-eqb m n e, e, get_or-set_same made n true false g, get_or-set_same values n v 0 h)
+    at m (no e) = rw (ne_eqb m n e, get_or-set_other made n m true false e, get_or-set_other values n m v 0 e)
 
 -- powers 0 and 1 are there at the start
-pub powers_first : (𝓡 : Rules ℕ) (n y : ℕ) → 2 ≤ n → powers_in (set (set (replicate n None) 0 (Some 𝓡.one)) 1 (Some y)) ≡ first_powers 𝓡 y
+pub powers_first : (𝓡 : Rules ℕ) (n y : ℕ) → 2 ≤ n
+    → powers_in (set (set (replicate n 0) 0 𝓡.one) 1 y) (set (set (replicate n false) 0 true) 1 true) ≡ first_powers 𝓡 y
 unfolding first_powers
 powers_first 𝓡 zero y h = absurd (omega arith)
 powers_first 𝓡 (suc zero) y h = absurd (omega arith)
 powers_first 𝓡 (suc (suc k)) y h = fun_ext at
   where
-    at : (m : ℕ) → powers_in (set (set (replicate (suc (suc k)) None) 0 (Some 𝓡.one)) 1 (Some y)) m ≡ first_powers 𝓡 y m
+    at : (m : ℕ) → powers_in (set (set (replicate (suc (suc k)) 0) 0 𝓡.one) 1 y) (set (set (replicate (suc (suc k)) false) 0 true) 1 true) m
+        ≡ first_powers 𝓡 y m
     at zero = refl
     at (suc zero) = refl
-    at (suc (suc m)) = rw (get_d_replicate {X = Answer ℕ} None k m)
+    at (suc (suc m)) = rw (get_d_replicate false k m)
 
 -- what may be made
 module _ (n a b : ℕ) where

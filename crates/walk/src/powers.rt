@@ -1,5 +1,5 @@
 // The powers that were made.
-ghost use Rattle.std.specs.Prelude.{◌≡◌, ◌≤◌, IsSome, get_or, None};
+ghost use Rattle.std.specs.Prelude.{◌≡◌, ◌≤◌, get_or, true, false};
 ghost use Rattle.number.specs.Limits.{plan_limit};
 ghost use Rattle.walk.specs.Make.{first_powers, with_power};
 ghost use Rattle.walk.specs.inside.Found.{found};
@@ -7,12 +7,14 @@ ghost use Rattle.walk.specs.inside.Found.{found};
 use crate::arithmetic::Arithmetic;
 use crate::limits::POWERS;
 
-// Powers 0 to 4,095, each where it was made. Powers 0 and 1 always were.
+// Powers 0 to 4,095, with marks of those that were made. Powers 0 and 1 always were. An array of Options would be nearly twice as long, and a walk of a
+// short plan, which takes most of its time to set it up, half as slow again.
 #[derive(Drop)]
 pub struct Powers {
-    places: [Option<u64>; POWERS],
-    ghost zero: { IsSome (get_or places 0 None) },
-    ghost one: { IsSome (get_or places 1 None) },
+    values: [u64; POWERS],
+    made: [bool; POWERS],
+    ghost zero: { get_or made 0 false ≡ true },
+    ghost one: { get_or made 1 false ≡ true },
 }
 
 impl Powers {
@@ -22,17 +24,24 @@ impl Powers {
     pub fn first<A: Arithmetic>(y: u64, arithmetic: A) -> Powers
         ensures { powers_of result ≡ first_powers (A.rules arithmetic) y }
     {
-        let mut places = [None; POWERS];
-        places[0] = Some(arithmetic.one());
-        places[1] = Some(y);
-        Powers { places }
+        let mut values = [0; POWERS];
+        let mut made = [false; POWERS];
+        values[0] = arithmetic.one();
+        values[1] = y;
+        made[0] = true;
+        made[1] = true;
+        Powers { values, made }
     }
 
     // Returns power n, or `None` where it was not made.
     pub fn get(&self, n: usize) -> Option<u64>
         ensures { found result ≡ powers_of self.now n }
     {
-        if n < POWERS { self.places[n] } else { None }
+        if n < POWERS && self.made[n] {
+            Some(self.values[n])
+        } else {
+            None
+        }
     }
 
     // Puts power n beside the others.
@@ -40,6 +49,7 @@ impl Powers {
         requires { n ≤ plan_limit }
         ensures { powers_of self.new ≡ with_power n v (powers_of self.old) }
     {
-        self.places[n] = Some(v);
+        self.values[n] = v;
+        self.made[n] = true;
     }
 }

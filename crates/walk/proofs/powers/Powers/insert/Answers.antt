@@ -4,4 +4,4 @@ use Rattle.walk.proofs.PowerLaws.{powers_set}
 use Rattle.walk.proofs.powers.Powers.insert.Goals as goal
 
 pub returns : goal.returns
-returns c = powers_set c.args.self.now.places c.args.n c.args.v (omega arith)
+returns c = let powers = c.args.self.now in powers_set powers.values powers.made c.args.n c.args.v (omega arith) (omega arith)
