@@ -4,5 +4,5 @@
 pub mod marks;
 pub mod slicing;
 
-pub use marks::{MARKS, baby_limit, count_marks, count_needed, needed_marks};
+pub use marks::{MARKS, count_marks};
 pub use slicing::Slicing;

@@ -3,7 +3,6 @@ ghost use Rattle.std.specs.Prelude.{◌≡◌, ◌<◌, ◌≤◌, ◌+◌, fals
 ghost use Rattle.number.specs.Limits.{count_limit};
 ghost use Rattle.needed.specs.Needed.{baby_limit};
 ghost use Rattle.needed.specs.NeededList.{is_target, needed_count};
-ghost use Rattle.needed.specs.inside.Planned.{Planned};
 ghost use Rattle.needed.specs.inside.Marks.{padded, places, mark_at, mark_parts, sweep_from, count_marks, greatest_target, needed_marks};
 
 use super::slicing::Slicing;
@@ -130,33 +129,4 @@ impl Slicing {
         };
         below.count_swept(parity, basis) + (bit_len(self.degree) - self.split)
     }
-}
-
-// These four take a degree and a split apart, until plans and sets have moved to the methods.
-pub fn baby_limit(degree: usize, split: usize) -> usize
-    requires { Planned degree split }
-    ensures { result ≡ baby_limit degree split }
-{
-    Slicing { degree, split }.baby_limit()
-}
-
-pub fn greatest_target(degree: usize, split: usize) -> usize
-    requires { Planned degree split }
-    ensures { result ≡ greatest_target degree split }
-{
-    Slicing { degree, split }.greatest_target()
-}
-
-pub fn needed_marks(parity: Parity, basis: Basis, degree: usize, split: usize) -> [bool; MARKS]
-    requires { Planned degree split }
-    ensures { result ≡ padded count_limit (needed_marks parity basis degree split) }
-{
-    Slicing { degree, split }.needed_marks(parity, basis)
-}
-
-pub fn count_needed(parity: Parity, basis: Basis, degree: usize, split: usize) -> usize
-    requires { Planned degree split }
-    ensures { result ≡ needed_count parity basis degree split }
-{
-    Slicing { degree, split }.count_needed(parity, basis)
 }
