@@ -14,6 +14,7 @@ use number::{Refusal, change_of_basis, degree_of};
 use walk::Head;
 
 // Tests whether the buffers hold so many coefficients, lists and steps: they have `room`, `boundaries` and `numbers` places.
+#[tactic(auto, unfolding(crate::specs::inside::Filling::buffer_refusal))]
 pub fn check_buffers(
     sizes: Sizes,
     room: usize,

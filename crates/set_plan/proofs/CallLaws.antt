@@ -11,6 +11,7 @@ use lib.IntN.{ℤ}
 use lib.ListN.{length, take, drop, replicate, length-append, length-map, length-drop}
 use lib.Seq.{sets, length-take-le}
 use Rattle.std.proofs.lemmas.List.{length-take}
+use Rattle.std.specs.Prelude.{Ok}
 use Rattle.algebra.specs.Each.{Each}
 use Rattle.number.specs.Refusal.{Test, first_refusal, Numbered}
 use Rattle.number.proofs.FirstRefusal.{none_holds, first_kept, first_of_more, first_passed, numbered_append, when_refused, when_accepted}
@@ -21,7 +22,7 @@ use Rattle.plan.specs.PlanSteps.{make_step}
 use Rattle.plan.specs.Reported.{of_kind}
 use Rattle.plan.specs.PlanHead.{no_head}
 use Rattle.plan.specs.PlanCall.{settings_tests}
-use Rattle.plan.specs.PlanSizes.{HasSizes, PlanSizes}
+use Rattle.plan.specs.PlanSizes.{HasSizes, PlanSizes, plan_sizes_in}
 use Rattle.plan.specs.inside.Filling.{buffer_refusal}
 use Rattle.plan.proofs.PlanTests.{early_numbered, early_accepted, settings_accepted, buffers_fit}
 use Rattle.sets.specs.Members.{Curve, members_in, curves_in, handed_count, all_alike, total}
@@ -173,7 +174,7 @@ module _ (handed : Members) (c out : List ℤ) (bounds steps : List ℕ) where
     same_heads : first ≡ heads
     same_heads = first_by pass outlined.heads_are ∙ sym (heads_by_lem (members_in handed) c ahead.within)
 
-    sizes_same : outline.sizes ≡ set_sizes_of heads
+    sizes_same : plan_sizes_in (Ok outline.sizes) ≡ set_sizes_of heads
     sizes_same = outlined.sizes_are ∙ ap set_sizes_of same_heads
 
     -- those of the buffers decide
@@ -237,11 +238,3 @@ module _ (handed : Members) (c out : List ℤ) (bounds steps : List ℕ) where
       counted = outlined.counted;
       zeros = zeros_behind pass outlined.heads_are;
     }
-
--- ---- a refusal
-
-pub refused_is : {refusal : ℕ} {head : Head} → head ≡ no_head
-    → ◌≡◌ {A = SetPlanned} (record { refusal = refusal; set = record { ct = 0; pt = 0; powers = 0; heads = replicate member_limit head } })
-    (record { refusal = refusal; set = no_set })
-unfolding set_of set_ct set_pt set_powers set_steps common_steps member_steps union_of joined total of_kind
-refused_is is = rw is

@@ -8,13 +8,14 @@ use borrow.Author.Tests.{ltb-false, not-false}
 use lib.Dec.{ltb, eqb}
 use lib.ListN.{length, get_or, drop, drop_of_length-le}
 use Rattle.std.proofs.lemmas.List.{length-take}
+use Rattle.std.specs.Prelude.{Ok}
 use Rattle.algebra.specs.Each.{Each}
 use Rattle.number.specs.Refusal.{Test, first_refusal, Numbered}
 use Rattle.number.proofs.FirstRefusal.{none_holds, first_kept, first_of_more, first_passed, numbered_append, when_refused, when_accepted}
 use Rattle.lists.specs.Lists.{joined}
 use Rattle.walk.specs.declared.plan.Head.{Head}
 use Rattle.plan.specs.PlanCall.{settings_tests}
-use Rattle.plan.specs.PlanSizes.{no_sizes, PlanSizes}
+use Rattle.plan.specs.PlanSizes.{no_sizes, PlanSizes, plan_sizes_in}
 use Rattle.plan.proofs.PlanTests.{settings_numbered}
 use Rattle.sets.specs.Members.{members_in, all_alike}
 use Rattle.sets.specs.SetPlan.{member_limit}
@@ -125,7 +126,7 @@ module _ (handed : Members) where
       let held : 0 < answer = omega arith in
       r_is ∙ ap no_sizes k_is ∙ when_refused answer _ _ held
 
-  pub sizes_told : {outline : SetOutline} → answer ≡ 0 → Outlined (members_in handed) outline → outline.sizes ≡ set_sizes_call handed
+  pub sizes_told : {outline : SetOutline} → answer ≡ 0 → Outlined (members_in handed) outline → plan_sizes_in (Ok outline.sizes) ≡ set_sizes_call handed
   unfolding set_sizes_call
   sizes_told accepted outlined =
       outlined.sizes_are ∙ ap set_sizes_of (first_by (settings_pass accepted) outlined.heads_are) ∙ when_accepted _ _ accepted

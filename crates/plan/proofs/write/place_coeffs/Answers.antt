@@ -1,13 +1,13 @@
 -- `plan::write::place_coeffs` meets its contract: with folding the fold is written, without it the coefficients are copied.
 use mathlib.Core.Path.{sym, ap, ◌∙◌}
 use mathlib.Core.Bool.{Bool}
-use mathlib.Core.List.{List, ◌++◌}
 use borrow.Author.Tests.{le-leb}
-use lib.IntN.{ℤ}
-use lib.ListN.{length, drop}
 use lib.Seq.{sets}
 use Rattle.algebra.specs.Magnitude.{sum_abs}
 use Rattle.number.specs.Limits.{sum_limit}
+use mathlib.Core.List.{List, ◌++◌}
+use lib.IntN.{ℤ}
+use lib.ListN.{length, drop}
 use Rattle.lists.proofs.ListCall.{front}
 use Rattle.plan.specs.PlanCall.{planned_coefficients}
 use Rattle.plan.proofs.write.place_coeffs.Goals as goal

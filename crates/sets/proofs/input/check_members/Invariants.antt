@@ -7,7 +7,7 @@ use Rattle.lists.specs.Lists.{joined}
 use Rattle.sets.specs.Members.{handed_count, curves_in}
 use Rattle.sets.specs.SetCall.{own_tests}
 use Rattle.sets.proofs.InputLaws.{refusal_from}
-use Rattle.sets.proofs.input.own_refusals.Given as goal
+use Rattle.sets.proofs.input.check_members.Given as goal
 
 abbrev pub invariant-loop-member : goal.invariant-loop-member
 invariant-loop-member l = record {
