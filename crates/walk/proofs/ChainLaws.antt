@@ -8,7 +8,7 @@ use Prim.Native.Nat.{ℕ, ◌*◌, ◌≤◌, ◌<◌}
 use native.Mathlib.Omega.{arith}
 use borrow.Author.Tests.{lt-ltb, le-ltb}
 use lib.IntN.{ℤ, pos}
-use Rattle.std.specs.Prelude.{Option as Answer, Some, None, Result, Ok, ok_or}
+use Rattle.std.specs.Prelude.{Option as Answer, Some, None, Ok, ok_or}
 use Rattle.number.specs.declared.refusal.Refusal.TheVariants.{Unwalkable}
 use Rattle.number.specs.Limits.{scale_limit}
 use Rattle.number.specs.Refusal.{unless_refused}
