@@ -36,9 +36,6 @@ pub record Copying {A : Type 0} (c : List A) (from : ℕ) (start out : List A) (
   pub within : i ≤ length (every_second (drop from c))
   pub so_far : out ≡ filling.copied (every_second (drop from c)) start i
 
-pub copy_start : {A : Type 0} (c : List A) (from : ℕ) (start : List A) → Copying c from start start 0
-copy_start c from start = record { within = omega arith; so_far = refl }
-
 -- how many there are
 pub count_is : {A : Type 0} (c : List A) (from : ℕ) → div_ceil (length c - from) 2 ≡ length (every_second (drop from c))
 count_is c from = omega (arith, length_every_second (drop from c), length-drop from c, div_ceil_times (length c - from) 2 (omega arith))

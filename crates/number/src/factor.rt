@@ -9,6 +9,7 @@ ghost use Rattle.number.specs.inside.Pair.{cut_one, cut_two, EachOfPair};
 use crate::coefficient::Coefficient;
 
 // Takes the coefficient at high off its partner at low, and doubles it.
+#[tactic(auto, unfolding(crate::specs::inside::Pair::cut_one))]
 fn cut_one<C: Coefficient>(c: &mut [C], low: usize, high: usize)
     requires { (low < high) × ((high < length c.old) × EachOfPair C.CanCut C.numbers.ops.zero c.old low high) }
     ensures { c.new ≡ cut_one C.numbers.ops C.numbers.ops.zero c.old low high }
@@ -23,7 +24,9 @@ fn cut_one<C: Coefficient>(c: &mut [C], low: usize, high: usize)
 fn cut_two<C: Coefficient>(c: &mut [C], low: usize, high: usize)
     requires { (0 < low)
         × ((low < high)
-        × ((high + 1 < length c.old) × (EachOfPair C.CanCut C.numbers.ops.zero c.old low high × EachOfPair C.CanCut C.numbers.ops.zero c.old (low - 1) (high + 1)))) }
+        × ((high + 1 < length c.old)
+        × (EachOfPair C.CanCut C.numbers.ops.zero c.old low high
+        × EachOfPair C.CanCut C.numbers.ops.zero c.old (low - 1) (high + 1)))) }
     ensures { c.new ≡ cut_two C.numbers.ops C.numbers.ops.zero c.old low high }
 {
     let next_low = low - 1;

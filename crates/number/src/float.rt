@@ -63,6 +63,7 @@ impl Coefficient for f64 {
         self - other
     }
 
+    #[tactic(auto, using(crate::proofs::Literals::double_is))]
     fn twice(self) -> f64 {
         2.0 * self
     }

@@ -23,17 +23,14 @@ pub struct Fold {
     pub count: usize,
 }
 
-// Whether the parity is Full.
+// Returns whether the parity is Full.
 pub fn is_full(parity: Parity) -> bool
     ensures { result ≡ is_full parity }
 {
-    match parity {
-        Parity::Full => true,
-        Parity::Even | Parity::Odd => false,
-    }
+    parity == Parity::Full
 }
 
-// The least degree that folds.
+// Returns the least degree that folds.
 pub fn least_folded(parity: Parity) -> usize
     ensures { result ≡ least_folded parity }
 {
@@ -44,18 +41,20 @@ pub fn least_folded(parity: Parity) -> usize
     }
 }
 
-// How many coefficients n fold to.
+// Returns how many coefficients n fold to.
+#[tactic(auto, unfolding(algebra::specs::Fold::folded_length))]
 pub fn fold_count(parity: Parity, n: usize) -> usize
     ensures { result ≡ folded_length parity n }
 {
     match parity {
         Parity::Full => n,
-        Parity::Even => n - n / 2,
+        Parity::Even => n.div_ceil(2),
         Parity::Odd => n / 2,
     }
 }
 
-// Refuses n coefficients by the first test that holds of them: whether they have the parity, are small enough and find no room is told.
+// Refuses n coefficients by the first test that holds of them. The caller says whether they have the parity, are small enough and find no room.
+#[tactic(auto, unfolding(crate::specs::inside::Folding::refusal_by))]
 fn check_fold(parity: Parity, n: usize, fits: bool, small: bool, short: bool) -> Result<(), Refusal>
     ensures { refusal_of result ≡ refusal_by parity n fits small short }
 {
@@ -66,12 +65,10 @@ fn check_fold(parity: Parity, n: usize, fits: bool, small: bool, short: bool) ->
     if is_full(parity) {
         return Err(Refusal::FoldsFull);
     }
-    let low = degree < least_folded(parity);
-    let wrong = !fits;
-    if low {
+    if degree < least_folded(parity) {
         return Err(Refusal::FoldsTooLow);
     }
-    if wrong {
+    if !fits {
         return Err(Refusal::WrongParity);
     }
     if !small {
@@ -84,6 +81,7 @@ fn check_fold(parity: Parity, n: usize, fits: bool, small: bool, short: bool) ->
 }
 
 // Writes every second coefficient from place `from` on.
+#[tactic(auto, using(crate::proofs::FoldLoops::copy_step, crate::proofs::FoldLoops::copy_end, crate::proofs::FoldLoops::count_is))]
 fn copy_second<C: Coefficient>(c: &[C], from: usize, out: &mut [C])
     requires { length (every_second (drop from c.now)) ≤ length out.old }
     ensures { out.new ≡ sets out.old 0 (every_second (drop from c.now)) }
@@ -95,6 +93,7 @@ fn copy_second<C: Coefficient>(c: &[C], from: usize, out: &mut [C])
 }
 
 // Writes the fold of coefficients that are small enough.
+#[tactic(auto, using(crate::proofs::FoldCall::even_room, crate::proofs::FoldCall::odd_room), unfolding(algebra::specs::Fold::fold))]
 pub fn fold_into<C: Coefficient>(parity: Parity, basis: Basis, c: &[C], out: &mut [C])
     requires { Foldable parity c.now out.old × (C.numbers.small c.now ≡ true) }
     ensures { out.new ≡ sets out.old 0 (fold C.numbers.ops parity basis c.now) }

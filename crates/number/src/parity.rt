@@ -7,6 +7,7 @@ use crate::coefficient::Coefficient;
 use algebra::Parity;
 
 // Returns whether the parity allows power or place j.
+#[tactic(auto, unfolding(algebra::specs::Allowed::allows))]
 pub fn is_allowed(parity: Parity, j: usize) -> bool
     ensures { result ≡ allows parity j }
 {
