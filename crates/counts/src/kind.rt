@@ -1,6 +1,7 @@
-// The number of each strategy, by which answers show it.
+// The numbers by which strategies are shown, and read.
 ghost use Rattle.std.specs.Prelude.{◌≡◌};
-ghost use Rattle.counts.specs.StrategyNumber.{strategy_number, DecodesStrategy};
+ghost use Rattle.algebra.specs.Decodes.{Decodes};
+ghost use Rattle.counts.specs.StrategyNumber.{strategy_number};
 
 use super::choice::SplitStrategy;
 use algebra::UnknownKind;
@@ -19,7 +20,7 @@ impl From<SplitStrategy> for u8 {
 impl TryFrom<u8> for SplitStrategy {
     type Error = UnknownKind;
 
-    ghost try_from_gives = { DecodesStrategy };
+    ghost try_from_gives = { Decodes strategy_number 1 };
 
     fn try_from(n: u8) -> Result<Self, UnknownKind> {
         match n {
@@ -28,11 +29,4 @@ impl TryFrom<u8> for SplitStrategy {
             _ => Err(UnknownKind(n)),
         }
     }
-}
-
-// The same under its own name, until plans, the C interface and the programs have moved to `u8::from`.
-pub fn strategy_number(strategy: SplitStrategy) -> u8
-    ensures { result ≡ strategy_number strategy }
-{
-    u8::from(strategy)
 }

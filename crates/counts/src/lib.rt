@@ -15,7 +15,6 @@ pub use budget::largest_degree;
 pub use choice::{SplitStrategy, bsgs_op_counts, min_depth_split, min_mult_split};
 pub use consumed::bsgs_consumed_bits;
 pub use depth::bsgs_eval_depth;
-pub use kind::strategy_number;
 pub use settings::Settings;
 // What serves planning, which calls it within its ranges.
 pub use choice::{min_depth_of, split_for_strategy};
