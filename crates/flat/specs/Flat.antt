@@ -60,12 +60,19 @@ flat_converted r = record { refusal = r.refusal; count = r.count }
 abbrev pub flat_interval : (refusal : ℕ) → Interval → CInterval
 flat_interval refusal r = record { refusal = refusal; a = r.a; b = r.b; u = r.u; w = r.w }
 
--- of a call that refuses by a result: +0 in every field
+-- a value, or +0 after a refusal
+abbrev pub value_refused : (refusal : ℕ) → CValue
+value_refused refusal = record { refusal = refusal; value = float_ops.zero }
+
 abbrev pub value_in : Result Float Refusal → CValue
-value_in = numbered (λ (value : Float). record { refusal = 0; value = value }) (λ (refusal : ℕ). record { refusal = refusal; value = float_ops.zero })
+value_in = numbered (λ (value : Float). record { refusal = 0; value = value }) value_refused
+
+-- an interval with its change pair, or +0 in every field after a refusal
+abbrev pub interval_refused : (refusal : ℕ) → CInterval
+interval_refused refusal = flat_interval refusal no_interval
 
 abbrev pub interval_in : Result Interval Refusal → CInterval
-interval_in = numbered (flat_interval 0) (λ (refusal : ℕ). flat_interval refusal no_interval)
+interval_in = numbered (flat_interval 0) interval_refused
 
 abbrev pub flat_interpolated : Interpolated → CInterpolated
 flat_interpolated r = record {
