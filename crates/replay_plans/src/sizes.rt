@@ -1,31 +1,25 @@
 // Holding the sizes that degree and settings alone decide against what the plan call answers.
-use crate::settings::Settings;
 use firrozun::Planned;
+use recording::{Settings, agree};
 
-// The degree of so many coefficients.
-fn degree_of(count: usize) -> usize {
-    if count == 0 { 0 } else { count - 1 }
-}
-
-// The refusals that degree and settings decide.
+// Tells whether degree and settings decide a refusal.
 fn is_early(refusal: u8) -> bool {
-    refusal == 1 || refusal == 2 || refusal == 5 || refusal == 6
+    matches!(refusal, 1 | 2 | 5 | 6)
 }
 
-// Whether the sizes are the head's; where the call was refused, whether they are refused with the same number if degree and settings decide it, and
-// else are not refused.
-pub fn sizes_agree(settings: Settings, fold: bool, count: usize, ours: Planned) -> bool {
-    let b = settings.basis;
-    let p = settings.parity;
-    let s = settings.strategy;
-    let sizes = firrozun::plan_sizes(s, p, b, fold, degree_of(count));
+// Agrees if the sizes are the head's; where the call was refused, if they are refused with the same number, provided that degree and settings decide it,
+// and else are not refused.
+pub fn agree_sizes(s: Settings, fold: bool, count: usize, ours: Planned) -> Option<()> {
+    let degree = count.saturating_sub(1);
+    let sizes = firrozun::plan_sizes(s.strategy, s.parity, s.basis, fold, degree);
     if is_early(ours.refusal) {
-        let zeros = sizes.coefficients == 0 && sizes.lists == 0 && sizes.steps == 0;
-        return sizes.refusal == ours.refusal && zeros;
+        agree(sizes.refusal == ours.refusal)?;
+        return agree(sizes.coefficients == 0 && sizes.lists == 0 && sizes.steps == 0);
     }
+    agree(sizes.refusal == 0)?;
     let head = ours.head;
     let same = sizes.coefficients == head.coefficients
         && sizes.lists == head.lists
         && sizes.steps == head.steps;
-    sizes.refusal == 0 && (same || 0 < ours.refusal)
+    agree(same || 0 < ours.refusal)
 }
