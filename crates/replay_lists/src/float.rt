@@ -11,8 +11,14 @@ pub fn decompose_agrees(mut fields: Fields) -> Option<()> {
     let s = fields.settings()?;
     let c = fields.list(&mut coeffs)?;
     fields.word(b"=")?;
-    let ours =
-        firrozun::decompose_bsgs_f64(s.strategy, s.parity, s.basis, c, &mut out, &mut bounds);
+    let ours = firrozun::decompose_bsgs_f64(
+        s.strategy,
+        s.parity,
+        s.basis,
+        c,
+        &mut out,
+        &mut bounds,
+    );
     if fields.refused() {
         return agree_refused(ours);
     }
@@ -37,8 +43,14 @@ pub fn decompose_folded_agrees(mut fields: Fields) -> Option<()> {
     }
     agree(fold.refusal == 0)?;
     let c = folded.get(..fold.count)?;
-    let ours =
-        firrozun::decompose_bsgs_f64(s.strategy, fold.parity, s.basis, c, &mut out, &mut bounds);
+    let ours = firrozun::decompose_bsgs_f64(
+        s.strategy,
+        fold.parity,
+        s.basis,
+        c,
+        &mut out,
+        &mut bounds,
+    );
     match_head(&mut fields, ours)?;
     fields.match_number(transform_number(fold.transform) as usize)?;
     fields.match_lists(&out, bounds.get(..ours.lists)?)?;

@@ -4,13 +4,7 @@ use firrozun::Listed;
 use recording::{Fields, Settings, agree};
 
 // Agrees if the lists give the coefficients back.
-fn agree_rebuilt(
-    s: Settings,
-    ours: Listed,
-    out: &[i64],
-    bounds: &[u16],
-    c: &[i64],
-) -> Option<()> {
+fn agree_rebuilt(s: Settings, ours: Listed, out: &[i64], bounds: &[u16], c: &[i64]) -> Option<()> {
     let mut back = [0; 4096];
     let lists = out.get(..ours.coefficients)?;
     let rebuilt = firrozun::rebuild(
@@ -35,8 +29,14 @@ pub fn decompose_whole_agrees(mut fields: Fields) -> Option<()> {
     let s = fields.settings()?;
     let c = fields.list(&mut coeffs)?;
     fields.word(b"=")?;
-    let ours =
-        firrozun::decompose_bsgs(s.strategy, s.parity, s.basis, c, &mut out, &mut boundaries);
+    let ours = firrozun::decompose_bsgs(
+        s.strategy,
+        s.parity,
+        s.basis,
+        c,
+        &mut out,
+        &mut boundaries,
+    );
     if fields.refused() {
         return agree_refused(ours);
     }

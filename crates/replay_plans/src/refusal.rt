@@ -1,8 +1,6 @@
 // Replaying what the plan call refuses.
 use crate::sizes::agree_sizes;
-use firrozun::{
-    Head, Interval, basis_number, parity_number, strategy_number, transform_number,
-};
+use firrozun::{Head, Interval, basis_number, parity_number, strategy_number, transform_number};
 use recording::{Fields, agree, same};
 
 // Each buffer that is lent has this many places.

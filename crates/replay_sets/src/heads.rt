@@ -13,8 +13,9 @@ fn same_interval(one: Interval, other: Interval) -> bool {
 
 // Tells whether every field of a head is zero, and each enum has its first value.
 fn is_zero(head: &Head) -> bool {
-    let settings =
-        basis_number(head.basis) | parity_number(head.parity) | strategy_number(head.strategy);
+    let settings = basis_number(head.basis)
+        | parity_number(head.parity)
+        | strategy_number(head.strategy);
     let kinds = settings | transform_number(head.transform);
     let costs = head.ct | head.pt | head.depth;
     let counts = head.degree | head.base | head.coefficients | head.lists | head.steps;
