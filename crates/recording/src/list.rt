@@ -70,12 +70,7 @@ impl Fields<'_> {
     }
 
     // Reads a list that stands in the first `count` places of a buffer of ours, which behind them is as it was before.
-    pub fn match_written<T: Element>(
-        &mut self,
-        ours: &[T],
-        count: usize,
-        before: T,
-    ) -> Option<()> {
+    pub fn match_written<T: Element>(&mut self, ours: &[T], count: usize, before: T) -> Option<()> {
         let (written, rest) = ours.split_at_checked(count)?;
         agree(are_all(rest, before))?;
         self.match_list(written)
