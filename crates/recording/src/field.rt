@@ -2,6 +2,7 @@
 ghost use Rattle.std.specs.Prelude.{◌≤◌};
 
 use crate::numeral::{digits_value, real_value, same, signed_value};
+use number::Refusal;
 
 // The fields of a line that are still to be read.
 #[derive(Clone, Copy)]
@@ -67,6 +68,14 @@ impl<'a> Fields<'a> {
     // Reads a number that is ours.
     pub fn match_number(&mut self, ours: usize) -> Option<()> {
         agree(self.count()? == ours)
+    }
+
+    // Reads our refusal by its number, or 0 where we refuse nothing.
+    pub fn match_refusal<T>(&mut self, ours: &Result<T, Refusal>) -> Option<()> {
+        match ours {
+            Ok(_) => self.match_number(0),
+            Err(refusal) => self.match_number(u8::from(*refusal) as usize),
+        }
     }
 
     // Reads decimal digits behind an optional minus, of a number that is an i64.

@@ -13,4 +13,3 @@ pub use field::{Fields, agree};
 pub use list::{Element, are_all};
 pub use numeral::same;
 pub use replaying::replay;
-pub use setting::Settings;

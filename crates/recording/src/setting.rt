@@ -1,18 +1,10 @@
 // The settings of a call, a letter each.
 use crate::field::Fields;
 use algebra::{Basis, Parity};
-use counts::SplitStrategy;
+use counts::{Settings, SplitStrategy};
 use lines::letter::{
     basis_of, fold_of, is_basis, is_fold, is_parity, is_strategy, parity_of, strategy_of,
 };
-
-// The settings that stand at the head of a call.
-#[derive(Clone, Copy)]
-pub struct Settings {
-    pub basis: Basis,
-    pub parity: Parity,
-    pub strategy: SplitStrategy,
-}
 
 impl Fields<'_> {
     // Reads M or C.
@@ -45,9 +37,9 @@ impl Fields<'_> {
         let parity = self.parity()?;
         let strategy = self.strategy()?;
         Some(Settings {
-            basis,
-            parity,
             strategy,
+            parity,
+            basis,
         })
     }
 }

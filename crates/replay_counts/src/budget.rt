@@ -19,7 +19,7 @@ pub fn largest_degree_agrees(mut fields: Fields) -> Option<()> {
     let coeff = read_up_to_greatest(&mut fields)? as usize;
     fields.word(b"=")?;
     let ours = firrozun::largest_degree(strategy, budget, input, coeff);
-    fields.match_number(ours.refusal as usize)?;
-    fields.match_number(ours.degree)?;
+    fields.match_refusal(&ours)?;
+    fields.match_number(ours.unwrap_or(0))?;
     fields.end()
 }

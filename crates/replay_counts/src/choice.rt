@@ -1,14 +1,13 @@
 // Replaying the choice of the split and the counts.
-use firrozun::SplitChoice;
+use firrozun::{Refusal, Settings};
 use recording::{Fields, agree};
 
 // Agrees if the line ends with our answer. The Rust refuses only degree 0 at MinDepth, our refusal 1.
-fn match_choice(mut fields: Fields, ours: SplitChoice) -> Option<()> {
+fn match_choice(mut fields: Fields, ours: Result<usize, Refusal>) -> Option<()> {
     if fields.refused() {
-        return agree(ours.refusal == 1 && ours.split == 0);
+        return agree(ours == Err(Refusal::DegreeZero));
     }
-    agree(ours.refusal == 0)?;
-    fields.match_number(ours.split)?;
+    fields.match_number(ours.ok()?)?;
     fields.end()
 }
 
@@ -35,9 +34,13 @@ pub fn bsgs_op_counts_agrees(mut fields: Fields) -> Option<()> {
     let parity = fields.parity()?;
     let basis = fields.basis()?;
     fields.word(b"=")?;
-    let ours = firrozun::bsgs_op_counts(strategy, parity, basis, degree);
-    agree(ours.refusal == 0)?;
-    fields.match_number(ours.ct)?;
-    fields.match_number(ours.pt)?;
+    let settings = Settings {
+        strategy,
+        parity,
+        basis,
+    };
+    let pair = firrozun::bsgs_op_counts(settings, degree).ok()?;
+    fields.match_number(pair.ct)?;
+    fields.match_number(pair.pt)?;
     fields.end()
 }

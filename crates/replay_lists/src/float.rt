@@ -1,29 +1,24 @@
 // Replaying decompositions on f64.
-use crate::head::{agree_refused, match_head};
-use firrozun::transform_number;
+use crate::head::match_head;
+use firrozun::{Refusal, Settings};
 use recording::{Fields, agree};
 
 // decompose  basis  parity  strategy  n  c..  =  degree  base  lists, then each list: n  c..
+// The Rust refuses degree 0 alone, our refusal 1.
 pub fn decompose_agrees(mut fields: Fields) -> Option<()> {
     let mut coeffs = [0.0; 4096];
     let mut out = [0.0; 4096];
     let mut bounds = [0; 4096];
-    let s = fields.settings()?;
+    let settings = fields.settings()?;
     let c = fields.list(&mut coeffs)?;
     fields.word(b"=")?;
-    let ours = firrozun::decompose_bsgs_f64(
-        s.strategy,
-        s.parity,
-        s.basis,
-        c,
-        &mut out,
-        &mut bounds,
-    );
+    let ours = firrozun::decompose_bsgs(settings, c, &mut out, &mut bounds);
     if fields.refused() {
-        return agree_refused(ours);
+        return agree(ours == Err(Refusal::DegreeZero));
     }
-    match_head(&mut fields, ours)?;
-    fields.match_lists(&out, bounds.get(..ours.lists)?)?;
+    let listing = ours.ok()?;
+    match_head(&mut fields, listing)?;
+    fields.match_lists(&out, bounds.get(..listing.lists)?)?;
     fields.end()
 }
 
@@ -34,25 +29,25 @@ pub fn decompose_folded_agrees(mut fields: Fields) -> Option<()> {
     let mut folded = [0.0; 4096];
     let mut out = [0.0; 4096];
     let mut bounds = [0; 4096];
-    let s = fields.settings()?;
+    let settings = fields.settings()?;
     let c = fields.list(&mut coeffs)?;
     fields.word(b"=")?;
-    let fold = firrozun::fold_parity_f64(s.parity, s.basis, c, &mut folded);
+    let fold = firrozun::fold_parity(settings.parity, settings.basis, c, &mut folded);
     if fields.refused() {
-        return agree(4 <= fold.refusal && fold.refusal <= 6);
+        return agree(matches!(
+            fold,
+            Err(Refusal::WrongParity | Refusal::FoldsFull | Refusal::FoldsTooLow)
+        ));
     }
-    agree(fold.refusal == 0)?;
+    let fold = fold.ok()?;
+    let settings = Settings {
+        parity: fold.parity,
+        ..settings
+    };
     let c = folded.get(..fold.count)?;
-    let ours = firrozun::decompose_bsgs_f64(
-        s.strategy,
-        fold.parity,
-        s.basis,
-        c,
-        &mut out,
-        &mut bounds,
-    );
-    match_head(&mut fields, ours)?;
-    fields.match_number(transform_number(fold.transform) as usize)?;
-    fields.match_lists(&out, bounds.get(..ours.lists)?)?;
+    let listing = firrozun::decompose_bsgs(settings, c, &mut out, &mut bounds).ok()?;
+    match_head(&mut fields, listing)?;
+    fields.match_number(u8::from(fold.transform) as usize)?;
+    fields.match_lists(&out, bounds.get(..listing.lists)?)?;
     fields.end()
 }

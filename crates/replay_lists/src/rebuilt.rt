@@ -13,7 +13,7 @@ pub fn rebuild_agrees(mut fields: Fields) -> Option<()> {
     let mut numbers = [0; PLACES];
     let mut boundaries = [0; PLACES];
     let mut out = [UNWRITTEN; PLACES];
-    let s = fields.settings()?;
+    let settings = fields.settings()?;
     let degree = fields.count()?;
     let base = fields.count()?;
     let lists = fields.list(&mut numbers)?;
@@ -21,16 +21,14 @@ pub fn rebuild_agrees(mut fields: Fields) -> Option<()> {
     let room = fields.count()?;
     fields.word(b"=")?;
     let ours = firrozun::rebuild(
-        s.strategy,
-        s.parity,
-        s.basis,
+        settings,
         degree,
         base,
         lists,
         bounds,
         out.get_mut(..room)?,
     );
-    fields.match_number(ours.refusal as usize)?;
-    fields.match_written(&out, ours.coefficients, UNWRITTEN)?;
+    fields.match_refusal(&ours)?;
+    fields.match_written(&out, ours.unwrap_or(0), UNWRITTEN)?;
     fields.end()
 }

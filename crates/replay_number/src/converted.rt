@@ -18,7 +18,7 @@ pub fn convert_coeffs_agrees(mut fields: Fields) -> Option<()> {
     let room = fields.count()?;
     fields.word(b"=")?;
     let ours = firrozun::convert_coeffs(to, c, out.get_mut(..room)?);
-    fields.match_number(ours.refusal as usize)?;
-    fields.match_written(&out, ours.count, UNWRITTEN)?;
+    fields.match_refusal(&ours)?;
+    fields.match_written(&out, ours.unwrap_or(0), UNWRITTEN)?;
     fields.end()
 }

@@ -1,5 +1,6 @@
 // Replaying interpolation.
 use crate::parity::match_parity;
+use firrozun::Refusal;
 use recording::{Fields, agree};
 
 // interpolate  a  b  n  node..  value..  =  n  c..  letter
@@ -15,10 +16,13 @@ pub fn interpolate_agrees(mut fields: Fields) -> Option<()> {
     fields.word(b"=")?;
     let ours = firrozun::chebyshev_interpolate(u, v, a, b, &mut out);
     if fields.refused() {
-        let refusal = if u.is_empty() { 8 } else { 7 };
-        return agree(ours.refusal == refusal && ours.count == 0);
+        return match ours {
+            Err(Refusal::NodesMiscounted) => agree(u.is_empty()),
+            Err(Refusal::IntervalUnordered) => agree(!u.is_empty()),
+            _ => None,
+        };
     }
-    agree(ours.refusal == 0)?;
-    fields.match_list(out.get(..ours.count)?)?;
-    match_parity(fields, ours.parity)
+    let polynomial = ours.ok()?;
+    fields.match_list(out.get(..polynomial.count)?)?;
+    match_parity(fields, polynomial.parity)
 }

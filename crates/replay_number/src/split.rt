@@ -1,16 +1,17 @@
 // Replaying index splitting.
+use firrozun::Refusal;
 use recording::{Fields, agree};
 
 // split_degree  n  =  a  b. The Rust has no distance.
 pub fn split_degree_agrees(mut fields: Fields) -> Option<()> {
     let n = fields.count()?;
     fields.word(b"=")?;
-    let parts = firrozun::split_degree(n);
+    let ours = firrozun::split_degree(n);
     if fields.refused() {
-        return agree(parts.refusal == 9 && parts.a == 0 && parts.b == 0 && parts.distance == 0);
+        return agree(ours == Err(Refusal::IndexOutOfRange));
     }
-    agree(parts.refusal == 0)?;
-    fields.match_number(parts.a)?;
-    fields.match_number(parts.b)?;
+    let split = ours.ok()?;
+    fields.match_number(split.a)?;
+    fields.match_number(split.b)?;
     fields.end()
 }

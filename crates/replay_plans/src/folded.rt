@@ -1,22 +1,27 @@
 // Replaying folded decompositions on whole coefficients: the plan call with folding has their lists.
 use crate::sizes::agree_sizes;
-use firrozun::transform_number;
+use firrozun::Refusal;
 use recording::{Fields, agree};
 
+// Tells whether the Rust has an error for a refusal: 1, 4, 5 and 6. The recording does not say which.
+fn is_error(refusal: Refusal) -> bool {
+    matches!(
+        refusal,
+        Refusal::DegreeZero | Refusal::WrongParity | Refusal::FoldsFull | Refusal::FoldsTooLow
+    )
+}
+
 // decompose_folded_whole  basis  parity  strategy  n  c..  =  degree  base  transform  lists, then each list: n  c..
-// The Rust's errors are our refusals 1, 4, 5 and 6; the recording does not say which.
 pub fn decompose_folded_agrees(mut fields: Fields) -> Option<()> {
     let mut coeffs = [0; 4096];
     let mut out = [0; 4096];
     let mut bounds = [0; 4096];
     let mut steps = [0; 4096];
-    let s = fields.settings()?;
+    let settings = fields.settings()?;
     let c = fields.list(&mut coeffs)?;
     fields.word(b"=")?;
     let ours = firrozun::plan(
-        s.strategy,
-        s.parity,
-        s.basis,
+        settings,
         true,
         c,
         -1.0,
@@ -25,15 +30,14 @@ pub fn decompose_folded_agrees(mut fields: Fields) -> Option<()> {
         &mut bounds,
         &mut steps,
     );
-    agree_sizes(s, true, c.len(), ours)?;
+    agree_sizes(settings, true, c.len(), &ours)?;
     if fields.refused() {
-        return agree(matches!(ours.refusal, 1 | 4 | 5 | 6));
+        return agree(is_error(ours.err()?));
     }
-    agree(ours.refusal == 0)?;
-    let head = ours.head;
+    let head = ours.ok()?;
     fields.match_number(head.degree)?;
     fields.match_number(head.base)?;
-    fields.match_number(transform_number(head.transform) as usize)?;
+    fields.match_number(u8::from(head.transform) as usize)?;
     fields.match_lists(&out, bounds.get(..head.lists)?)?;
     fields.end()
 }

@@ -1,16 +1,14 @@
 // Replaying the interval in the head of a plan.
-use crate::refusal::is_zero;
 use crate::sizes::agree_sizes;
-use firrozun::Planned;
+use firrozun::{Head, Refusal};
 use recording::{Fields, agree};
 
-// Agrees if the line ends with the head's bounds and change pair, bit by bit. The word of a refusal stands for 7, with zero in every field.
-fn match_interval(mut fields: Fields, ours: Planned) -> Option<()> {
+// Agrees if the line ends with the head's bounds and change pair, bit by bit. The word of a refusal stands for 7.
+fn match_interval(mut fields: Fields, ours: Result<Head, Refusal>) -> Option<()> {
     if fields.refused() {
-        return agree(ours.refusal == 7 && is_zero(ours.head));
+        return agree(matches!(ours, Err(Refusal::IntervalUnordered)));
     }
-    agree(ours.refusal == 0)?;
-    let interval = ours.head.interval;
+    let interval = ours.ok()?.interval;
     fields.match_real(interval.a)?;
     fields.match_real(interval.b)?;
     fields.match_real(interval.u)?;
@@ -24,16 +22,14 @@ pub fn plan_interval_agrees(mut fields: Fields) -> Option<()> {
     let mut out = [0; 4096];
     let mut bounds = [0; 4096];
     let mut steps = [0; 4096];
-    let s = fields.settings()?;
+    let settings = fields.settings()?;
     let fold = fields.fold()?;
     let a = fields.real()?;
     let b = fields.real()?;
     let c = fields.list(&mut coeffs)?;
     fields.word(b"=")?;
     let ours = firrozun::plan(
-        s.strategy,
-        s.parity,
-        s.basis,
+        settings,
         fold,
         c,
         a,
@@ -42,6 +38,6 @@ pub fn plan_interval_agrees(mut fields: Fields) -> Option<()> {
         &mut bounds,
         &mut steps,
     );
-    agree_sizes(s, fold, c.len(), ours)?;
+    agree_sizes(settings, fold, c.len(), &ours)?;
     match_interval(fields, ours)
 }

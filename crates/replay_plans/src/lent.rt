@@ -2,16 +2,10 @@
 use firrozun::{Head, PolynomialInputTransform, SplitStrategy, change_of_basis};
 use recording::Fields;
 
-// Returns the transform with a number in the source's order.
-fn transform_of(number: u64) -> Option<PolynomialInputTransform> {
-    match number {
-        0 => Some(PolynomialInputTransform::Identity),
-        1 => Some(PolynomialInputTransform::Square),
-        2 => Some(PolynomialInputTransform::SquareTimesInput),
-        3 => Some(PolynomialInputTransform::ChebyshevT2),
-        4 => Some(PolynomialInputTransform::ChebyshevT2TimesInput),
-        _ => None,
-    }
+// Reads a transform by its number.
+fn read_transform(fields: &mut Fields) -> Option<PolynomialInputTransform> {
+    let number = u8::try_from(fields.number()?).ok()?;
+    PolynomialInputTransform::try_from(number).ok()
 }
 
 // basis  parity  transform  coefficients  lists  steps
@@ -22,7 +16,7 @@ fn read_head(fields: &mut Fields) -> Option<Head> {
         basis,
         parity: fields.parity()?,
         strategy: SplitStrategy::MinDepth,
-        transform: transform_of(fields.number()?)?,
+        transform: read_transform(fields)?,
         degree: 0,
         base: 0,
         ct: 0,
@@ -48,7 +42,7 @@ pub fn trial_walk_agrees(mut fields: Fields) -> Option<()> {
     let steps = fields.list(&mut numbers)?;
     fields.word(b"=")?;
     let ours = firrozun::trial_walk(head, c, bounds, steps, point, modulus);
-    fields.match_number(ours.refusal as usize)?;
-    fields.match_number(ours.remainder as usize)?;
+    fields.match_refusal(&ours)?;
+    fields.match_number(ours.unwrap_or(0) as usize)?;
     fields.end()
 }

@@ -1,6 +1,6 @@
 // Replaying the values of plans: what the plan call leaves, walked, gives the remainder of the polynomial's value.
 use crate::sizes::agree_sizes;
-use recording::{Fields, agree};
+use recording::Fields;
 
 // plan_value  basis  parity  strategy  fold  point  modulus  n  c..  =  remainder
 pub fn plan_value_agrees(mut fields: Fields) -> Option<()> {
@@ -8,16 +8,14 @@ pub fn plan_value_agrees(mut fields: Fields) -> Option<()> {
     let mut out = [0; 4096];
     let mut bounds = [0; 4096];
     let mut steps = [0; 4096];
-    let s = fields.settings()?;
+    let settings = fields.settings()?;
     let fold = fields.fold()?;
     let point = fields.signed()?;
     let modulus = fields.number()?;
     let c = fields.list(&mut coeffs)?;
     fields.word(b"=")?;
     let ours = firrozun::plan(
-        s.strategy,
-        s.parity,
-        s.basis,
+        settings,
         fold,
         c,
         -1.0,
@@ -26,10 +24,8 @@ pub fn plan_value_agrees(mut fields: Fields) -> Option<()> {
         &mut bounds,
         &mut steps,
     );
-    agree(ours.refusal == 0)?;
-    agree_sizes(s, fold, c.len(), ours)?;
-    let walked = firrozun::trial_walk(ours.head, &out, &bounds, &steps, point, modulus);
-    agree(walked.refusal == 0)?;
-    fields.match_number(walked.remainder as usize)?;
+    agree_sizes(settings, fold, c.len(), &ours)?;
+    let walked = firrozun::trial_walk(ours.ok()?, &out, &bounds, &steps, point, modulus);
+    fields.match_number(walked.ok()? as usize)?;
     fields.end()
 }

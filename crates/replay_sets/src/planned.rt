@@ -1,7 +1,6 @@
 // Replaying the call that plans a set.
 use crate::asked::read_members;
-use crate::heads::{are_zero, match_heads};
-use firrozun::CurveSet;
+use crate::heads::match_heads;
 use recording::{Fields, agree, are_all};
 
 // This number stands in every place of the buffer of coefficients ahead of a call.
@@ -15,11 +14,6 @@ fn read_room(fields: &mut Fields, limit: usize) -> Option<usize> {
     let room = fields.count()?;
     agree(room <= limit)?;
     Some(room)
-}
-
-// Tells whether a refusal has zero in every field of its answer.
-fn is_zero(set: &CurveSet) -> bool {
-    (set.ct | set.pt | set.powers) == 0 && are_zero(&set.heads)
 }
 
 // Replays plan_set  room  boundaries  numbers  count  members  n  c..  =  refusal, and behind refusal 0 the set:
@@ -43,18 +37,17 @@ pub fn plan_set_agrees(mut fields: Fields) -> Option<()> {
         bounds.get_mut(..boundaries)?,
         steps.get_mut(..numbers)?,
     );
-    fields.match_number(ours.refusal as usize)?;
-    if 0 < ours.refusal {
-        fields.end()?;
-        agree(is_zero(&ours.set) && are_all(&out, WHOLE))?;
-        return agree(are_all(&bounds, NUMBER) && are_all(&steps, NUMBER));
-    }
-    fields.match_number(ours.set.ct)?;
-    fields.match_number(ours.set.pt)?;
-    fields.match_number(ours.set.powers)?;
+    fields.match_refusal(&ours)?;
+    let Ok(set) = ours else {
+        agree(are_all(&out, WHOLE) && are_all(&bounds, NUMBER) && are_all(&steps, NUMBER))?;
+        return fields.end();
+    };
+    fields.match_number(set.ct)?;
+    fields.match_number(set.pt)?;
+    fields.match_number(set.powers)?;
     fields.match_filled(&out, WHOLE)?;
     fields.match_filled(&bounds, NUMBER)?;
     fields.match_filled(&steps, NUMBER)?;
-    match_heads(&mut fields, &asked, &ours.set.heads)?;
+    match_heads(&mut fields, &asked, &set.heads)?;
     fields.end()
 }
