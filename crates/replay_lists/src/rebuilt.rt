@@ -20,14 +20,7 @@ pub fn rebuild_agrees(mut fields: Fields) -> Option<()> {
     let bounds = fields.list(&mut boundaries)?;
     let room = fields.count()?;
     fields.word(b"=")?;
-    let ours = firrozun::rebuild(
-        settings,
-        degree,
-        base,
-        lists,
-        bounds,
-        out.get_mut(..room)?,
-    );
+    let ours = firrozun::rebuild(settings, degree, base, lists, bounds, out.get_mut(..room)?);
     fields.match_refusal(&ours)?;
     fields.match_written(&out, ours.unwrap_or(0), UNWRITTEN)?;
     fields.end()

@@ -28,16 +28,7 @@ pub fn plan_interval_agrees(mut fields: Fields) -> Option<()> {
     let b = fields.real()?;
     let c = fields.list(&mut coeffs)?;
     fields.word(b"=")?;
-    let ours = firrozun::plan(
-        settings,
-        fold,
-        c,
-        a,
-        b,
-        &mut out,
-        &mut bounds,
-        &mut steps,
-    );
+    let ours = firrozun::plan(settings, fold, c, a, b, &mut out, &mut bounds, &mut steps);
     agree_sizes(settings, fold, c.len(), &ours)?;
     match_interval(fields, ours)
 }
