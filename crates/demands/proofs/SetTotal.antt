@@ -12,11 +12,11 @@ use borrow.Author.Tests.{ltb-true, lt-ltb, eqb-true, eq-eqb}
 use lib.Dec.{ltb, eqb}
 use lib.IntN.{ℤ}
 use lib.ListN.{length, replicate}
+use Rattle.std.proofs.lemmas.Bool.{or_cases, or_left, or_right}
 use Rattle.number.specs.Interval.{Ordered}
 use Rattle.number.specs.Refusal.{Test, first_refusal, Numbered}
 use Rattle.number.specs.Tests.{unordered}
 use Rattle.number.proofs.FirstRefusal.{numbered_append, first_kept, first_of_more, NumbersTo, first_most, numbers_append, refusal_of, when_refused}
-use Rattle.needed.proofs.Flags.{either, left_or, right_or}
 use Rattle.lists.specs.Lists.{joined}
 use Rattle.walk.specs.declared.plan.Head.{Head}
 use Rattle.plan.specs.Reported.{of_kind}
@@ -146,16 +146,16 @@ module _ (handed : Members) (c : List ℤ) where
       (λ (more : (ltb member_limit handed.count || ltb (length c) (handed_count (members_in handed))) ≡ true).
       ⊎_elim (λ (many : ltb member_limit handed.count ≡ true). too_many (ltb-true member_limit handed.count many))
       (λ (past : ltb (length c) (handed_count (members_in handed)) ≡ true). past_slice (ltb-true (length c) (handed_count (members_in handed)) past))
-      (either (ltb member_limit handed.count) (ltb (length c) (handed_count (members_in handed))) more))
-      (either (eqb handed.count 0) (ltb member_limit handed.count || ltb (length c) (handed_count (members_in handed))) is)
+      (or_cases (ltb member_limit handed.count) (ltb (length c) (handed_count (members_in handed))) more))
+      (or_cases (eqb handed.count 0) (ltb member_limit handed.count || ltb (length c) (handed_count (members_in handed))) is)
 
   told : BadSet handed c → bad ≡ true
-  told (no_member_lem none) = left_or (eqb handed.count 0) _ (eq-eqb handed.count 0 none)
+  told (no_member_lem none) = or_left (eqb handed.count 0) _ (eq-eqb handed.count 0 none)
   told (too_many many) =
-      right_or (eqb handed.count 0) _ (left_or (ltb member_limit handed.count) _ (lt-ltb member_limit handed.count many))
+      or_right (eqb handed.count 0) _ (or_left (ltb member_limit handed.count) _ (lt-ltb member_limit handed.count many))
   told (past_slice past) =
-      right_or (eqb handed.count 0) _
-      (right_or (ltb member_limit handed.count) _ (lt-ltb (length c) (handed_count (members_in handed)) past))
+      or_right (eqb handed.count 0) _
+      (or_right (ltb member_limit handed.count) _ (lt-ltb (length c) (handed_count (members_in handed)) past))
 
   not_bad : (BadSet handed c → ⊥) → bad ≡ false
   not_bad never = down bad (λ is. never (found is))

@@ -10,6 +10,7 @@ use lib.IntN.{ℤ}
 use lib.ListN.{length, get_or, take, drop, replicate, length-append, length-map, length-drop, length-replicate, get_or-append}
 use lib.Seq.{length-take-le, take-append_seam}
 use lib.Pow.{pow_pos}
+use Rattle.std.proofs.lemmas.Bool.{and_parts}
 use Rattle.algebra.specs.Each.{Each}
 use Rattle.algebra.specs.EnumNumbers.{basis_number}
 use Rattle.algebra.proofs.EnumNumbers.{numbers_tell_apart}
@@ -17,7 +18,6 @@ use Rattle.number.specs.Bits.{bit_len}
 use Rattle.number.specs.Interval.{change_of_basis}
 use Rattle.number.specs.Limits.{count_limit}
 use Rattle.number.proofs.Bits.{len_unique}
-use Rattle.needed.proofs.Flags.{both}
 use Rattle.lists.specs.Tree.{relists}
 use Rattle.lists.proofs.Arranging.{leaves_most}
 use Rattle.walk.specs.declared.plan.Head.{Head}
@@ -122,8 +122,8 @@ bases_by : (one : Member) (members : List Member) → alike_to one members ≡ t
 unfolding alike_to alike head_by head_of
 bases_by one [] alikes = tt
 bases_by one (member ∷ members) alikes =
-    let two = both _ _ alikes in
-    let same = eqb-true (basis_number one.basis) (basis_number member.basis) (both _ _ two.0).0 in
+    let two = and_parts _ _ alikes in
+    let same = eqb-true (basis_number one.basis) (basis_number member.basis) (and_parts _ _ two.0).0 in
     (sym (numbers_tell_apart.bases one.basis member.basis same), bases_by one members two.1)
 
 -- so all have that of the first
