@@ -51,14 +51,15 @@ pub fn plan(
         out.old bounds.old steps.old (planned_in result) out.new bounds.new steps.new }
 {
     check_input(fold, settings.parity, c)?;
+    // A bound that is a NaN is in no order either.
     if !(a < b) {
         return Err(Refusal::IntervalUnordered);
     }
     let outline = planned_outline(settings, fold, degree_of(c.len()));
-    let count = outline.coefficients;
     let interval = change_of_basis(settings.basis, a, b);
-    let head = head_of(settings, fold, interval, count - 1, outline);
+    let degree = outline.coefficients - 1;
+    let head = head_of(settings, fold, interval, degree, outline);
     check_buffers(outline.sizes(), out.len(), bounds.len(), steps.len())?;
-    fill(settings, fold, count, outline, c, out, bounds, steps);
+    fill(settings, fold, outline, c, out, bounds, steps);
     Ok(head)
 }

@@ -80,7 +80,7 @@ pub fn head_of(
     }
 }
 
-// Returns the head after a refusal: zeros, and the first value of each enum.
+// Returns the head of no plan: zeros, and the first value of each enum. It is no derived default, since an enum has none.
 pub fn no_head() -> Head
     ensures { result ≡ no_head }
 {

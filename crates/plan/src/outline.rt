@@ -58,7 +58,7 @@ impl Outline {
     }
 }
 
-// The totals of the low part of a degree from the base on.
+// Returns the totals of the low part of a degree from the base on.
 fn total_low(parity: Parity, degree: usize, split: usize) -> Totals
     requires { (2 ^ split ≤ degree) × (degree ≤ plan_limit) }
     ensures { result ≡ low_totals parity degree split }
@@ -73,7 +73,7 @@ fn total_low(parity: Parity, degree: usize, split: usize) -> Totals
     }
 }
 
-// The totals of a part of a degree, at a split.
+// Returns the totals of a part of a degree, at a split.
 #[cycle(total_lists_total_slice)]
 pub fn total_lists(
     leading: bool,
@@ -99,7 +99,7 @@ pub fn total_lists(
     }
 }
 
-// Those of a slice: of one list, or of those at the smaller split.
+// Returns those of a slice: of one list, or of those at the smaller split.
 #[cycle(total_lists_total_slice)]
 fn total_slice(leading: bool, parity: Parity, whole: usize, degree: usize, split: usize) -> Totals
     requires { Ranges whole degree split × (degree < 2 ^ split) }
@@ -116,7 +116,7 @@ fn total_slice(leading: bool, parity: Parity, whole: usize, degree: usize, split
     }
 }
 
-// How many steps: one for each power, one for each list, and a combine for each list but the first.
+// Counts the steps: one for each power, one for each list, and a combine for each list but the first.
 fn count_steps(powers: usize, lists: usize) -> usize
     requires { (powers ≤ count_limit) × Between 1 lists count_limit }
     ensures { result ≡ step_count powers lists }
@@ -125,7 +125,7 @@ fn count_steps(powers: usize, lists: usize) -> usize
     powers + lists + combines
 }
 
-// The outline of a degree.
+// Returns the outline of a degree.
 pub fn outline_of(settings: Settings, degree: usize) -> Outline
     requires { Between 1 degree plan_limit }
     ensures { result ≡ outline_for settings.strategy settings.parity settings.basis degree }
@@ -147,7 +147,7 @@ pub fn outline_of(settings: Settings, degree: usize) -> Outline
     }
 }
 
-// The outline of what is planned of a degree: with folding that of the fold.
+// Returns the outline of what is planned of a degree: with folding that of the fold.
 pub fn planned_outline(settings: Settings, fold: bool, degree: usize) -> Outline
     requires { first_refusal (settings_tests fold settings.parity degree) ≡ 0 }
     ensures { result ≡ outline_for settings.strategy (planned_parity fold settings.parity) settings.basis (degree_to_plan fold settings.parity degree) }

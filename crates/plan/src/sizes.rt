@@ -15,7 +15,7 @@ pub struct Sizes {
     pub steps: usize,
 }
 
-// Answers the sizes of every plan of a degree that is made with these settings. The plan call takes its own from the same outline.
+// Returns the sizes of every plan of a degree that is made with these settings. The plan call takes its own from the same outline.
 pub fn plan_sizes(settings: Settings, fold: bool, degree: usize) -> Result<Sizes, Refusal>
     ensures { plan_sizes_in result ≡ sizes_call settings.strategy settings.parity settings.basis fold degree }
 {

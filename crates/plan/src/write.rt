@@ -78,23 +78,22 @@ fn write_steps(settings: Settings, degree: usize, outline: Outline, steps: &mut 
     );
 }
 
-// Writes the plan of `count` coefficients to the three buffers.
+// Writes a plan that has this outline to the three buffers.
 pub fn fill(
     settings: Settings,
     fold: bool,
-    count: usize,
     outline: Outline,
     c: &[i64],
     out: &mut [i64],
     bounds: &mut [u16],
     steps: &mut [u16],
 )
-    requires { PlanFits settings.strategy settings.parity settings.basis fold count outline c.now out.old bounds.old steps.old }
+    requires { PlanFits settings.strategy settings.parity settings.basis fold outline.coefficients outline c.now out.old bounds.old steps.old }
     ensures { PlanPut settings.strategy settings.parity settings.basis fold c.now out.old bounds.old steps.old
         out.new bounds.new steps.new }
 {
-    let split = outline.split;
-    write_lists(settings, fold, count, split, 0, c, out, bounds);
+    let count = outline.coefficients;
+    write_lists(settings, fold, count, outline.split, 0, c, out, bounds);
     let planned = planned_settings(settings, fold);
     write_steps(planned, count - 1, outline, steps);
 }

@@ -52,8 +52,8 @@ pub planned_outline-outline-requires : goal.planned_outline-outline-requires
 planned_outline-outline-requires c =
     rw c.degree_of.ensures (settings_accepted c.args.fold c.args.settings.parity c.args.c.now (sym c.in_ok-check_input.ensures))
 
-pub overflow_sub-count : goal.overflow_sub-count
-overflow_sub-count c = omega (arith, (outlined (goal.at.overflow_sub-count c).After-planned_outline-outline).degrees.from)
+pub overflow_sub-degree : goal.overflow_sub-degree
+overflow_sub-degree c = omega (arith, (outlined (goal.at.overflow_sub-degree c).After-planned_outline-outline).degrees.from)
 
 pub head_of-head-requires : goal.head_of-head-requires
 head_of-head-requires c =

@@ -7,7 +7,7 @@ pub own_slicing-requires : goal.own_slicing-requires
 own_slicing-requires c = head_fits c.requires
 
 pub write_lists-requires : goal.write_lists-requires
-write_lists-requires c = lists_fit c.requires c.own_slicing.ensures.1
+write_lists-requires c = rw c.settings.ensures (lists_fit c.requires c.own_slicing.ensures.1)
 
 pub returns : goal.returns
-returns c = member_put c.requires c.write_lists.ensures
+returns c = member_put c.requires (rw c.settings.ensures at c.write_lists.ensures)
