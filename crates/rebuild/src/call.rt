@@ -36,7 +36,16 @@ fn matches_settings(
     if base != power_of_two(split) {
         return false;
     }
-    match_ends(relists(settings.strategy), degree, degree, split, 0, 0, bounds).is_some()
+    match_ends(
+        relists(settings.strategy),
+        degree,
+        degree,
+        split,
+        0,
+        0,
+        bounds,
+    )
+    .is_some()
         && degree < lists.len()
 }
 

@@ -1,14 +1,8 @@
 -- What the list calls' own functions answer one another: how n coefficients are listed, as far as numbers alone decide.
-use Rattle.std.specs.Prelude.{Bool, not, List, [], ◌∷◌, ◌++◌, ℕ, ◌-◌, ◌^◌}
-use Rattle.algebra.specs.declared.Basis.{Basis}
-use Rattle.algebra.specs.declared.Parity.{Parity}
+use Rattle.std.specs.Prelude.{Bool, not, List, [], ◌∷◌, ◌++◌, ℕ, ◌-◌}
 use Rattle.number.specs.Limits.{plan_limit}
-use Rattle.number.specs.Refusal.{Test, first_refusal, unless_refused}
+use Rattle.number.specs.Refusal.{Test, first_refusal}
 use Rattle.number.specs.Tests.{too_high, no_degree, no_room, no_boundaries}
-use Rattle.counts.specs.Choice.{split_for}
-use Rattle.counts.specs.declared.choice.SplitStrategy.{SplitStrategy}
-use Rattle.lists.specs.Tree.{plan_tree}
-use Rattle.lists.specs.Arrange.{leaves_of}
 
 -- the tests ahead of the boundaries, by whether the coefficients are small enough, for a coefficient buffer of `room` places
 abbrev pub early_tests : (n : ℕ) → (small : Bool) → (room : ℕ) → List Test

@@ -2,7 +2,7 @@
 -- coefficients are copied to the front of the buffer and listed there.
 use mathlib.Core.Path.{◌≡◌, ap₂, sym, ◌∙◌}
 use mathlib.Core.Bool.{Bool}
-use Prim.Native.Nat.{ℕ, ◌-◌, ◌≤◌}
+use Prim.Native.Nat.{ℕ, ◌-◌}
 use native.Mathlib.Omega.{arith}
 use lib.ListN.{length, take}
 use lib.Seq.{length-take-le}
@@ -85,8 +85,8 @@ list_coeffs-requires g c =
     let settings = c.args.settings in
     let passed = passes g here.In_ok-check_sizes in (
       calls.listable g.C.Coefficient.numbers settings.strategy settings.parity settings.basis c.args.c.now c.args.out.now c.args.bounds.now
-      passed.degree c.copy_from_slice.ensures.after c.relists-leading.ensures c.split_for_strategy-split.ensures
-      (omega (arith, counted g here.After-count_lists-lists, c.if-bounds-lists.false)),
+          passed.degree c.copy_from_slice.ensures.after c.relists-leading.ensures c.split_for_strategy-split.ensures
+          (omega (arith, counted g here.After-count_lists-lists, c.if-bounds-lists.false)),
       rw c.copy_from_slice.ensures.after (g.met.C.Coefficient.small_lists _ (sym c.sum_fits.ensures ∙ passed.is_small) passed.degree.to),
     )
 

@@ -2,7 +2,7 @@
 -- refusal of that one is then the call's.
 use mathlib.Core.Path.{◌≡◌, refl, ap, sym, ◌∙◌}
 use mathlib.Core.Bool.{true}
-use Prim.Native.Nat.{suc, ◌+◌, ◌≤◌}
+use Prim.Native.Nat.{◌+◌, ◌≤◌}
 use native.Mathlib.Numerals.{add-one}
 use native.Mathlib.Omega.{arith}
 use lib.ListN.{length, take}
@@ -11,8 +11,7 @@ use Rattle.number.specs.Limits.{plan_limit}
 use Rattle.number.specs.inside.Between.{Between}
 use Rattle.number.proofs.Refused.{refused}
 use Rattle.counts.proofs.ChoiceLaws.{split_range}
-use Rattle.rebuild.specs.RebuildCall.{matches_settings, coefficients_from}
-use Rattle.rebuild.specs.inside.Rebuilding.{Written}
+use Rattle.rebuild.specs.RebuildCall.{matches_settings}
 use Rattle.rebuild.proofs.RebuildTests as tests
 use Rattle.rebuild.proofs.call.rebuild.Goals as goal
 use Rattle.rebuild.proofs.call.rebuild.Goals.{Else-degree-eq0, Else-not-matches_settings}
