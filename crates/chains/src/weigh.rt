@@ -6,7 +6,6 @@ ghost use Rattle.chains.specs.ZeroChain.{no_coefficients, no_bounds, no_steps, z
 use crate::letters::Letters;
 use answers::{LIST_ROOM, STEP_ROOM};
 use firrozun::{bsgs_consumed_bits, heaviest_chain, plan};
-use lines::letter::{basis_of, parity_of, strategy_of};
 
 // The scales.
 const INPUT: usize = 30;
@@ -42,9 +41,9 @@ pub fn weigh_zeros(letters: Letters, degree: usize) -> u64
     let mut bounds = no_bounds();
     let mut steps = no_steps();
     let planned = plan(
-        strategy_of(letters.strategy),
-        parity_of(letters.parity),
-        basis_of(letters.basis),
+        letters.said_strategy(),
+        letters.said_parity(),
+        letters.said_basis(),
         false,
         &curve[..degree + 1],
         -1.0,
@@ -62,6 +61,6 @@ pub fn weigh_zeros(letters: Letters, degree: usize) -> u64
 pub fn closed_bits(letters: Letters, degree: usize) -> u64
     ensures { result ≡ (closed_bits letters degree).bits }
 {
-    let consumed = bsgs_consumed_bits(strategy_of(letters.strategy), degree, INPUT, COEFF);
+    let consumed = bsgs_consumed_bits(letters.said_strategy(), degree, INPUT, COEFF);
     consumed.bits as u64
 }

@@ -6,7 +6,7 @@ ghost use Rattle.answers.specs.TakeTurn.{TurnRoom};
 ghost use Rattle.planlines.specs.AnswerBlock.{AnswerBlock};
 
 use crate::stream::write_text;
-use answers::take_turn;
+use answers::{Buffers, take_turn};
 use std::io::{Eprint, Write};
 
 // How many bytes of an unended line are held, and whether all texts were written.
@@ -23,13 +23,10 @@ pub fn answer_block<W: Write>(
     block: &[u8],
     line: &mut [u8],
     held: usize,
-    coefficients: &mut [i64],
-    planned: &mut [i64],
-    bounds: &mut [u16],
-    steps: &mut [u16],
+    buffers: &mut Buffers,
     out: &mut [u8],
 ) -> Answered
-    requires { TurnRoom line.old held coefficients.old planned.old bounds.old steps.old out.old }
+    requires { TurnRoom line.old held out.old }
     ensures held { AnswerBlock block.now line.old held line.new result }
     ensures written { result.written ≡ true → Appends (W.contents output.old) (W.contents output.new)
         (turn_text (take held line.old) block.now) }
@@ -38,17 +35,7 @@ pub fn answer_block<W: Write>(
     let mut kept = held;
     let mut written = true;
     while written && at < block.len() {
-        let turn = take_turn(
-            block,
-            at,
-            line,
-            kept,
-            coefficients,
-            planned,
-            bounds,
-            steps,
-            out,
-        );
+        let turn = take_turn(block, at, line, kept, buffers, out);
         let text = turn.text;
         written = write_text(rt, output, &out[..text]);
         at = turn.read;

@@ -2,4 +2,4 @@
 use Rattle.chains.proofs.weigh.closed_bits.Goals as goal
 
 pub returns : goal.returns
-returns c = rw (c.bsgs_consumed_bits-consumed.ensures, c.strategy_of.ensures)
+returns c = rw (c.bsgs_consumed_bits-consumed.ensures, c.said_strategy.ensures)

@@ -12,14 +12,10 @@ loop-written-init g c =
     let a = c.args in
     record {
       within = omega arith;
-      line_held = held_start a.block.now a.line.now a.held c.requires.line_room_lem;
+      line_held = held_start a.block.now a.line.now a.held c.requires.line_size;
       told = λ _. part_none _ (take a.held a.line.now) a.block.now;
       kept_within = c.requires.held_within;
       line_long = refl;
-      coefficients_long = refl;
-      planned_long = refl;
-      bounds_long = refl;
-      steps_long = refl;
       out_long = refl;
     }
 
@@ -44,9 +40,5 @@ loop-written-preserved g c =
           (take turn.result.text turn.new.out) text_is (c.write_text-written.ensures written);
       kept_within = omega (arith, turn.ensures.held_within, turn.auto.line);
       line_long = turn.auto.line ∙ inv.line_long;
-      coefficients_long = turn.auto.coefficients ∙ inv.coefficients_long;
-      planned_long = turn.auto.planned ∙ inv.planned_long;
-      bounds_long = turn.auto.bounds ∙ inv.bounds_long;
-      steps_long = turn.auto.steps ∙ inv.steps_long;
       out_long = turn.auto.out ∙ inv.out_long;
     }

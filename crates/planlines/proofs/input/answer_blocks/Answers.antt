@@ -16,10 +16,6 @@ loop-init g c = record {
   told = told_none _ _ c.args.line.now;
   block_long = refl;
   line_long = refl;
-  coefficients_long = refl;
-  planned_long = refl;
-  bounds_long = refl;
-  steps_long = refl;
   out_long = refl;
 }
 
@@ -32,21 +28,13 @@ loop-preserved g c =
     let written = not-false _ c.if-not-answered.false in
     record {
       room = record {
-        line_room_lem = kept.line ∙ room.line_room_lem;
+        line_size = kept.line ∙ room.line_size;
         held_within = omega (arith, answered.ensures.held.within, kept.line);
-        coefficient_room_lem = omega (arith, kept.coefficients, room.coefficient_room_lem);
-        planned_room = omega (arith, kept.planned, room.planned_room);
-        boundary_room = omega (arith, kept.bounds, room.boundary_room);
-        step_room_lem = omega (arith, kept.steps, room.step_room_lem);
-        text_room_lem = kept.out ∙ room.text_room_lem;
+        text_size = kept.out ∙ room.text_size;
       };
       told = told_more inv.told (take c.in-Bytes.count c.read_block-read.new.block) c.in-Bytes.ensures.from (answered.ensures.written written)
           (answered.ensures.held.line_held written);
       block_long = c.read_block-read.auto.block ∙ inv.block_long;
       line_long = kept.line ∙ inv.line_long;
-      coefficients_long = kept.coefficients ∙ inv.coefficients_long;
-      planned_long = kept.planned ∙ inv.planned_long;
-      bounds_long = kept.bounds ∙ inv.bounds_long;
-      steps_long = kept.steps ∙ inv.steps_long;
       out_long = kept.out ∙ inv.out_long;
     }
