@@ -10,7 +10,8 @@ use lib.IntN.{ℤ}
 use lib.ListN.{length, get_or, drop, length-map, length-drop}
 use lib.Seq.{sets, get_or-drop, drop-drop}
 use Rattle.std.proofs.Common.{Option, Some, None}
-use Rattle.std.specs.Option.{unwrap_or}
+use Rattle.std.specs.Option.{ok_or}
+use Rattle.number.specs.declared.refusal.Refusal.TheVariants.{LineMalformed}
 use Rattle.algebra.specs.declared.Basis.TheVariants.{Monomial}
 use Rattle.algebra.specs.declared.Parity.TheVariants.{Full}
 use Rattle.counts.specs.declared.choice.SplitStrategy.TheVariants.{MinDepth}
@@ -22,7 +23,7 @@ use Rattle.lines.specs.Fields.{first, front, fields}
 use Rattle.lines.specs.Whole.{is_whole, value_of}
 use Rattle.lines.specs.Letters.{Letters, bases, parities, strategies, folds, is_letter, says}
 use Rattle.lines.specs.Line.{only_byte, letter_at, number_fields, are_settings, are_whole, is_line, basis_in, parity_in, strategy_in, fold_in, coefficients_in}
-use Rattle.lines.specs.ReadLine.{line_refusal, no_line, line_answer, line_buffer, ReadLine}
+use Rattle.lines.specs.ReadLine.{line_refusal, line_in, line_answer, line_buffer, ReadLine}
 use Rattle.lines.specs.inside.Reading.{bind, said, said_in, opening_of, counted, InForm, OutOfForm, ReadForm}
 use Rattle.lines.specs.declared.read.Opening.{Opening}
 use Rattle.lines.specs.declared.read.Line.{Line}
@@ -47,7 +48,10 @@ tested make true false v w a b c d = refl
 tested make false u v w a b c d = refl
 
 abbrev opening_by : (basis parity strategy fold : ℕ) → Opening
-opening_by b p s f = record { basis = says Monomial bases b; parity = says Full parities p; strategy = says MinDepth strategies s; fold = says false folds f }
+opening_by b p s f = record {
+  settings = record { strategy = says MinDepth strategies s; parity = says Full parities p; basis = says Monomial bases b };
+  fold = says false folds f;
+}
 
 -- field n, behind n others
 at_zero : (fs : List (List ℕ)) → first fs ≡ get_or fs 0 []
@@ -76,7 +80,7 @@ opening_is line =
       said_by MinDepth strategies refl (get_or fs 2 []),
       said_by false folds refl (get_or fs 3 []),
     )
-    (tested (λ b p s f. record { basis = b; parity = p; strategy = s; fold = f }) _ _ _ _ _ _ _ _)
+    (tested (λ b p s f. record { settings = record { strategy = s; parity = p; basis = b }; fold = f }) _ _ _ _ _ _ _ _)
 
 -- what a test answered
 none_given : {X : Type 0} (t : Bool) (x : X) → cond t (Some x) None ≡ None → t ≡ false
@@ -145,7 +149,7 @@ module _ (line : List ℕ) (buffer : List ℤ) where
 
       pub read : {count : ℕ} {buffer' : List ℤ} → counted (number_fields line) ≡ Some count → buffer' ≡ sets buffer 0 (map value_of (number_fields line))
           → InForm line buffer
-          (record { refusal = 0; basis = o.basis; parity = o.parity; strategy = o.strategy; fold = o.fold; count = count }) buffer'
+          (record { settings = o.settings; fold = o.fold; count = count }) buffer'
       unfolding line_refusal line_answer line_buffer unless_refused basis_in parity_in strategy_in fold_in coefficients_in
       read {count} {buffer'} some written =
           let settings = some_given _ _ _ (sym (opening_is line) ∙ opened) in
@@ -160,7 +164,7 @@ module _ (line : List ℕ) (buffer : List ℤ) where
 -- ---- the answer
 
 pub read_or_refused : {line : List ℕ} {buffer buffer' : List ℤ} (r : Option Line) → ReadForm line buffer r buffer'
-    → ReadLine line buffer (unwrap_or r (no_line 12)) buffer'
+    → ReadLine line buffer (line_in (ok_or r LineMalformed)) buffer'
 unfolding line_refusal line_answer line_buffer unless_refused
 read_or_refused None out = record { answer = rw out.form refl; coefficients = out.same ∙ rw out.form refl }
 read_or_refused (Some r) in_form = record { answer = in_form.answer; coefficients = in_form.coefficients }

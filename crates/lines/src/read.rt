@@ -3,7 +3,7 @@ ghost use Rattle.std.specs.Prelude.{◌≡◌, ◌≤◌, true, IfSome, map, len
 ghost use Rattle.std.proofs.lemmas.List.Edits.{sets};
 ghost use Rattle.lines.specs.Line.{are_whole};
 ghost use Rattle.lines.specs.Whole.{value_of};
-ghost use Rattle.lines.specs.ReadLine.{ReadLine};
+ghost use Rattle.lines.specs.ReadLine.{line_in, ReadLine};
 ghost use Rattle.lines.specs.inside.FieldsLeft.{fields_left};
 ghost use Rattle.lines.specs.inside.Reading.{opening_of, ReadForm, counted};
 
@@ -12,25 +12,20 @@ use crate::field::Fields;
 use crate::letter::{basis_of, fold_of, parity_of, strategy_of};
 use crate::limits::LINE_LIMIT;
 use crate::whole::{is_whole, value_of};
-use algebra::{Basis, Parity};
-use counts::SplitStrategy;
+use counts::Settings;
+use number::Refusal;
 
-// What a line's letters say.
+// What a line's letters say: the settings, and whether to fold.
 #[derive(Clone, Copy)]
 pub struct Opening {
-    pub basis: Basis,
-    pub parity: Parity,
-    pub strategy: SplitStrategy,
+    pub settings: Settings,
     pub fold: bool,
 }
 
-// What a line says: 0 or the refusal, the settings, and the number of coefficients.
+// What a line says: the settings, whether to fold, and how many coefficients there are.
 #[derive(Clone, Copy)]
 pub struct Line {
-    pub refusal: u8,
-    pub basis: Basis,
-    pub parity: Parity,
-    pub strategy: SplitStrategy,
+    pub settings: Settings,
     pub fold: bool,
     pub count: usize,
 }
@@ -44,12 +39,12 @@ fn take_opening(fields: &mut Fields) -> Option<Opening>
     let parity = parity_of(fields.letter()?)?;
     let strategy = strategy_of(fields.letter()?)?;
     let fold = fold_of(fields.letter()?)?;
-    Some(Opening {
-        basis,
-        parity,
+    let settings = Settings {
         strategy,
-        fold,
-    })
+        parity,
+        basis,
+    };
+    Some(Opening { settings, fold })
 }
 
 // How many fields there are, if every one of them is a whole number.
@@ -92,28 +87,16 @@ fn read_form(line: &[u8], coefficients: &mut [i64]) -> Option<Line>
     let count = count_whole(fields)?;
     fill_values(fields, coefficients);
     Some(Line {
-        refusal: 0,
-        basis: opening.basis,
-        parity: opening.parity,
-        strategy: opening.strategy,
+        settings: opening.settings,
         fold: opening.fold,
         count,
     })
 }
 
-// The answer to a line that doesn't have the form.
-const NO_LINE: Line = Line {
-    refusal: 12,
-    basis: Basis::Monomial,
-    parity: Parity::Full,
-    strategy: SplitStrategy::MinDepth,
-    fold: false,
-    count: 0,
-};
-
-// Reads a line: its settings, how many coefficients it has, and the coefficients, as many as the buffer holds; or refusal 12.
-pub fn read_line(line: &[u8], coefficients: &mut [i64]) -> Line
-    ensures { ReadLine line.now coefficients.old result coefficients.new }
+// Reads a line: its settings, how many coefficients it has, and the coefficients, as many as the buffer holds. A line that doesn't have the form is refused,
+// and leaves the buffer as it was.
+pub fn read_line(line: &[u8], coefficients: &mut [i64]) -> Result<Line, Refusal>
+    ensures { ReadLine line.now coefficients.old (line_in result) coefficients.new }
 {
-    read_form(line, coefficients).unwrap_or(NO_LINE)
+    read_form(line, coefficients).ok_or(Refusal::LineMalformed)
 }

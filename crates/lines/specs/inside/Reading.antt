@@ -1,12 +1,12 @@
 -- What the functions that read a line ask of one another.
-use Rattle.std.specs.Prelude.{◌≡◌, true, false, cond, List, ℕ, ℤ, length, drop, Option, Some, None, MatchOption}
+use Rattle.std.specs.Prelude.{◌≡◌, true, false, cond, List, ℕ, ℤ, length, drop, Ok, Option, Some, None, MatchOption}
 use Rattle.algebra.specs.declared.Basis.TheVariants.{Monomial}
 use Rattle.algebra.specs.declared.Parity.TheVariants.{Full}
 use Rattle.counts.specs.declared.choice.SplitStrategy.TheVariants.{MinDepth}
 use Rattle.lines.specs.Letters.{Letters, bases, parities, strategies, folds, is_letter, says}
 use Rattle.lines.specs.Fields.{first}
 use Rattle.lines.specs.Line.{are_whole, is_line}
-use Rattle.lines.specs.ReadLine.{line_answer, line_buffer}
+use Rattle.lines.specs.ReadLine.{line_in, line_answer, line_buffer}
 use Rattle.lines.specs.inside.FieldsLeft.{letter_in}
 use Rattle.lines.specs.declared.read.Opening.{Opening}
 use Rattle.lines.specs.declared.read.Line.{Line}
@@ -31,7 +31,7 @@ opening_of fs =
     bind (said_in Full parities (first (drop 1 fs))) (λ parity.
     bind (said_in MinDepth strategies (first (drop 1 (drop 1 fs)))) (λ strategy.
     bind (said_in false folds (first (drop 1 (drop 1 (drop 1 fs))))) (λ fold.
-    Some (record { basis = basis; parity = parity; strategy = strategy; fold = fold })))))
+    Some (record { settings = record { strategy = strategy; parity = parity; basis = basis }; fold = fold })))))
 
 -- how many fields there are, if all are whole numbers
 abbrev pub counted : List (List ℕ) → Option ℕ
@@ -40,7 +40,7 @@ counted fs = cond (are_whole fs) (Some (length fs)) None
 -- a line in the form, and the coefficients in the buffer; no other line is read, and the buffer is as it was
 pub record InForm (line : List ℕ) (buffer : List ℤ) (r : Line) (buffer' : List ℤ) : Type 0 where
   pub form : is_line line ≡ true
-  pub answer : r ≡ line_answer line
+  pub answer : line_in (Ok r) ≡ line_answer line
   pub coefficients : buffer' ≡ line_buffer line buffer
 
 pub record OutOfForm (line : List ℕ) (buffer buffer' : List ℤ) : Type 0 where
