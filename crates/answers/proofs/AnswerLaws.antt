@@ -20,8 +20,7 @@ use Rattle.lists.specs.Lists.{joined}
 use Rattle.plan.specs.PlanCall.{input_tests, Accepted, early_tests, head_for, plan_refusal, plan_answer, PlanCall, Planned}
 use Rattle.plan.proofs.PlanTests.{early_kept}
 use Rattle.lines.specs.Line.{is_line, basis_in, parity_in, strategy_in, fold_in, coefficients_in}
-use Rattle.lines.specs.ReadLine.{line_refusal, line_answer, line_buffer, ReadLine}
-use Rattle.lines.specs.declared.read.Line.{Line}
+use Rattle.lines.specs.ReadLine.{Line, line_refusal, line_answer, line_buffer, ReadLine}
 use Rattle.lines.proofs.BufferHolds.{buffers_hold}
 use Rattle.texts.specs.Text.{refusal_line}
 use Rattle.texts.specs.PlanText.{lines_of, plan_text}

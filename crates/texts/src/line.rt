@@ -2,12 +2,13 @@
 ghost use Rattle.std.specs.Prelude.{◌≡◌, [], ◌-◌, ◌/◌, ◌<◌, ◌^◌, length, get_or, take, drop};
 ghost use Rattle.walk.specs.Boundaries.{start_of, part_of};
 ghost use Rattle.walk.specs.Lent.{step_at};
+ghost use Rattle.number.specs.Refused.{refusal_number};
 ghost use Rattle.texts.specs.Text.{list_line, refusal_line};
 ghost use Rattle.texts.specs.PlanText.{head_line, step_line, lines_of, lists_in, shown_steps};
 ghost use Rattle.texts.specs.Put.{Put};
 
 use crate::fields::{put_list_line, put_numbers_line};
-use number::transform_number;
+use number::Refusal;
 use walk::Head;
 
 // Puts the line of the head, and returns the place behind it.
@@ -15,12 +16,10 @@ fn put_head(out: &mut [u8], at: usize, head: Head) -> usize
     requires { at < 2 ^ 63 }
     ensures { Put out.old at (head_line head) out.new result }
 {
-    let transform = head.transform;
-    let number = transform_number(transform);
     let ns: [u64; 6] = [
         head.degree as u64,
         head.base as u64,
-        number as u64,
+        u64::from(u8::from(head.transform)),
         head.ct as u64,
         head.pt as u64,
         head.depth as u64,
@@ -29,11 +28,11 @@ fn put_head(out: &mut [u8], at: usize, head: Head) -> usize
 }
 
 // Puts the line of a refusal, and returns the place behind it.
-pub fn put_refusal(refusal: u8, at: usize, out: &mut [u8]) -> usize
+pub fn put_refusal(refusal: Refusal, at: usize, out: &mut [u8]) -> usize
     requires { at < 2 ^ 63 }
-    ensures { Put out.old at (refusal_line refusal) out.new result }
+    ensures { Put out.old at (refusal_line (refusal_number refusal)) out.new result }
 {
-    let ns = [u64::from(refusal)];
+    let ns = [u64::from(u8::from(refusal))];
     put_numbers_line(out, at, b'R', &ns)
 }
 

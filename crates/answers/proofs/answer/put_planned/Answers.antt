@@ -3,18 +3,19 @@
 -- text of what they hold is the plan's.
 use Rattle.std.proofs.Common.{arith}
 use lib.Ieee.{of_bits}
+use Rattle.number.proofs.Refused.{refused}
 use Rattle.texts.proofs.PutLaws.{put_same}
 use Rattle.answers.specs.inside.Rooms.{PlanRoom}
 use Rattle.answers.proofs.AnswerLaws.{refused_text, planned_text, planned_ends}
 use Rattle.answers.proofs.answer.put_planned.Goals as goal
 
-pub returns-then-refusal-gt0 : goal.returns-then-refusal-gt0
+pub returns-in-Err : goal.returns-in-Err
 unfolding of_bits
-returns-then-refusal-gt0 c =
+returns-in-Err c =
     let old = c.args.buffers.now in
     let room : PlanRoom old.coefficients old.bounds old.steps c.args.at =
     record { coefficients_long = grind arith; bounds_long = grind arith; steps_long = grind arith; place = c.requires } in
-    put_same c.put_refusal.ensures (refused_text _ _ _ _ _ room c.plan-made.ensures c.if-refusal-gt0.true)
+    put_same c.put_refusal.ensures (refused_text _ _ _ _ _ room c.in-Err.ensures (refused c.in-Err.refusal))
 
 pub put_plan-requires : goal.put_plan-requires
 unfolding of_bits
@@ -22,12 +23,12 @@ put_plan-requires c =
     let old = c.args.buffers.now in
     let room : PlanRoom old.coefficients old.bounds old.steps c.args.at =
     record { coefficients_long = grind arith; bounds_long = grind arith; steps_long = grind arith; place = c.requires } in
-    planned_ends _ _ _ _ _ room c.plan-made.ensures c.if-refusal-gt0.false
+    planned_ends _ _ _ _ _ room c.in-Ok.ensures (omega arith)
 
-pub returns : goal.returns
+pub returns-in-Ok : goal.returns-in-Ok
 unfolding of_bits
-returns c =
+returns-in-Ok c =
     let old = c.args.buffers.now in
     let room : PlanRoom old.coefficients old.bounds old.steps c.args.at =
     record { coefficients_long = grind arith; bounds_long = grind arith; steps_long = grind arith; place = c.requires } in
-    put_same c.put_plan.ensures (planned_text _ _ _ _ _ room c.plan-made.ensures c.if-refusal-gt0.false)
+    put_same c.put_plan.ensures (planned_text _ _ _ _ _ room c.in-Ok.ensures (omega arith))
