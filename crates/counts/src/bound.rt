@@ -21,10 +21,10 @@ fn allowed_from_two(parity: Parity, degree: usize) -> usize
 
 // Returns no more ct-ct multiplications than the split takes: as many combines as the base goes into the degree, the allowed powers in the slices, and
 // the powers of two from the base on. One of these may be plain at a power of two.
-pub fn fewest_ct(parity: Parity, at: Slicing) -> usize
-    ensures { Fewest parity at.degree at.split result }
+pub fn fewest_ct(parity: Parity, slicing: Slicing) -> usize
+    ensures { Fewest parity slicing.degree slicing.split result }
 {
-    let Slicing { degree, split, .. } = at;
+    let Slicing { degree, split, .. } = slicing;
     let base = power_of_two(split);
     if degree < base {
         return allowed_from_two(parity, degree);

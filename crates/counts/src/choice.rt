@@ -31,7 +31,8 @@ pub struct Best {
     pub split: usize,
 }
 
-// Returns MinDepth's split at a bit length, a case for each from 1 to 32. No accepted degree has another.
+// Returns MinDepth's split at a bit length. The cases are listed, one for each length from 1 to 32, so that they can be read off; no accepted degree
+// has another.
 #[tactic(auto, unfolding(crate::specs::MinDepth::min_depth))]
 fn min_depth(bits: usize) -> usize
     requires { Between 1 bits 32 }
@@ -75,15 +76,15 @@ fn min_depth(bits: usize) -> usize
 }
 
 // Returns the better of the best so far and another split, which is passed over if it takes more ct-ct multiplications than the best.
-fn better_at(parity: Parity, basis: Basis, best: Best, at: Slicing) -> Best
-    requires { best.pair ≡ pair_at parity basis at.degree best.split }
-    ensures { BetterOf best (with_pair (pair_at parity basis at.degree) at.split) result }
+fn better_at(parity: Parity, basis: Basis, best: Best, slicing: Slicing) -> Best
+    requires { best.pair ≡ pair_at parity basis slicing.degree best.split }
+    ensures { BetterOf best (with_pair (pair_at parity basis slicing.degree) slicing.split) result }
 {
-    if at.split == best.split || best.pair.ct < fewest_ct(parity, at) {
+    if slicing.split == best.split || best.pair.ct < fewest_ct(parity, slicing) {
         return best;
     }
-    let pair = estimate_op_counts(parity, basis, at);
-    let split = at.split;
+    let pair = estimate_op_counts(parity, basis, slicing);
+    let split = slicing.split;
     best.min(Best { pair, split })
 }
 
@@ -102,12 +103,12 @@ fn best_split(parity: Parity, basis: Basis, degree: usize, bits: usize) -> Best
     ensures { Smallest (pair_at parity basis degree) bits result.split }
 {
     let likely = min_depth(bits);
-    let at = Slicing {
+    let slicing = Slicing {
         degree,
         split: likely,
     };
     let mut best = Best {
-        pair: estimate_op_counts(parity, basis, at),
+        pair: estimate_op_counts(parity, basis, slicing),
         split: likely,
     };
     for split in 1..=bits {
@@ -178,6 +179,6 @@ pub fn bsgs_op_counts(settings: Settings, degree: usize) -> Result<Pair, Refusal
         return Ok(Pair { ct: 0, pt: 0 });
     }
     let split = split_for_strategy(settings, degree);
-    let at = Slicing { degree, split };
-    Ok(estimate_op_counts(settings.parity, settings.basis, at))
+    let slicing = Slicing { degree, split };
+    Ok(estimate_op_counts(settings.parity, settings.basis, slicing))
 }

@@ -26,13 +26,13 @@ fn last_is_plain(degree: usize, slices: usize, last: usize) -> bool
 }
 
 // Returns the pair at a split.
-pub fn estimate_op_counts(parity: Parity, basis: Basis, at: Slicing) -> Pair
-    ensures { result ≡ pair_at parity basis at.degree at.split }
+pub fn estimate_op_counts(parity: Parity, basis: Basis, slicing: Slicing) -> Pair
+    ensures { result ≡ pair_at parity basis slicing.degree slicing.split }
 {
-    let tally = count_slices(parity, at.degree, at.split);
-    let powers = at.count_needed(parity, basis);
+    let tally = count_slices(parity, slicing.degree, slicing.split);
+    let powers = slicing.count_needed(parity, basis);
     let ct = tally.slices - 1 + powers;
-    if last_is_plain(at.degree, tally.slices, tally.last) {
+    if last_is_plain(slicing.degree, tally.slices, tally.last) {
         Pair {
             ct: ct - 1,
             pt: tally.pt + 1,

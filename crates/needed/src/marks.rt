@@ -3,13 +3,13 @@ ghost use Rattle.std.specs.Prelude.{◌≡◌, ◌<◌, ◌≤◌, ◌+◌, fals
 ghost use Rattle.number.specs.Limits.{count_limit};
 ghost use Rattle.needed.specs.Needed.{baby_limit};
 ghost use Rattle.needed.specs.NeededList.{is_target, needed_count};
-ghost use Rattle.needed.specs.inside.Marks.{padded, places, mark_at, mark_parts, sweep_from, count_marks, greatest_target, needed_marks};
+ghost use Rattle.needed.specs.inside.Marks.{padded, mark_at, mark_parts, sweep_from, count_marks, greatest_target, target_marks, needed_marks};
 
 use super::slicing::Slicing;
 use algebra::{Basis, Parity};
 use number::{PLAN_LIMIT, bit_len, is_allowed, parts_of, power_of_two, top_power};
 
-// A mark for each power from 0 to the greatest degree.
+// A mark for each power from 0 to the greatest degree. The marks are one array of this length, by value, since no memory is allocated.
 pub const MARKS: usize = PLAN_LIMIT + 1;
 
 // Says whether power n is needed at once: the top power, or an allowed power from 3 below the limit.
@@ -18,16 +18,6 @@ pub fn is_target(parity: Parity, top: usize, limit: usize, n: usize) -> bool
     ensures { result ≡ is_target parity top limit n }
 {
     (n == top && 2 <= n) || (3 <= n && n < limit && is_allowed(parity, n))
-}
-
-// Marks the powers that are needed at once, none of them above the last.
-fn mark_targets(parity: Parity, top: usize, limit: usize, last: usize, marks: &mut [bool; MARKS])
-    requires { (last < count_limit) × (marks.old ≡ replicate count_limit false) }
-    ensures { marks.new ≡ padded count_limit (places (is_target parity top limit) 0 (last + 1)) }
-{
-    for n in 0..=last {
-        marks[n] = is_target(parity, top, limit, n);
-    }
 }
 
 // Marks n, if it is above 1.
@@ -91,20 +81,25 @@ impl Slicing {
         top_power(self.degree).max(self.baby_limit() - 1)
     }
 
+    // Marks the powers that are needed at once.
+    fn mark_targets(self, parity: Parity, marks: &mut [bool; MARKS])
+        requires { marks.old ≡ replicate count_limit false }
+        ensures { marks.new ≡ padded count_limit (target_marks parity self.degree self.split) }
+    {
+        let top = top_power(self.degree);
+        let limit = self.baby_limit();
+        for n in 0..=self.greatest_target() {
+            marks[n] = is_target(parity, top, limit, n);
+        }
+    }
+
     // Returns the marks of all needed powers.
     pub fn needed_marks(self, parity: Parity, basis: Basis) -> [bool; MARKS]
         ensures { result ≡ padded count_limit (needed_marks parity basis self.degree self.split) }
     {
-        let last = self.greatest_target();
         let mut marks = [false; MARKS];
-        mark_targets(
-            parity,
-            top_power(self.degree),
-            self.baby_limit(),
-            last,
-            &mut marks,
-        );
-        sweep(basis, last, &mut marks);
+        self.mark_targets(parity, &mut marks);
+        sweep(basis, self.greatest_target(), &mut marks);
         marks
     }
 

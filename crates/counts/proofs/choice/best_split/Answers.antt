@@ -16,9 +16,9 @@ module _ (c : After-min_depth-likely) where
       let range = depth_range c.args.bits c.requires.1.from in
       rw c.min_depth-likely.ensures range
 
-pub invariant_of-at : goal.invariant_of-at
-invariant_of-at c =
-    let likely = likely_range (goal.at.invariant_of-at c).After-min_depth-likely in
+pub invariant_of-slicing : goal.invariant_of-slicing
+invariant_of-slicing c =
+    let likely = likely_range (goal.at.invariant_of-slicing c).After-min_depth-likely in
     record { planned = record { degrees = c.requires.0; splits = record { from = likely.from; to = omega (arith, c.requires.1.to) } } }
 
 pub loop-split-init : goal.loop-split-init

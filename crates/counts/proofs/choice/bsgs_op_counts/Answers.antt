@@ -14,8 +14,8 @@ pub returns-then-degree-eq0 : goal.returns-then-degree-eq0
 unfolding counts_call counts_of unless_refused
 returns-then-degree-eq0 c = rw (le-ltb _ _ c.if-degree-gt-PLAN_LIMIT.false, c.if-degree-eq0.true)
 
-pub invariant_of-at : goal.invariant_of-at
-invariant_of-at c =
+pub invariant_of-slicing : goal.invariant_of-slicing
+invariant_of-slicing c =
     let settings = c.args.settings in
     let degrees : Between 1 c.args.degree plan_limit = record { from = omega (arith, c.if-degree-eq0.false); to = c.if-degree-gt-PLAN_LIMIT.false } in
     let splits = split_range settings.strategy settings.parity settings.basis c.args.degree degrees in

@@ -14,9 +14,9 @@ overflow_sub-ct c =
 pub overflow_add-ct : goal.overflow_add-ct
 overflow_add-ct c =
     let args = c.args in
-    let powers = count_needed_small args.parity args.basis args.at.degree args.at.split args.at.planned.degrees in
+    let powers = count_needed_small args.parity args.basis args.slicing.degree args.slicing.split args.slicing.planned.degrees in
     let range = tally_range _ _ _ c.count_slices-tally.ensures in
-    omega (arith, c.count_needed-powers.ensures, args.at.planned.degrees.to)
+    omega (arith, c.count_needed-powers.ensures, args.slicing.planned.degrees.to)
 
 pub overflow_sub-result : goal.overflow_sub-result
 overflow_sub-result c =
@@ -25,18 +25,18 @@ overflow_sub-result c =
 
 pub overflow_add-result : goal.overflow_add-result
 overflow_add-result c =
-    omega (arith, tally_range _ _ _ c.count_slices-tally.ensures, c.args.at.planned.degrees.to)
+    omega (arith, tally_range _ _ _ c.count_slices-tally.ensures, c.args.slicing.planned.degrees.to)
 
 pub returns-then-last_is_plain : goal.returns-then-last_is_plain
 returns-then-last_is_plain c =
     let args = c.args in
-    pair_plain args.parity args.basis args.at.degree args.at.split
+    pair_plain args.parity args.basis args.slicing.degree args.slicing.split
     c.count_slices-tally.ensures c.count_needed-powers.ensures c.last_is_plain.ensures
     c.if-last_is_plain.true
 
 pub returns-else-last_is_plain : goal.returns-else-last_is_plain
 returns-else-last_is_plain c =
     let args = c.args in
-    pair_whole args.parity args.basis args.at.degree args.at.split
+    pair_whole args.parity args.basis args.slicing.degree args.slicing.split
     c.count_slices-tally.ensures c.count_needed-powers.ensures c.last_is_plain.ensures
     c.if-last_is_plain.false
