@@ -12,8 +12,7 @@ module _ {A : Type 0} (F out : List A) where
   filled_from i = take i out ++ drop i (sets out 0 F)
 
 module _ {A : Type 0} (F out : List A) (room : length F ≤ length out) where
-  -- what is left when F is copied to the front
-  pub sets_is : sets out 0 F ≡ F ++ drop (length F) out
+  sets_is : sets out 0 F ≡ F ++ drop (length F) out
   sets_is = let z : 0 + length F ≡ length F = omega arith in sets-eq F out 0 (omega arith) ∙ ap (λ (n : ℕ). F ++ drop n out) z
 
   -- the buffer keeps its length

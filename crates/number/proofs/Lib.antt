@@ -14,7 +14,7 @@ mod Pair
 pub mod CutSame
 mod EverySecond
 mod ParityLoops
-pub mod FillFromEnd
+mod FillFromEnd
 mod Rows
 mod FoldLoops
 pub mod FoldCall

@@ -80,7 +80,7 @@ fn check_fold(parity: Parity, n: usize, fits: bool, small: bool, short: bool) ->
     Ok(())
 }
 
-// Writes every second coefficient from place `from` on.
+// Writes every second coefficient from place `from` on. It goes by places, since a proof knows nothing of what a zip over `iter_mut` wrote.
 #[tactic(auto, using(crate::proofs::FoldLoops::copy_step, crate::proofs::FoldLoops::copy_end, crate::proofs::FoldLoops::count_is))]
 fn copy_second<C: Coefficient>(c: &[C], from: usize, out: &mut [C])
     requires { length (every_second (drop from c.now)) ≤ length out.old }
