@@ -1,10 +1,10 @@
 // The interval of a polynomial, with the pair that takes it to the variable of the coefficients.
 ghost use Rattle.std.specs.Prelude.{◌≡◌};
-ghost use Rattle.number.specs.Interval.{change_of_basis, no_interval};
+ghost use Rattle.number.specs.Interval.{change_of_basis};
 
 use algebra::Basis;
 
-// From a to b, with y = u·x + w.
+// From a to b, with y = u·x + w. The default has +0 in every field, as a refusal has it.
 #[derive(Clone, Copy, Debug, PartialEq, Default)]
 pub struct Interval {
     pub a: f64,
@@ -34,11 +34,4 @@ pub fn change_of_basis(basis: Basis, a: f64, b: f64) -> Interval
             }
         }
     }
-}
-
-// Returns the interval of a refusal: +0 in every field.
-pub fn no_interval() -> Interval
-    ensures { result ≡ no_interval }
-{
-    Interval::default()
 }

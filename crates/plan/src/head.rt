@@ -9,7 +9,7 @@ ghost use Rattle.plan.specs.inside.Outlines.{outline_for, costs_of, cost_for};
 use super::input::{planned_settings, planned_transform};
 use super::outline::Outline;
 use counts::{Settings, SplitStrategy, depth_from_one};
-use number::{Basis, Interval, Parity, PolynomialInputTransform, no_interval, power_of_two};
+use number::{Basis, Interval, Parity, PolynomialInputTransform, power_of_two};
 use walk::Head;
 
 // The combines of kind 3, and the multiplications with plain numbers.
@@ -84,7 +84,6 @@ pub fn head_of(
 pub fn no_head() -> Head
     ensures { result ≡ no_head }
 {
-    let interval = no_interval();
     Head {
         basis: Basis::Monomial,
         parity: Parity::Full,
@@ -98,6 +97,6 @@ pub fn no_head() -> Head
         coefficients: 0,
         lists: 0,
         steps: 0,
-        interval,
+        interval: Interval::default(),
     }
 }
