@@ -27,8 +27,8 @@ use Rattle.lists.specs.Arrange.{arranged, leaves_of, ends_of}
 use Rattle.lists.specs.ListCall.{no_lists, listed_in, list_refusal, list_answer, list_coefficients, list_boundaries, ListCall}
 use Rattle.lists.specs.declared.call.Listing.{Listing}
 use Rattle.lists.specs.inside.Listing.{Listable, InPlace}
-use Rattle.lists.specs.inside.Shape.{early_refusal, refusal_by}
-use Rattle.lists.proofs.Shape.{Early, early_refused, late_refused, none_refused, all_passed}
+use Rattle.lists.specs.inside.ListTests.{early_refusal, refusal_by}
+use Rattle.lists.proofs.ListTests.{Early, early_refused, late_refused, none_refused, all_passed}
 
 -- a whole polynomial can be listed from the first place on
 pub whole_listable : {A : Type 0} (leading : Bool) (split : ℕ) (c : List A) (bounds : List ℕ) → Between 1 (degree_of c) plan_limit → split ≤ 12

@@ -1,7 +1,7 @@
 // What a list call makes, and its tests, which numbers alone decide.
 ghost use Rattle.std.specs.Prelude.{◌≡◌};
 ghost use Rattle.number.specs.Refused.{refusal_of};
-ghost use Rattle.lists.specs.inside.Shape.{early_refusal};
+ghost use Rattle.lists.specs.inside.ListTests.{early_refusal};
 
 use number::{PLAN_LIMIT, Refusal, degree_of};
 

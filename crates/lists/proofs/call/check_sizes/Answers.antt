@@ -7,7 +7,7 @@ use native.Mathlib.Omega.{arith}
 use borrow.Author.Tests.{lt-ltb, le-ltb, eq-eqb, ne_eqb}
 use lib.Dec.{ltb, eqb}
 use Rattle.number.specs.Limits.{plan_limit}
-use Rattle.lists.specs.inside.Shape.{early_refusal}
+use Rattle.lists.specs.inside.ListTests.{early_refusal}
 use Rattle.lists.proofs.call.check_sizes.Goals as goal
 use Rattle.lists.proofs.call.check_sizes.Goals.{Else-degree-eq0, Else-degree-gt-PLAN_LIMIT}
 

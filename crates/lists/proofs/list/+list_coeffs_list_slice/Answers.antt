@@ -6,7 +6,6 @@ use mathlib.Core.Bool.{true, ◌&&◌}
 use Prim.Native.Nat.{ℕ, ◌≤◌}
 use native.Mathlib.Nat.{mul-le-mul_right}
 use native.Mathlib.Omega.{arith}
-use lib.Pow.{pow_pos}
 use lib.ListN.{length}
 use prog.Memory.{size}
 use denote.Param.{layout}
@@ -30,14 +29,6 @@ cutting : (g : _) {t : ℕ} (c : list_coeffs-After-cut_coeffs g t)
     Cutting g.C.Coefficient.numbers.ops args.leading args.basis args.whole args.split args.at args.n args.c.now args.bounds.now
     c.top_power-p.result c.cut_coeffs.new.c
 cutting g c = record { listable = c.requires.0; from = omega arith; power = c.top_power-p.ensures; parted = c.cut_coeffs.ensures }
-
-pub list_coeffs-list_slice-requires : goal.list_coeffs-list_slice-requires
-list_coeffs-list_slice-requires g t c = λ κs e.
-    (omega arith, (e, (c.requires.0, (c.requires.1, omega arith))))
-
-pub list_coeffs-top_power-p-requires : goal.list_coeffs-top_power-p-requires
-list_coeffs-top_power-p-requires g t c =
-    omega (arith, pow_pos c.args.split)
 
 pub list_coeffs-cut_coeffs-requires : goal.list_coeffs-cut_coeffs-requires
 list_coeffs-cut_coeffs-requires g t c =
@@ -118,9 +109,6 @@ again : (g : _) {t : ℕ} (c : list_slice-After-listed_again g t) → c.listed_a
     → Again c.args.whole (degree_of c.args.c.now) c.args.split
 again g c told =
     leading_again c.args.leading c.args.whole (degree_of c.args.c.now) c.args.split (told_again g c told)
-
-pub list_slice-listed_again-requires : goal.list_slice-listed_again-requires
-list_slice-listed_again-requires g t c = c.requires.0.ranges
 
 pub list_slice-smaller_split-smaller-requires : goal.list_slice-smaller_split-smaller-requires
 list_slice-smaller_split-smaller-requires g t c =

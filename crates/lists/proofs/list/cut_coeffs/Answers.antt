@@ -1,6 +1,6 @@
 -- `lists::list::cut_coeffs` meets its contract. A Monomial cut leaves the coefficients as they are; a Chebyshev cut is the factorisation, whose
 -- contract says the same of that basis.
-use mathlib.Core.Path.{ap, sym, ◌∙◌}
+use mathlib.Core.Path.{ap, sym}
 use Rattle.algebra.specs.Cut.{cut_at}
 use Rattle.algebra.specs.declared.Basis.{Basis}
 use Rattle.lists.proofs.list.cut_coeffs.Goals as goal
@@ -9,8 +9,3 @@ pub returns-in-Monomial : goal.returns-in-Monomial
 unfolding cut_at
 returns-in-Monomial g c =
     sym (ap (λ (b : Basis). cut_at g.C.Coefficient.numbers.ops b c.args.p c.args.c.now) c.in-Monomial.is)
-
-pub returns-in-Chebyshev : goal.returns-in-Chebyshev
-returns-in-Chebyshev g c =
-    c.factorize_coeffs_chebyshev.ensures
-    ∙ ap (λ (b : Basis). cut_at g.C.Coefficient.numbers.ops b c.args.p c.args.c.now) (sym c.in-Chebyshev.is)

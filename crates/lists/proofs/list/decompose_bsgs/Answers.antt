@@ -11,7 +11,7 @@ use Rattle.number.proofs.Refused.{refused}
 use Rattle.counts.proofs.ChoiceLaws.{split_range}
 use Rattle.lists.specs.Tree.{tree_of, plan_tree}
 use Rattle.lists.specs.Arrange.{leaves_of}
-use Rattle.lists.proofs.Shape.{Early, early_passed}
+use Rattle.lists.proofs.ListTests.{Early, early_passed}
 use Rattle.lists.proofs.ListCall as calls
 use Rattle.lists.proofs.list.decompose_bsgs.Goals as goal
 use Rattle.lists.proofs.list.decompose_bsgs.Goals.{In_ok-check_sizes, After-split_for_strategy-split, After-count_lists-lists}

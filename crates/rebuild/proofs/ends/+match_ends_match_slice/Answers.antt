@@ -23,17 +23,6 @@ cut_of c =
     let base_is = c.power_of_two-base.ensures in
     record { from = omega arith; power = c.top_power-p.ensures }
 
-pub match_ends-power_of_two-base-requires : goal.match_ends-power_of_two-base-requires
-match_ends-power_of_two-base-requires t c = let few = c.requires.0.split_limit in omega arith
-
-pub match_ends-match_slice-requires : goal.match_ends-match_slice-requires
-match_ends-match_slice-requires t c =
-    let base_is = c.power_of_two-base.ensures in
-    (omega arith, (c.requires.0, (c.requires.1, omega arith)))
-
-pub match_ends-returns-then-degree-base : goal.match_ends-returns-then-degree-base
-match_ends-returns-then-degree-base t c = c.match_slice.ensures
-
 pub match_ends-top_power-p-requires : goal.match_ends-top_power-p-requires
 match_ends-top_power-p-requires t c =
     let base_is = c.power_of_two-base.ensures in
@@ -90,9 +79,6 @@ once : {t : ℕ} (c : match_slice-Else-listed_again t)
     → let args = c.args in (args.leading && listed_again args.whole args.degree args.split) ≡ false
 once c = sym c.listed_again.ensures ∙ c.if-listed_again.false
 
-pub match_slice-listed_again-requires : goal.match_slice-listed_again-requires
-match_slice-listed_again-requires t c = c.requires.0
-
 pub match_slice-smaller_split-requires : goal.match_slice-smaller_split-requires
 match_slice-smaller_split-requires t c =
     record { from = (again (goal.at.match_slice-smaller_split-requires t c).After-listed_again c.if-listed_again.true).positive; to = c.requires.0.part_limit }
@@ -114,12 +100,6 @@ match_slice-returns-in_err-get t c =
     c.from_residual.ensures
     ∙ steps.slice_short c.args.leading c.args.whole c.args.degree c.args.split c.args.at c.args.n
     c.args.bounds.now c.requires.1.1 (once (goal.at.match_slice-returns-in_err-get t c).Else-listed_again) c.in_err-get.ensures.lookup.3
-
-pub match_slice-overflow_add-at : goal.match_slice-overflow_add-at
-match_slice-overflow_add-at t c = let place = c.requires.1.0 in record { fits = omega arith }
-
-pub match_slice-overflow_add-at-2 : goal.match_slice-overflow_add-at-2
-match_slice-overflow_add-at-2 t c = let place = c.requires.1.0 in record { fits = omega arith }
 
 pub match_slice-returns : goal.match_slice-returns
 match_slice-returns t c =

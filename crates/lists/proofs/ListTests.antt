@@ -10,7 +10,7 @@ use Rattle.number.specs.Refusal.{Test, first_refusal, Numbered, NoneHolds}
 use Rattle.number.specs.Tests.{no_boundaries}
 use Rattle.number.specs.inside.Between.{Between}
 use Rattle.number.proofs.FirstRefusal.{none_holds, first_kept, first_of_more}
-use Rattle.lists.specs.inside.Shape.{early_tests, early_refusal, refusal_by}
+use Rattle.lists.specs.inside.ListTests.{early_tests, early_refusal, refusal_by}
 
 -- ---- the tests of the list calls
 

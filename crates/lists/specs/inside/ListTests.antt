@@ -1,4 +1,4 @@
--- What the list calls' own functions answer one another: how n coefficients are listed, as far as numbers alone decide.
+-- The tests of the list calls, as far as numbers alone decide them: those ahead of the boundaries, and all of them.
 use Rattle.std.specs.Prelude.{Bool, not, List, [], ◌∷◌, ◌++◌, ℕ, ◌-◌}
 use Rattle.number.specs.Limits.{plan_limit}
 use Rattle.number.specs.Refusal.{Test, first_refusal}
