@@ -55,11 +55,13 @@ pub fn weigh_zeros(letters: Letters, degree: usize) -> u64
         &mut bounds,
         &mut steps,
     );
-    // A zero curve of degree 1 or more is never refused, and a plan that was made is never refused its chain (specs/ZerosWeighed).
-    let Ok(head) = planned else {
-        return 0;
-    };
-    heaviest_chain(head, &coefficients, &bounds, &steps, INPUT, COEFF).unwrap_or(0)
+    // A zero curve of degree 1 or more is never refused, nor is its plan's chain (specs/ZerosWeighed); what is refused has no weight.
+    match planned {
+        Ok(head) => {
+            heaviest_chain(head, &coefficients, &bounds, &steps, INPUT, COEFF).unwrap_or(0)
+        }
+        Err(_) => 0,
+    }
 }
 
 // The bits of the closed form, which refuses no degree up to its limit.
