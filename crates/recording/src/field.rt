@@ -7,34 +7,25 @@ use number::Refusal;
 // The fields of a line that are still to be read.
 #[derive(Clone, Copy)]
 pub struct Fields<'a> {
-    // The rest of the line, or None behind its last field.
-    rest: Option<&'a [u8]>,
+    fields: lines::field::Fields<'a>,
 }
 
 impl<'a> Fields<'a> {
     // Returns all fields of a line.
     pub fn of(line: &'a [u8]) -> Self {
-        Fields { rest: Some(line) }
+        Fields {
+            fields: lines::field::Fields::of(line),
+        }
     }
 
     // Reads the next field: what stands before a tab or the line's end.
     pub fn next(&mut self) -> Option<&'a [u8]> {
-        let rest = self.rest?;
-        match rest.iter().position(|byte| *byte == b'\t') {
-            Some(tab) => {
-                self.rest = Some(&rest[tab + 1..]);
-                Some(&rest[..tab])
-            }
-            None => {
-                self.rest = None;
-                Some(rest)
-            }
-        }
+        self.fields.next()
     }
 
     // Demands that no field is left.
-    pub fn end(&self) -> Option<()> {
-        agree(self.rest.is_none())
+    pub fn end(mut self) -> Option<()> {
+        agree(self.next().is_none())
     }
 
     // Reads a field that is this word.
@@ -42,17 +33,14 @@ impl<'a> Fields<'a> {
         agree(self.next()? == word)
     }
 
-    // Tells whether a refusal is recorded: the word is the only field that is left.
-    pub fn refused(self) -> bool {
-        matches!(self.rest, Some(b"refused"))
+    // Tells whether a refusal is recorded: its word is the only field that is left.
+    pub fn refused(mut self) -> bool {
+        matches!(self.next(), Some(b"refused")) && self.next().is_none()
     }
 
     // Reads a letter: a field of one byte.
     pub fn letter(&mut self) -> Option<u8> {
-        match self.next()? {
-            [letter] => Some(*letter),
-            _ => None,
-        }
+        self.fields.letter()
     }
 
     // Reads a decimal number.

@@ -2,33 +2,27 @@
 use crate::field::Fields;
 use algebra::{Basis, Parity};
 use counts::{Settings, SplitStrategy};
-use lines::letter::{
-    basis_of, fold_of, is_basis, is_fold, is_parity, is_strategy, parity_of, strategy_of,
-};
+use lines::letter::{basis_of, fold_of, parity_of, strategy_of};
 
 impl Fields<'_> {
     // Reads M or C.
     pub fn basis(&mut self) -> Option<Basis> {
-        let letter = self.letter()?;
-        is_basis(letter).then(|| basis_of(letter))
+        basis_of(self.letter()?)
     }
 
     // Reads F, E or O.
     pub fn parity(&mut self) -> Option<Parity> {
-        let letter = self.letter()?;
-        is_parity(letter).then(|| parity_of(letter))
+        parity_of(self.letter()?)
     }
 
     // Reads D or M.
     pub fn strategy(&mut self) -> Option<SplitStrategy> {
-        let letter = self.letter()?;
-        is_strategy(letter).then(|| strategy_of(letter))
+        strategy_of(self.letter()?)
     }
 
     // Reads N or Y: whether to fold.
     pub fn fold(&mut self) -> Option<bool> {
-        let letter = self.letter()?;
-        is_fold(letter).then(|| fold_of(letter))
+        fold_of(self.letter()?)
     }
 
     // Reads a basis, a parity and a strategy.
