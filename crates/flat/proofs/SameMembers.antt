@@ -12,21 +12,21 @@ use Rattle.sets.specs.declared.member.Members.{Members}
 module _ (one other : Members) (counts : one.count ≡ other.count) (members : members_in one ≡ members_in other) where
   pub same_sizes : set_sizes_call one ≡ set_sizes_call other
   unfolding set_sizes_call
-  same_sizes = rw (counts, members)
+  same_sizes = rw (members, counts)
 
   module _ (c out : List ℤ) (bounds steps : List ℕ) where
     pub same_answer : set_answer one c out bounds steps ≡ set_answer other c out bounds steps
     unfolding set_answer set_refusal
-    same_answer = rw (counts, members)
+    same_answer = rw (members, counts)
 
     pub same_coefficients : set_coefficients_left one c out bounds steps ≡ set_coefficients_left other c out bounds steps
     unfolding set_coefficients_left set_refusal
-    same_coefficients = rw (counts, members)
+    same_coefficients = rw (members, counts)
 
     pub same_boundaries : set_boundaries_left one c out bounds steps ≡ set_boundaries_left other c out bounds steps
     unfolding set_boundaries_left set_refusal
-    same_boundaries = rw (counts, members)
+    same_boundaries = rw (members, counts)
 
     pub same_numbers : set_numbers_left one c out bounds steps ≡ set_numbers_left other c out bounds steps
     unfolding set_numbers_left set_refusal
-    same_numbers = rw (counts, members)
+    same_numbers = rw (members, counts)
