@@ -63,7 +63,7 @@ module _ (strategy : SplitStrategy) (parity : Parity) (basis : Basis) (folded : 
     -- the rooms are long enough, and the bounds are in order, so that only the polynomial is refused
     brings : Accepted folded parity c → BringsPlan strategy parity basis folded c minus_one plus_one planned bounds steps
     brings accepted =
-        rooms_enough strategy parity basis folded c minus_one plus_one planned bounds steps accepted ones_ordered room.coefficients_long
+        rooms_enough strategy parity basis folded c minus_one plus_one planned bounds steps accepted ones_ordered room.planned_long
         room.bounds_long room.steps_long
 
     by_input : (k : ℕ) → first_refusal (input_tests folded parity c) ≡ k

@@ -1,15 +1,19 @@
 -- The call between a read and a write: it takes bytes of a block that was read, puts the answers to the lines that they end into a buffer to be
 -- written, and holds the bytes of the line that they don't end (specs/Turns).
-use Rattle.std.specs.Prelude.{◌≡◌, List, ℕ, ◌+◌, ◌-◌, ◌<◌, ◌≤◌, length, take, drop}
+use Rattle.std.specs.Prelude.{◌≡◌, List, ℕ, ◌+◌, ◌-◌, ◌<◌, ◌≤◌, ℤ, length, take, drop}
 use Rattle.texts.specs.Put.{Put}
-use Rattle.answers.specs.Limits.{line_room, text_limit, text_room}
+use Rattle.answers.specs.Limits.{line_room, coefficient_room, list_room, step_room, text_limit, text_room}
 use Rattle.answers.specs.Turns.{turn_text, turn_held}
 use Rattle.answers.specs.declared.turn.Turn.{Turn}
 
--- what it asks of the line's buffer and the text's
-pub record TurnRoom (line : List ℕ) (held : ℕ) (out : List ℕ) : Type 0 where
+-- what it asks of the lent buffers
+pub record TurnRoom (line : List ℕ) (held : ℕ) (coefficients planned : List ℤ) (bounds steps out : List ℕ) : Type 0 where
   pub line_size : length line ≡ line_room
   pub held_within : held ≤ length line
+  pub coefficients_long : coefficient_room ≤ length coefficients
+  pub planned_long : list_room ≤ length planned
+  pub bounds_long : list_room ≤ length bounds
+  pub steps_long : step_room ≤ length steps
   pub text_size : length out ≡ text_room
 
 -- the part of the block that it takes

@@ -6,7 +6,7 @@ ghost use Rattle.answers.specs.TakeTurn.{TurnRoom};
 ghost use Rattle.planlines.specs.AnswerBlock.{AnswerBlock};
 
 use crate::stream::write_text;
-use answers::{Buffers, take_turn};
+use answers::take_turn;
 use std::io::{Eprint, Write};
 
 // How many bytes of an unended line are held, and whether all texts were written. (Both are wanted: how many are held is known after a failure too.)
@@ -23,10 +23,13 @@ pub fn answer_block<W: Write>(
     block: &[u8],
     line: &mut [u8],
     held: usize,
-    buffers: &mut Buffers,
+    coefficients: &mut [i64],
+    planned: &mut [i64],
+    bounds: &mut [u16],
+    steps: &mut [u16],
     out: &mut [u8],
 ) -> Answered
-    requires { TurnRoom line.old held out.old }
+    requires { TurnRoom line.old held coefficients.old planned.old bounds.old steps.old out.old }
     ensures held { AnswerBlock block.now line.old held line.new result }
     ensures written { result.written ≡ true → Appends (W.contents output.old) (W.contents output.new)
         (turn_text (take held line.old) block.now) }
@@ -36,7 +39,17 @@ pub fn answer_block<W: Write>(
     let mut written = true;
     // Not a `for`: each turn says how far it read.
     while written && at < block.len() {
-        let turn = take_turn(block, at, line, kept, buffers, out);
+        let turn = take_turn(
+            block,
+            at,
+            line,
+            kept,
+            coefficients,
+            planned,
+            bounds,
+            steps,
+            out,
+        );
         let text = turn.text;
         written = write_text(rt, output, &out[..text]);
         at = turn.read;

@@ -8,7 +8,7 @@ ghost use Rattle.planlines.specs.BlocksAnswered.{BlocksAnswered, OutputFor};
 
 use crate::block::answer_block;
 use crate::stream::{read_block, write_text};
-use answers::{Buffers, put_end};
+use answers::put_end;
 use std::io::{Eprint, Read, Write};
 use streams::BlockRead;
 
@@ -35,10 +35,13 @@ fn answer_blocks<R: Read, W: Write>(
     output: &mut W,
     block: &mut [u8],
     line: &mut [u8],
-    buffers: &mut Buffers,
+    coefficients: &mut [i64],
+    planned: &mut [i64],
+    bounds: &mut [u16],
+    steps: &mut [u16],
     out: &mut [u8],
 ) -> Stopped
-    requires { TurnRoom line.old 0 out.old }
+    requires { TurnRoom line.old 0 coefficients.old planned.old bounds.old steps.old out.old }
     ensures held { result.held ≤ length line.old }
     ensures answered { BlocksAnswered (R.remaining input.old) (R.remaining input.new) (W.contents output.old) (W.contents output.new)
         (take result.held line.new) result.last block.old }
@@ -50,7 +53,18 @@ fn answer_blocks<R: Read, W: Write>(
             return Stopped { held, last: read };
         };
         let some = &block[..count];
-        let answered = answer_block(rt, output, some, line, held, buffers, out);
+        let answered = answer_block(
+            rt,
+            output,
+            some,
+            line,
+            held,
+            coefficients,
+            planned,
+            bounds,
+            steps,
+            out,
+        );
         held = answered.held;
         if !answered.written {
             return Stopped { held, last: read };
@@ -67,16 +81,19 @@ fn put_last(
     last: BlockRead,
     line: &[u8],
     held: usize,
-    buffers: &mut Buffers,
+    coefficients: &mut [i64],
+    planned: &mut [i64],
+    bounds: &mut [u16],
+    steps: &mut [u16],
     out: &mut [u8],
 ) -> usize
-    requires { TurnRoom line.now held out.old }
+    requires { TurnRoom line.now held coefficients.old planned.old bounds.old steps.old out.old }
     ensures { Put out.old 0 (last_text last (take held line.now)) out.new result }
 {
     let BlockRead::Ended = last else {
         return 0;
     };
-    put_end(line, held, buffers, out)
+    put_end(line, held, coefficients, planned, bounds, steps, out)
 }
 
 // Answers every line of the input. The answer to a last line without a line feed is put into `out`, and the caller writes it.
@@ -86,18 +103,32 @@ pub fn answer_input<R: Read, W: Write>(
     output: &mut W,
     block: &mut [u8],
     line: &mut [u8],
-    buffers: &mut Buffers,
+    coefficients: &mut [i64],
+    planned: &mut [i64],
+    bounds: &mut [u16],
+    steps: &mut [u16],
     out: &mut [u8],
 ) -> Finished
-    requires { TurnRoom line.old 0 out.old }
+    requires { TurnRoom line.old 0 coefficients.old planned.old bounds.old steps.old out.old }
     ensures last { AnswerInput line.new out.new result }
     ensures answered { BlocksAnswered (R.remaining input.old) (R.remaining input.new) (W.contents output.old) (W.contents output.new)
         (take result.held line.new) result.last block.old }
 {
-    let stopped = answer_blocks(rt, input, output, block, line, buffers, out);
+    let stopped = answer_blocks(
+        rt,
+        input,
+        output,
+        block,
+        line,
+        coefficients,
+        planned,
+        bounds,
+        steps,
+        out,
+    );
     let held = stopped.held;
     let last = stopped.last;
-    let text = put_last(last, line, held, buffers, out);
+    let text = put_last(last, line, held, coefficients, planned, bounds, steps, out);
     Finished { last, held, text }
 }
 
@@ -108,14 +139,28 @@ pub fn write_answers<R: Read, W: Write>(
     output: &mut W,
     block: &mut [u8],
     line: &mut [u8],
-    buffers: &mut Buffers,
+    coefficients: &mut [i64],
+    planned: &mut [i64],
+    bounds: &mut [u16],
+    steps: &mut [u16],
     out: &mut [u8],
 ) -> bool
-    requires { TurnRoom line.old 0 out.old }
+    requires { TurnRoom line.old 0 coefficients.old planned.old bounds.old steps.old out.old }
     ensures { result ≡ true → 0 < length block.old → IfSome (R.remaining input.old)
         (OutputFor (W.contents output.old) (W.contents output.new)) }
 {
-    let finished = answer_input(rt, input, output, block, line, buffers, out);
+    let finished = answer_input(
+        rt,
+        input,
+        output,
+        block,
+        line,
+        coefficients,
+        planned,
+        bounds,
+        steps,
+        out,
+    );
     let BlockRead::Ended = finished.last else {
         return false;
     };

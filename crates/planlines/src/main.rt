@@ -8,7 +8,7 @@ mod stream;
 ghost use Rattle.std.specs.Prelude.{◌≡◌, length};
 ghost use Rattle.answers.specs.Limits.{text_room};
 
-use answers::{Buffers, COEFFICIENT_ROOM, LINE_ROOM, LIST_ROOM, PlanBuffers, STEP_ROOM, TEXT_ROOM};
+use answers::{COEFFICIENT_ROOM, LINE_ROOM, LIST_ROOM, STEP_ROOM, TEXT_ROOM};
 use input::write_answers;
 
 // A buffer for text. The contract keeps its length alone, so that no proof looks at a million zeros.
@@ -24,14 +24,10 @@ fn main(rt: HostRuntime) {
     let mut output = rt.stdout();
     let mut block = [0u8; 65536];
     let mut line = [0u8; LINE_ROOM];
-    let mut buffers = Buffers {
-        coefficients: [0; COEFFICIENT_ROOM],
-        plan: PlanBuffers {
-            coefficients: [0; LIST_ROOM],
-            bounds: [0; LIST_ROOM],
-            steps: [0; STEP_ROOM],
-        },
-    };
+    let mut coefficients = [0i64; COEFFICIENT_ROOM];
+    let mut planned = [0i64; LIST_ROOM];
+    let mut bounds = [0u16; LIST_ROOM];
+    let mut steps = [0u16; STEP_ROOM];
     let mut out = text_buffer();
     write_answers(
         &rt,
@@ -39,7 +35,10 @@ fn main(rt: HostRuntime) {
         &mut output,
         &mut block,
         &mut line,
-        &mut buffers,
+        &mut coefficients,
+        &mut planned,
+        &mut bounds,
+        &mut steps,
         &mut out,
     );
 }

@@ -5,30 +5,17 @@ use Rattle.std.proofs.Common.{arith}
 use lib.Ieee.{of_bits}
 use Rattle.number.proofs.Refused.{refused}
 use Rattle.texts.proofs.PutLaws.{put_same}
-use Rattle.answers.specs.inside.Rooms.{PlanRoom}
 use Rattle.answers.proofs.AnswerLaws.{refused_text, planned_text, planned_ends}
 use Rattle.answers.proofs.answer.put_planned.Goals as goal
 
 pub returns-in-Err : goal.returns-in-Err
 unfolding of_bits
-returns-in-Err c =
-    let old = c.args.buffers.now in
-    let room : PlanRoom old.coefficients old.bounds old.steps c.args.at =
-    record { coefficients_long = grind arith; bounds_long = grind arith; steps_long = grind arith; place = c.requires } in
-    put_same c.put_refusal.ensures (refused_text _ _ _ _ _ room c.in-Err.ensures (refused c.in-Err.refusal))
+returns-in-Err c = put_same c.put_refusal.ensures (refused_text _ _ _ _ _ c.requires c.in-Err.ensures (refused c.in-Err.refusal))
 
 pub put_plan-requires : goal.put_plan-requires
 unfolding of_bits
-put_plan-requires c =
-    let old = c.args.buffers.now in
-    let room : PlanRoom old.coefficients old.bounds old.steps c.args.at =
-    record { coefficients_long = grind arith; bounds_long = grind arith; steps_long = grind arith; place = c.requires } in
-    planned_ends _ _ _ _ _ room c.in-Ok.ensures (omega arith)
+put_plan-requires c = planned_ends _ _ _ _ _ c.requires c.in-Ok.ensures (omega arith)
 
 pub returns-in-Ok : goal.returns-in-Ok
 unfolding of_bits
-returns-in-Ok c =
-    let old = c.args.buffers.now in
-    let room : PlanRoom old.coefficients old.bounds old.steps c.args.at =
-    record { coefficients_long = grind arith; bounds_long = grind arith; steps_long = grind arith; place = c.requires } in
-    put_same c.put_plan.ensures (planned_text _ _ _ _ _ room c.in-Ok.ensures (omega arith))
+returns-in-Ok c = put_same c.put_plan.ensures (planned_text _ _ _ _ _ c.requires c.in-Ok.ensures (omega arith))

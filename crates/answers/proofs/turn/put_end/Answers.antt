@@ -18,4 +18,4 @@ pub returns : goal.returns
 returns c =
     let a = c.args in
     put_same c.put_answer.ensures
-    (sym (end_some (take a.held a.line.now) (omega (arith, length-take-le a.held a.line.now c.requires, c.if-held-eq0.false))))
+    (sym (end_some (take a.held a.line.now) (omega (arith, length-take-le a.held a.line.now c.requires.held_in_bounds, c.if-held-eq0.false))))

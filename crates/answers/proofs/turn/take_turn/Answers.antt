@@ -10,6 +10,10 @@ loop-at-init c =
     let pre = c.requires in
     record {
       done = so_far_start pre.from_in_bounds pre.turn_room.line_size pre.turn_room.held_within;
+      coefficients_long = refl;
+      planned_long = refl;
+      bounds_long = refl;
+      steps_long = refl;
       out_long = refl;
     }
 
@@ -20,6 +24,10 @@ loop-at-preserved c =
       done =
           so_far_more inv.done c.loop-at-test.true (omega (arith, c.if-most-text.false, c.requires.turn_room.text_size)) c.take_piece-piece.ensures
           c.take_piece-piece.auto.line c.put_piece-text.ensures c.held_after-kept.ensures;
+      coefficients_long = c.put_piece-text.auto.coefficients ∙ inv.coefficients_long;
+      planned_long = c.put_piece-text.auto.planned ∙ inv.planned_long;
+      bounds_long = c.put_piece-text.auto.bounds ∙ inv.bounds_long;
+      steps_long = c.put_piece-text.auto.steps ∙ inv.steps_long;
       out_long = c.put_piece-text.auto.out ∙ inv.out_long;
     }
 

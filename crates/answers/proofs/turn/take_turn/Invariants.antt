@@ -8,6 +8,10 @@ abbrev pub invariant-loop-at : goal.invariant-loop-at
 invariant-loop-at l =
     record {
       done : SoFar l.block l.from l.initial.line l.held l.initial.out l.line l.out l.at l.kept l.text;
+      coefficients_long : length l.coefficients ≡ length l.initial.coefficients;
+      planned_long : length l.planned ≡ length l.initial.planned;
+      bounds_long : length l.bounds ≡ length l.initial.bounds;
+      steps_long : length l.steps ≡ length l.initial.steps;
       out_long : length l.out ≡ length l.initial.out;
     }
 

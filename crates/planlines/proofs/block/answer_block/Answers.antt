@@ -16,6 +16,10 @@ loop-written-init g c =
       told = λ _. part_none _ (take a.held a.line.now) a.block.now;
       kept_within = c.requires.held_within;
       line_long = refl;
+      coefficients_long = refl;
+      planned_long = refl;
+      bounds_long = refl;
+      steps_long = refl;
       out_long = refl;
     }
 
@@ -40,5 +44,9 @@ loop-written-preserved g c =
           (take turn.result.text turn.new.out) text_is (c.write_text-written.ensures written);
       kept_within = omega (arith, turn.ensures.held_within, turn.auto.line);
       line_long = turn.auto.line ∙ inv.line_long;
+      coefficients_long = turn.auto.coefficients ∙ inv.coefficients_long;
+      planned_long = turn.auto.planned ∙ inv.planned_long;
+      bounds_long = turn.auto.bounds ∙ inv.bounds_long;
+      steps_long = turn.auto.steps ∙ inv.steps_long;
       out_long = turn.auto.out ∙ inv.out_long;
     }

@@ -17,6 +17,10 @@ invariant-loop-written g l =
           (turn_text (take l.held l.initial.line) (take l.at l.block));
       kept_within : l.kept ≤ length l.line;
       line_long : length l.line ≡ length l.initial.line;
+      coefficients_long : length l.coefficients ≡ length l.initial.coefficients;
+      planned_long : length l.planned ≡ length l.initial.planned;
+      bounds_long : length l.bounds ≡ length l.initial.bounds;
+      steps_long : length l.steps ≡ length l.initial.steps;
       out_long : length l.out ≡ length l.initial.out;
     }
 

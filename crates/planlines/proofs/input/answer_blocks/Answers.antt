@@ -16,6 +16,10 @@ loop-init g c = record {
   told = told_none _ _ c.args.line.now;
   block_long = refl;
   line_long = refl;
+  coefficients_long = refl;
+  planned_long = refl;
+  bounds_long = refl;
+  steps_long = refl;
   out_long = refl;
 }
 
@@ -30,11 +34,19 @@ loop-preserved g c =
       room = record {
         line_size = kept.line ∙ room.line_size;
         held_within = omega (arith, answered.ensures.held.within, kept.line);
+        coefficients_long = omega (arith, kept.coefficients, room.coefficients_long);
+        planned_long = omega (arith, kept.planned, room.planned_long);
+        bounds_long = omega (arith, kept.bounds, room.bounds_long);
+        steps_long = omega (arith, kept.steps, room.steps_long);
         text_size = kept.out ∙ room.text_size;
       };
       told = told_more inv.told (take c.in-Bytes.count c.read_block-read.new.block) c.in-Bytes.ensures.from (answered.ensures.written written)
           (answered.ensures.held.line_held written);
       block_long = c.read_block-read.auto.block ∙ inv.block_long;
       line_long = kept.line ∙ inv.line_long;
+      coefficients_long = kept.coefficients ∙ inv.coefficients_long;
+      planned_long = kept.planned ∙ inv.planned_long;
+      bounds_long = kept.bounds ∙ inv.bounds_long;
+      steps_long = kept.steps ∙ inv.steps_long;
       out_long = kept.out ∙ inv.out_long;
     }
