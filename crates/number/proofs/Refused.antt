@@ -3,9 +3,11 @@ use Prim.Native.Nat.{◌<◌}
 use native.Mathlib.Omega.{arith}
 use Rattle.number.specs.Refused.{refusal_number}
 use Rattle.number.specs.declared.refusal.Refusal.{Refusal}
-use Rattle.number.specs.declared.refusal.Refusal.TheVariants.{DegreeZero, DegreeTooHigh, SumTooLarge, WrongParity, FoldsFull, FoldsTooLow, IntervalUnordered, NodesMiscounted}
-use Rattle.number.specs.declared.refusal.Refusal.TheVariants.{IndexOutOfRange, ScaleTooWide, ModulusOutOfRange, LineMalformed, CoefficientsShort, BoundariesShort, StepsShort, Unwalkable}
-use Rattle.number.specs.declared.refusal.Refusal.TheVariants.{NothingFits, ListsMismatched, ListsOfNone, MembersMiscounted, MembersUnlike, ConversionTooHigh, NotWhole, UnknownKind}
+use Rattle.number.specs.declared.refusal.Refusal.TheVariants.{DegreeZero, DegreeTooHigh, SumTooLarge, WrongParity, FoldsFull, FoldsTooLow}
+use Rattle.number.specs.declared.refusal.Refusal.TheVariants.{IntervalUnordered, NodesMiscounted, IndexOutOfRange, ScaleTooWide, ModulusOutOfRange}
+use Rattle.number.specs.declared.refusal.Refusal.TheVariants.{LineMalformed, CoefficientsShort, BoundariesShort, StepsShort, Unwalkable, NothingFits}
+use Rattle.number.specs.declared.refusal.Refusal.TheVariants.{ListsMismatched, ListsOfNone, MembersMiscounted, MembersUnlike, ConversionTooHigh}
+use Rattle.number.specs.declared.refusal.Refusal.TheVariants.{NotWhole, UnknownKind}
 
 pub refused : (refusal : Refusal) → 0 < refusal_number refusal
 refused DegreeZero = omega arith

@@ -2,9 +2,11 @@
 -- number with what stands in their place.
 use Rattle.std.specs.Prelude.{ℕ, Result, Ok, Err}
 use Rattle.number.specs.declared.refusal.Refusal.{Refusal}
-use Rattle.number.specs.declared.refusal.Refusal.TheVariants.{DegreeZero, DegreeTooHigh, SumTooLarge, WrongParity, FoldsFull, FoldsTooLow, IntervalUnordered, NodesMiscounted}
-use Rattle.number.specs.declared.refusal.Refusal.TheVariants.{IndexOutOfRange, ScaleTooWide, ModulusOutOfRange, LineMalformed, CoefficientsShort, BoundariesShort, StepsShort, Unwalkable}
-use Rattle.number.specs.declared.refusal.Refusal.TheVariants.{NothingFits, ListsMismatched, ListsOfNone, MembersMiscounted, MembersUnlike, ConversionTooHigh, NotWhole, UnknownKind}
+use Rattle.number.specs.declared.refusal.Refusal.TheVariants.{DegreeZero, DegreeTooHigh, SumTooLarge, WrongParity, FoldsFull, FoldsTooLow}
+use Rattle.number.specs.declared.refusal.Refusal.TheVariants.{IntervalUnordered, NodesMiscounted, IndexOutOfRange, ScaleTooWide, ModulusOutOfRange}
+use Rattle.number.specs.declared.refusal.Refusal.TheVariants.{LineMalformed, CoefficientsShort, BoundariesShort, StepsShort, Unwalkable, NothingFits}
+use Rattle.number.specs.declared.refusal.Refusal.TheVariants.{ListsMismatched, ListsOfNone, MembersMiscounted, MembersUnlike, ConversionTooHigh}
+use Rattle.number.specs.declared.refusal.Refusal.TheVariants.{NotWhole, UnknownKind}
 
 abbrev pub refusal_number : Refusal → ℕ
 refusal_number DegreeZero = 1

@@ -26,5 +26,6 @@ all_whole to n (z ∷ c) = ap (λ (b : Bool). test to (n, z) && b) (all_whole to
 
 pub returns : goal.returns
 returns c =
-    let tested = all_from_yields_List (test c.args.to) _ _ c.all.result c.all.ensures.ran (YieldsList-from_enumerate (YieldsList-from_slice c.args.c.now cc) cc) (λ p b f called. search rules) in
+    let items = YieldsList-from_enumerate (YieldsList-from_slice c.args.c.now cc) cc in
+    let tested = all_from_yields_List (test c.args.to) _ _ c.all.result c.all.ensures.ran items (λ p b f called. search rules) in
     tested ∙ all_whole c.args.to 0 c.args.c.now
