@@ -60,7 +60,7 @@ pub fn weigh_zeros(letters: Letters, degree: usize) -> u64
         Ok(head) => {
             heaviest_chain(head, &coefficients, &bounds, &steps, INPUT, COEFF).unwrap_or(0)
         }
-        Err(_) => 0,
+        Err(_refusal) => 0,
     }
 }
 

@@ -1,9 +1,9 @@
 -- `chains::weigh::weigh_zeros` meets its contract. The curve is the first places of a buffer of zeros, the other buffers hold zeros before the plan, the
 -- literals are the bounds of the interval of lines, and what the plan leaves in the buffers is weighed. A refusal has no weight.
-use Rattle.std.proofs.Common.{ap, sym}
+use Rattle.std.proofs.Common.{ap}
 use lib.Ieee.{of_bits}
 use Rattle.plan.specs.PlanCall.{Planned}
-use Rattle.chains.proofs.NoChain.{weight_given, no_weight}
+use Rattle.chains.proofs.NoChain.{weight_given, refused_weight}
 use Rattle.chains.proofs.Zeros.{curve_taken, curve_length}
 use Rattle.chains.proofs.weigh.weigh_zeros.Goals as goal
 
@@ -35,7 +35,7 @@ returns-in-Ok c =
 pub returns-in-Err : goal.returns-in-Err
 unfolding of_bits
 returns-in-Err c =
-    let head = rw (
+    refused_weight c.in-Err._refusal _ _ _ (rw (
       c.said_basis.ensures,
       c.said_parity.ensures,
       c.said_strategy.ensures,
@@ -44,5 +44,4 @@ returns-in-Err c =
       c.no_coefficients-coefficients.ensures,
       c.no_coefficients-curve.ensures,
       curve_taken c.args.degree c.requires,
-    ) at sym (ap (λ (p : Planned). p.head) c.in-Err.ensures.answer) in
-    sym (rw head (no_weight _ _ _))
+    ) at c.in-Err.ensures.answer)
