@@ -8,6 +8,7 @@ use Rattle.number.specs.declared.refusal.Refusal.TheVariants.{LineMalformed, Coe
 use Rattle.number.specs.declared.refusal.Refusal.TheVariants.{ListsMismatched, ListsOfNone, MembersMiscounted, MembersUnlike, ConversionTooHigh}
 use Rattle.number.specs.declared.refusal.Refusal.TheVariants.{NotWhole, UnknownKind}
 
+-- a refusal's number
 abbrev pub refusal_number : Refusal → ℕ
 refusal_number DegreeZero = 1
 refusal_number DegreeTooHigh = 2
