@@ -16,4 +16,4 @@ pub returns : goal.returns
 unfolding members_meant
 returns c =
     let read = c.in_ok-try_from.ensures in
-    ap flat_sizes (c.set_sizes.ensures ∙ same_sizes _ (members_meant c.args.members) read.1.0 read.1.1) ∙ accepted_told _ read.0
+    ap flat_sizes (c.set_sizes.ensures ∙ same_sizes _ (members_meant c.args.members) read.1 read.2) ∙ accepted_told _ read.0

@@ -1,4 +1,5 @@
 -- With a known head the answer is the call's own answer for the head that is meant, and else refusal 43.
+use mir.Facts.{to_z-of_z}
 use Rattle.walk.specs.Trial.{no_trial}
 use Rattle.flat.specs.Unknown.{when_known}
 use Rattle.flat.specs.Flat.{flat_trial}
@@ -14,4 +15,4 @@ pub returns : goal.returns
 unfolding when_known
 returns c =
     let head = c.in_ok-try_from.ensures in
-    rw (head.0, c.trial_walk.ensures, head.1)
+    rw (head.0, c.trial_walk.ensures, head.1, to_z-of_z c.ranges.point)
