@@ -5,7 +5,7 @@ ghost use Rattle.plan.specs.inside.Writing.{Narrow, numbers_of, StepFits};
 
 use walk::plan::Instruction;
 
-// Returns the four numbers of a step: its kind, and what the kind gives its meaning.
+// Returns the four numbers of a step: its kind, and what the kind gives its meaning. It is no `From`, which could only stand in the instruction's crate.
 fn encode(instruction: Instruction) -> [u16; 4]
     requires { Narrow instruction }
     ensures { result ≡ numbers_of instruction }

@@ -9,7 +9,7 @@ use lists::{listed_again, smaller_split};
 use number::{power_of_two, top_power};
 use walk::plan::Instruction;
 
-// Where a writer stands: the numbers of the next list and the next step.
+// Where a writer stands: the numbers of the next list and the next step. The buffer is handed on whole, as the contracts tell where each step stands.
 #[derive(Clone, Copy)]
 pub struct Place {
     pub list: usize,

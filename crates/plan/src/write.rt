@@ -29,7 +29,8 @@ fn place_coeffs(fold: bool, parity: Parity, basis: Basis, c: &[i64], out: &mut [
     }
 }
 
-// Writes the lists of `count` planned coefficients to the front of `out`, and their boundaries from boundary `list` on.
+// Writes the lists of `count` planned coefficients to the front of `out`, and their boundaries from boundary `list` on. The plan call has count and split
+// from an outline and the set call from a head, so they are parameters of their own.
 pub fn write_lists(
     settings: Settings,
     fold: bool,

@@ -30,7 +30,7 @@ fn write_own_lists(
     );
 }
 
-// Writes those of all members, one member's after another's.
+// Writes those of all members, one member's after another's. The heads are a slice of their own, as the public record holds them without the members.
 pub fn write_all_lists(
     members: &[Member],
     heads: &[Head],

@@ -1,4 +1,5 @@
-// The powers that members need, as marks: place n is true where one of them needs power n.
+// The powers that members need, as marks: place n is true where one of them needs power n. The heads are lent from the public record's array, and each
+// function asks that they fit: a struct around a lent slice would be no plainer.
 ghost use Rattle.std.specs.Prelude.{◌≡◌, ◌≤◌, length};
 ghost use Rattle.number.specs.Limits.{plan_limit, count_limit};
 ghost use Rattle.sets.specs.inside.Heads.{HeadFits, HeadsFit, SameBasis, PowersTo};
