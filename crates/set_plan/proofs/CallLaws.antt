@@ -8,7 +8,7 @@ use native.Mathlib.Omega.{arith}
 use borrow.Author.Tests.{ltb-false, eqb-false, not-false}
 use lib.Dec.{ltb, eqb}
 use lib.IntN.{ℤ}
-use lib.ListN.{length, take, drop, replicate, length-append, length-map, length-drop}
+use lib.ListN.{length, take, drop, length-append, length-map, length-drop}
 use lib.Seq.{sets, length-take-le}
 use Rattle.std.proofs.lemmas.List.{length-take}
 use Rattle.std.specs.Prelude.{Ok}
@@ -19,20 +19,17 @@ use Rattle.lists.specs.Lists.{joined}
 use Rattle.walk.specs.WalksHeld.{flat}
 use Rattle.walk.specs.declared.plan.Head.{Head}
 use Rattle.plan.specs.PlanSteps.{make_step}
-use Rattle.plan.specs.Reported.{of_kind}
-use Rattle.plan.specs.PlanHead.{no_head}
 use Rattle.plan.specs.PlanCall.{settings_tests}
 use Rattle.plan.specs.PlanSizes.{HasSizes, PlanSizes, plan_sizes_in}
 use Rattle.plan.specs.inside.Filling.{buffer_refusal}
 use Rattle.plan.proofs.PlanTests.{early_numbered, early_accepted, settings_accepted, buffers_fit}
 use Rattle.sets.specs.Members.{Curve, members_in, curves_in, handed_count, all_alike, total}
 use Rattle.sets.specs.Own.{own_steps}
-use Rattle.sets.specs.SetPlan.{member_limit, heads_of, set_powers, common_steps, member_steps, set_steps, set_of, set_ct, set_pt}
+use Rattle.sets.specs.SetPlan.{member_limit, heads_of, set_powers, common_steps, member_steps, set_steps, set_of}
 use Rattle.sets.specs.SetPlan.{own_step_count, set_step_count}
 use Rattle.sets.specs.SetCall.{bad_set, unlike_members, own_tests, room_tests, no_set, curves, ahead_tests, SetPlanned}
 use Rattle.sets.specs.SetCall.{SetAccepted, set_refusal, SetCall, set_answer, set_coefficients_left, set_boundaries_left, set_numbers_left}
 use Rattle.sets.specs.SetSizes.{set_sizes_of}
-use Rattle.sets.specs.Union.{union_of}
 use Rattle.sets.specs.inside.Heads.{HeadFits}
 use Rattle.sets.specs.inside.Planning.{SettingsPass, MembersPass}
 use Rattle.sets.specs.inside.Writing.{SetStepsFit}

@@ -1,6 +1,6 @@
 -- The sizes of a set, over plain values: the tests of the members' settings, one member after another, and what the passed tests tell.
 use mathlib.Core.Path.{◌≡◌, sym, ◌∙◌, ap}
-use mathlib.Core.Bool.{Bool, true, false}
+use mathlib.Core.Bool.{true}
 use mathlib.Core.List.{List, [], ◌∷◌, ◌++◌, map}
 use Prim.Native.Nat.{ℕ, ◌+◌, ◌-◌, ◌≤◌, ◌<◌}
 use native.Mathlib.Omega.{arith}
@@ -13,7 +13,6 @@ use Rattle.algebra.specs.Each.{Each}
 use Rattle.number.specs.Refusal.{Test, first_refusal, Numbered}
 use Rattle.number.proofs.FirstRefusal.{none_holds, first_kept, first_of_more, first_passed, numbered_append, when_refused, when_accepted}
 use Rattle.lists.specs.Lists.{joined}
-use Rattle.walk.specs.declared.plan.Head.{Head}
 use Rattle.plan.specs.PlanCall.{settings_tests}
 use Rattle.plan.specs.PlanSizes.{no_sizes, PlanSizes, plan_sizes_in}
 use Rattle.plan.proofs.PlanTests.{settings_numbered}

@@ -7,7 +7,7 @@ use native.Mathlib.Nat.{two-pow-succ}
 use native.Mathlib.Omega.{arith}
 use borrow.Author.Tests.{eqb-true}
 use lib.IntN.{ℤ}
-use lib.ListN.{length, get_or, take, drop, replicate, length-append, length-map, length-drop, length-replicate, get_or-append}
+use lib.ListN.{length, get_or, take, drop, replicate, length-append, length-map, length-drop, length-replicate}
 use lib.Seq.{length-take-le, take-append_seam}
 use lib.Pow.{pow_pos}
 use Rattle.std.proofs.lemmas.Bool.{and_parts}
@@ -27,7 +27,7 @@ use Rattle.plan.specs.PlanCall.{planned_parity, planned_transform}
 use Rattle.plan.specs.PlanSizes.{degree_to_plan}
 use Rattle.plan.proofs.StepCounts.{steps_length}
 use Rattle.plan.proofs.PlanTests.{planned_length, degree_planned}
-use Rattle.sets.specs.Members.{members_in, Curve, curves_in, total, handed_count, alike, alike_to, all_alike}
+use Rattle.sets.specs.Members.{Curve, curves_in, total, handed_count, alike, alike_to, all_alike}
 use Rattle.sets.specs.Own.{own_split, own_tree, own_steps, without_powers, member_head, head_by}
 use Rattle.sets.specs.SetPlan.{member_limit, with_zero_heads, heads_of}
 use Rattle.sets.specs.inside.Heads.{HeadFits, HeadsFit, SameBasis}

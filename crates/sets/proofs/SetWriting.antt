@@ -4,15 +4,13 @@ use mathlib.Core.Logic.{⊎_elim}
 use mathlib.Core.Bool.{Bool, true, false}
 use mathlib.Core.List.Memᴰ
 use mathlib.Core.List.{List, [], ◌∷◌, ◌++◌, map, Memᴰ}
-use Prim.Native.Nat.{ℕ, zero, suc, ◌+◌, ◌*◌, ◌≤◌, ◌<◌}
-use native.Mathlib.Nat.{lt_of_not-le}
+use Prim.Native.Nat.{ℕ, zero, suc, ◌+◌, ◌*◌, ◌≤◌}
 use native.Mathlib.Omega.{arith}
-use lib.ListN.{length, get_or, take, length-append, length-map}
-use lib.Seq.{sets, take_all}
+use lib.ListN.{length, take, length-append, length-map}
+use lib.Seq.{sets}
 use Rattle.number.specs.Limits.{count_limit}
 use Rattle.needed.specs.inside.Marks.{marked_from, count_marks}
 use Rattle.needed.proofs.MarkedPowers.{listed_marked, marked_count}
-use Rattle.needed.proofs.PlaceLaws.{count_take, count_step}
 use Rattle.needed.proofs.Promises.{needed_powers}
 use Rattle.lists.proofs.Arranging.{sets_append}
 use Rattle.walk.specs.WalksHeld.{flat}

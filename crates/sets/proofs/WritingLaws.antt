@@ -16,7 +16,7 @@ use Rattle.walk.specs.WalksHeld.{flat}
 use Rattle.walk.specs.declared.plan.Head.{Head}
 use Rattle.walk.specs.declared.plan.Step.{Step}
 use Rattle.walk.proofs.FlatSteps.{flat_length, flat_append}
-use Rattle.plan.specs.PlanSteps.{last_length, last_plain, tree_steps, list_steps}
+use Rattle.plan.specs.PlanSteps.{last_plain, tree_steps, list_steps}
 use Rattle.plan.specs.inside.Outlines.{totals_of}
 use Rattle.plan.specs.inside.Writing.{TreeFits, TreePut}
 use Rattle.plan.specs.declared.outline.Totals.{Totals}

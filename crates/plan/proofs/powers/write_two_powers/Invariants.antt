@@ -1,5 +1,4 @@
 use mathlib.Core.Path.{◌≡◌}
-use Prim.Native.Nat.{◌-◌}
 use lib.ListN.{length}
 use Rattle.plan.proofs.TwoPowerSteps.{Left}
 use Rattle.plan.proofs.powers.write_two_powers.Given as goal

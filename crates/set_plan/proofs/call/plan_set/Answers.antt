@@ -1,6 +1,6 @@
 -- `set_plan::call::plan_set` meets its contract. Every test is made before the first write, so a refusal leaves all as it was. Past the tests the heads
 -- are those of the members as planned alone, and what is written and answered is made from them.
-use mathlib.Core.Path.{◌≡◌, refl, sym}
+use mathlib.Core.Path.{refl, sym}
 use Rattle.std.proofs.lemmas.Result.{err_from_is_err_and}
 use Rattle.number.proofs.Refused.{refused}
 use Rattle.sets.specs.Members.{members_in}

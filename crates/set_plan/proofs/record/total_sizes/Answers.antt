@@ -1,12 +1,11 @@
 -- `set_plan::record::total_sizes` meets its contract. The invariant: what is summed, with the sizes of the members that are left, is the whole; the steps
 -- begin with the common power steps.
 use mathlib.Core.Path.{◌≡◌, ap}
-use mathlib.Core.List.{List, []}
+use mathlib.Core.List.{[]}
 use native.Mathlib.Omega.{arith}
 use lib.ListN.{drop, drop_of_length-le}
-use Rattle.walk.specs.declared.plan.Head.{Head}
 use Rattle.sets.specs.SetPlan.{coefficient_count, list_count, own_step_count}
-use Rattle.sets.proofs.HeadLaws.{SizesMost, sizes_most}
+use Rattle.sets.proofs.HeadLaws.{sizes_most}
 use Rattle.set_plan.proofs.CountLaws.{fits_here, coefficients_from_lem, lists_from, steps_from_lem, counts_none, sizes_summed}
 use Rattle.set_plan.proofs.record.total_sizes.Goals as goal
 

@@ -1,6 +1,5 @@
 -- `sets::marks::greatest_power` meets its contract. The invariant: none of the members passed may need a power above the greatest so far.
 use mathlib.Core.Path.{◌≡◌, ◌∙◌, ap₂}
-use Prim.Native.Nat.{◌≤◌}
 use native.Mathlib.Omega.{arith}
 use borrow.Author.Rules.{rules}
 use Rattle.std.specs.Prelude.{max}
