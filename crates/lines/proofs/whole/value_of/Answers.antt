@@ -1,7 +1,7 @@
 -- `lines::whole::value_of` meets its contract: the digits behind the minus, if there is one, say a number below 10^18, which gets its sign.
-use Rattle.std.proofs.Common.{refl, ap, ◌∙◌}
+use Rattle.std.proofs.Common.{ap, ap₂, ◌∙◌}
 use Rattle.number.proofs.Signed.{back}
-use Rattle.lines.specs.Whole.{is_number, unsigned, is_whole, value_of}
+use Rattle.lines.specs.Whole.{is_number, number_of, unsigned, with_sign, is_whole, value_of}
 use Rattle.lines.proofs.WholeLaws.{number_small}
 use Rattle.lines.proofs.whole.value_of.Goals as goal
 
@@ -15,4 +15,6 @@ with_sign-requires c = rw (c.number_of-number.ensures, c.unsigned.ensures) (numb
 
 pub returns : goal.returns
 unfolding value_of
-returns c = back c.with_sign.type_inv c.with_sign.ensures ∙ rw (c.is_minus-minus.ensures, c.number_of-number.ensures, c.unsigned.ensures) refl
+returns c =
+    back c.with_sign.type_inv c.with_sign.ensures
+    ∙ ap₂ with_sign c.is_minus-minus.ensures (c.number_of-number.ensures ∙ ap number_of c.unsigned.ensures)
