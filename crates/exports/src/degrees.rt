@@ -71,12 +71,7 @@ pub extern "C" fn firrozun_bsgs_eval_depth(strategy: u8, degree: usize) -> CDept
     CDepth::from(eval_depth(strategy, degree))
 }
 
-fn consumed_bits(
-    strategy: u8,
-    degree: usize,
-    input: usize,
-    coeff: usize,
-) -> Result<usize, Refusal>
+fn consumed_bits(strategy: u8, degree: usize, input: usize, coeff: usize) -> Result<usize, Refusal>
     ensures { flat_bits (bits_in result) ≡ bits_flat strategy degree input coeff }
 {
     bsgs_consumed_bits(SplitStrategy::try_from(strategy)?, degree, input, coeff)

@@ -8,6 +8,7 @@ use firrozun::{Coefficient, Listing, Refusal, decompose_bsgs};
 use flat::flat::CListed;
 use flat::kinds::settings_of;
 
+// Lists coefficients of either type, by numbers.
 fn listed<C: Coefficient>(
     strategy: u8,
     parity: u8,

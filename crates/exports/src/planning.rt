@@ -12,6 +12,7 @@ use flat::flat::{CChain, CTrial};
 use flat::head::{CHead, CPlanned};
 use flat::kinds::{fold_of, settings_of};
 
+// Plans by numbers. The many arguments are those of the C call.
 fn planned(
     strategy: u8,
     parity: u8,
@@ -48,11 +49,10 @@ pub extern "C" fn firrozun_plan(
     ensures { PlanFlat strategy parity basis fold c.now a b out.old bounds.old steps.old
         result out.new bounds.new steps.new }
 {
-    CPlanned::from(planned(
-        strategy, parity, basis, fold, c, a, b, out, bounds, steps,
-    ))
+    CPlanned::from(planned(strategy, parity, basis, fold, c, a, b, out, bounds, steps))
 }
 
+// Walks the plan of a head of numbers.
 fn walked(
     head: CHead,
     coefficients: &[i64],
@@ -63,7 +63,14 @@ fn walked(
 ) -> Result<u64, Refusal>
     ensures { flat_trial (trial_in result) ≡ trial_flat head coefficients.now bounds.now steps.now point modulus }
 {
-    trial_walk(Head::try_from(head)?, coefficients, bounds, steps, point, modulus)
+    trial_walk(
+        Head::try_from(head)?,
+        coefficients,
+        bounds,
+        steps,
+        point,
+        modulus,
+    )
 }
 
 #[unsafe(no_mangle)]
@@ -80,6 +87,7 @@ pub extern "C" fn firrozun_trial_walk(
     CTrial::from(walked(head, coefficients, bounds, steps, point, modulus))
 }
 
+// Returns the weight of the heaviest chain of a head of numbers.
 fn chain(
     head: CHead,
     coefficients: &[i64],
@@ -90,7 +98,14 @@ fn chain(
 ) -> Result<u64, Refusal>
     ensures { flat_chain (chain_in result) ≡ chain_flat head coefficients.now bounds.now steps.now input coeff }
 {
-    heaviest_chain(Head::try_from(head)?, coefficients, bounds, steps, input, coeff)
+    heaviest_chain(
+        Head::try_from(head)?,
+        coefficients,
+        bounds,
+        steps,
+        input,
+        coeff,
+    )
 }
 
 #[unsafe(no_mangle)]

@@ -7,6 +7,7 @@ use firrozun::{Refusal, rebuild};
 use flat::flat::CRebuilt;
 use flat::kinds::settings_of;
 
+// Rebuilds by numbers. The many arguments are those of the C call.
 fn rebuilt(
     strategy: u8,
     parity: u8,
@@ -38,7 +39,5 @@ pub extern "C" fn firrozun_rebuild(
     ensures { RebuildFlat strategy parity basis degree base lists.now bounds.now out.old
         result out.new }
 {
-    CRebuilt::from(rebuilt(
-        strategy, parity, basis, degree, base, lists, bounds, out,
-    ))
+    CRebuilt::from(rebuilt(strategy, parity, basis, degree, base, lists, bounds, out))
 }

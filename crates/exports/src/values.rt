@@ -14,12 +14,8 @@ use firrozun::{
 };
 use flat::flat::{CConverted, CFolded, CInterpolated, CInterval, CValue};
 
-fn folded<C: Coefficient>(
-    parity: u8,
-    basis: u8,
-    c: &[C],
-    out: &mut [C],
-) -> Result<Fold, Refusal>
+// Folds coefficients of either type, by numbers.
+fn folded<C: Coefficient>(parity: u8, basis: u8, c: &[C], out: &mut [C]) -> Result<Fold, Refusal>
     ensures { FoldFlat C.numbers parity basis c.now out.old (flat_folded (folded_in result)) out.new }
 {
     fold_parity(Parity::try_from(parity)?, Basis::try_from(basis)?, c, out)

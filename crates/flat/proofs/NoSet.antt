@@ -7,7 +7,6 @@ use Rattle.std.specs.Result.{IsErrAnd}
 use Rattle.number.specs.declared.refusal.Refusal.{Refusal}
 use Rattle.number.specs.declared.refusal.Refusal.TheVariants.{UnknownKind}
 use Rattle.lists.specs.Lists.{joined}
-use Rattle.plan.specs.PlanHead.{no_head}
 use Rattle.plan.specs.Reported.{of_kind}
 use Rattle.sets.specs.Members.{total}
 use Rattle.sets.specs.SetCall.{SetPlanned, no_set, set_in}

@@ -1,6 +1,5 @@
 -- What numbers from C are read as: what they mean if every kind is known, else refusal 43.
-use Rattle.std.specs.Prelude.{◌≡◌, Bool, true, false, ℕ, Result, MatchResult, Float}
-use Rattle.number.specs.Interval.{no_interval}
+use Rattle.std.specs.Prelude.{◌≡◌, Bool, true, false, ℕ, Result, MatchResult}
 use Rattle.number.specs.declared.refusal.Refusal.{Refusal}
 use Rattle.number.specs.declared.refusal.Refusal.TheVariants.{UnknownKind}
 use Rattle.counts.specs.declared.settings.Settings.{Settings}

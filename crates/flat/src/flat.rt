@@ -57,10 +57,7 @@ impl From<Result<usize, Refusal>> for CSplit {
 
     fn from(answer: Result<usize, Refusal>) -> Self {
         match answer {
-            Ok(split) => CSplit {
-                refusal: 0,
-                split,
-            },
+            Ok(split) => CSplit { refusal: 0, split },
             Err(refusal) => CSplit {
                 refusal: u8::from(refusal),
                 split: 0,
@@ -108,10 +105,7 @@ impl From<Result<usize, Refusal>> for CDepth {
 
     fn from(answer: Result<usize, Refusal>) -> Self {
         match answer {
-            Ok(depth) => CDepth {
-                refusal: 0,
-                depth,
-            },
+            Ok(depth) => CDepth { refusal: 0, depth },
             Err(refusal) => CDepth {
                 refusal: u8::from(refusal),
                 depth: 0,
@@ -132,10 +126,7 @@ impl From<Result<usize, Refusal>> for CBits {
 
     fn from(answer: Result<usize, Refusal>) -> Self {
         match answer {
-            Ok(bits) => CBits {
-                refusal: 0,
-                bits,
-            },
+            Ok(bits) => CBits { refusal: 0, bits },
             Err(refusal) => CBits {
                 refusal: u8::from(refusal),
                 bits: 0,
@@ -156,10 +147,7 @@ impl From<Result<usize, Refusal>> for CDegree {
 
     fn from(answer: Result<usize, Refusal>) -> Self {
         match answer {
-            Ok(degree) => CDegree {
-                refusal: 0,
-                degree,
-            },
+            Ok(degree) => CDegree { refusal: 0, degree },
             Err(refusal) => CDegree {
                 refusal: u8::from(refusal),
                 degree: 0,
@@ -210,10 +198,7 @@ impl From<Result<usize, Refusal>> for CConverted {
 
     fn from(answer: Result<usize, Refusal>) -> Self {
         match answer {
-            Ok(count) => CConverted {
-                refusal: 0,
-                count,
-            },
+            Ok(count) => CConverted { refusal: 0, count },
             Err(refusal) => CConverted {
                 refusal: u8::from(refusal),
                 count: 0,
@@ -235,10 +220,7 @@ impl From<Result<f64, Refusal>> for CValue {
 
     fn from(answer: Result<f64, Refusal>) -> Self {
         match answer {
-            Ok(value) => CValue {
-                refusal: 0,
-                value,
-            },
+            Ok(value) => CValue { refusal: 0, value },
             Err(refusal) => CValue {
                 refusal: u8::from(refusal),
                 value: 0.0,
@@ -443,10 +425,7 @@ impl From<Result<u64, Refusal>> for CChain {
 
     fn from(answer: Result<u64, Refusal>) -> Self {
         match answer {
-            Ok(weight) => CChain {
-                refusal: 0,
-                weight,
-            },
+            Ok(weight) => CChain { refusal: 0, weight },
             Err(refusal) => CChain {
                 refusal: u8::from(refusal),
                 weight: 0,

@@ -67,6 +67,7 @@ impl TryFrom<CMembers> for Members {
 
     fn try_from(handed: CMembers) -> Result<Self, Refusal> {
         let mut members = [no_member(); MEMBERS];
+        // By index, since a proof does not know what is written through an `iter_mut`.
         for i in 0..MEMBERS.min(handed.count) {
             members[i] = Member::try_from(handed.members[i])?;
         }

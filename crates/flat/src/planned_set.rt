@@ -30,6 +30,7 @@ impl From<CurveSet> for CCurveSet {
 
     fn from(set: CurveSet) -> Self {
         let mut heads = [no_head(); MEMBERS];
+        // By index, since a proof does not know what is written through an `iter_mut`.
         for i in 0..MEMBERS {
             heads[i] = CHead::from(set.heads[i]);
         }

@@ -1,6 +1,4 @@
 // The fields of a line, and those that are words, letters or whole numbers.
-ghost use Rattle.std.specs.Prelude.{◌≤◌};
-
 use crate::numeral::{digits_value, real_value, same, signed_value};
 use number::Refusal;
 

@@ -1,5 +1,5 @@
 // The lines of an input, any number of them.
-ghost use Rattle.std.specs.Prelude.{◌*◌, ◌<◌, ◌≤◌, length, IfOk, IfSome};
+ghost use Rattle.std.specs.Prelude.{◌<◌, ◌≤◌, length, IfOk, IfSome};
 
 use std::io;
 use std::io::{ErrorKind, Read};

@@ -45,5 +45,5 @@ returns c =
     let handed = c.args.handed in
     let inv = c.loop-i.invariant in
     let past : length (take handed.count handed.members) ≤ c.loop-i.i =
-        omega (arith, length-take handed.count handed.members, inv.places, c.min-i-end.ensures, c.loop-i-test.false) in
+    omega (arith, length-take handed.count handed.members, inv.places, c.min-i-end.ensures, c.loop-i-test.false) in
     (inv.rest ∙ known_end handed.count c.loop-i.i handed.members past, refl, filled_taken member_meant handed.members handed.count inv.upto past)
