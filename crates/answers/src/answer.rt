@@ -23,7 +23,16 @@ fn put_planned(
     ensures { Put out.old at (text_for line.settings.strategy line.settings.parity line.settings.basis line.fold c.now)
         out.new result }
 {
-    let made = plan(line.settings, line.fold, c, -1.0, 1.0, planned, bounds, steps);
+    let made = plan(
+        line.settings,
+        line.fold,
+        c,
+        -1.0,
+        1.0,
+        planned,
+        bounds,
+        steps,
+    );
     match made {
         Ok(head) => put_plan(head, planned, bounds, steps, at, out),
         Err(refusal) => put_refusal(refusal, at, out),

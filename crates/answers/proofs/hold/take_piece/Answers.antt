@@ -12,7 +12,7 @@ returns-in_default c =
     take_rest c.args.block.now c.args.at in
     piece_rest c.requires.at_in_bounds c.requires.line_len
     (IsFirst-from_position _ _ None (λ b. b ≡ line_feed) (λ b. b ≢ line_feed) c.in_default.ensures.ran
-      (YieldsList-from_slice (drop c.args.at c.args.block.now) (c.iter.ensures.rest ∙ rest)) (λ x q k. search (rules, tests)) (λ x q k. search (rules, tests)))
+    (YieldsList-from_slice (drop c.args.at c.args.block.now) (c.iter.ensures.rest ∙ rest)) (λ x q k. search (rules, tests)) (λ x q k. search (rules, tests)))
     (rw rest at c.hold.ensures)
 
 pub returns : goal.returns
@@ -21,5 +21,5 @@ returns c =
     take_rest c.args.block.now c.args.at in
     piece_whole c.requires.at_in_bounds c.requires.line_len
     (IsFirst-from_position _ _ (Some c.in-Some.end) (λ b. b ≡ line_feed) (λ b. b ≢ line_feed) c.in-Some.ensures.ran
-      (YieldsList-from_slice (drop c.args.at c.args.block.now) (c.iter.ensures.rest ∙ rest)) (λ x q k. search (rules, tests)) (λ x q k. search (rules, tests)))
+    (YieldsList-from_slice (drop c.args.at c.args.block.now) (c.iter.ensures.rest ∙ rest)) (λ x q k. search (rules, tests)) (λ x q k. search (rules, tests)))
     (rw rest at c.hold-2.ensures)
