@@ -2,6 +2,7 @@ pub mod Operations
 pub mod Ring
 pub mod Homomorphism
 pub mod EnumNumbers
+pub mod Decodes
 pub mod Power
 pub mod Value
 pub mod Allowed

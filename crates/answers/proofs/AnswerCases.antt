@@ -6,7 +6,7 @@ use mathlib.Core.List.{List, [], ◌∷◌, append-nil}
 use Prim.Native.Nat.{ℕ, ◌<◌, ◌≤◌}
 use native.Mathlib.Omega.{arith}
 use Rattle.number.specs.Refusal.{Test, first_refusal}
-use Rattle.number.proofs.Refusal.{first_most, when_refused, when_accepted}
+use Rattle.number.proofs.FirstRefusal.{first_most, when_refused, when_accepted}
 use Rattle.lists.specs.Lists.{joined}
 use Rattle.plan.specs.PlanCall.{input_tests, Accepted}
 use Rattle.plan.proofs.PlanTests.{inputs_to}

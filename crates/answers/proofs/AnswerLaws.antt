@@ -14,15 +14,13 @@ use Rattle.algebra.specs.declared.Parity.{Parity}
 use Rattle.number.specs.Limits.{plan_limit}
 use Rattle.number.specs.Tests.{degree_of}
 use Rattle.number.specs.Refusal.{first_refusal, unless_refused}
-use Rattle.number.proofs.Refusal.{first_kept, refusal_of, when_refused, when_accepted}
+use Rattle.number.proofs.FirstRefusal.{first_kept, refusal_of, when_refused, when_accepted}
 use Rattle.counts.specs.declared.choice.SplitStrategy.{SplitStrategy}
 use Rattle.lists.specs.Lists.{joined}
-use Rattle.plan.specs.PlanCall.{input_tests, Accepted, early_tests, head_for, plan_refusal, plan_answer, PlanCall}
-use Rattle.plan.specs.declared.call.Planned.{Planned}
+use Rattle.plan.specs.PlanCall.{input_tests, Accepted, early_tests, head_for, plan_refusal, plan_answer, PlanCall, Planned}
 use Rattle.plan.proofs.PlanTests.{early_kept}
 use Rattle.lines.specs.Line.{is_line, basis_in, parity_in, strategy_in, fold_in, coefficients_in}
-use Rattle.lines.specs.ReadLine.{line_refusal, line_answer, line_buffer, ReadLine}
-use Rattle.lines.specs.declared.read.Line.{Line}
+use Rattle.lines.specs.ReadLine.{Line, line_refusal, line_answer, line_buffer, ReadLine}
 use Rattle.lines.proofs.BufferHolds.{buffers_hold}
 use Rattle.texts.specs.Text.{refusal_line}
 use Rattle.texts.specs.PlanText.{lines_of, plan_text}
@@ -65,8 +63,8 @@ module _ (strategy : SplitStrategy) (parity : Parity) (basis : Basis) (folded : 
     -- the rooms are long enough, and the bounds are in order, so that only the polynomial is refused
     brings : Accepted folded parity c → BringsPlan strategy parity basis folded c minus_one plus_one planned bounds steps
     brings accepted =
-        rooms_enough strategy parity basis folded c minus_one plus_one planned bounds steps accepted ones_ordered room.planned_room
-        room.boundary_room room.step_room_lem
+        rooms_enough strategy parity basis folded c minus_one plus_one planned bounds steps accepted ones_ordered room.planned_long
+        room.bounds_long room.steps_long
 
     by_input : (k : ℕ) → first_refusal (input_tests folded parity c) ≡ k
         → plan_refusal strategy parity basis folded c minus_one plus_one planned bounds steps ≡ first_refusal (input_tests folded parity c)

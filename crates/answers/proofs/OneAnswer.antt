@@ -6,7 +6,7 @@ use Prim.Native.Nat.{ℕ, zero, suc, ◌<◌}
 use native.Mathlib.Omega.{arith}
 use native.Mathlib.Decide.{ℕ_discrete}
 use lib.ListN.{length, get_or}
-use Rattle.number.proofs.Refusal.{refusals_say, when_accepted, when_refused}
+use Rattle.number.proofs.FirstRefusal.{refusals_say, when_accepted, when_refused}
 use Rattle.lines.specs.Bytes.{letter_h}
 use Rattle.lines.specs.Line.{fold_in, parity_in, coefficients_in}
 use Rattle.texts.specs.Text.{line_text, refusal_line}

@@ -18,9 +18,8 @@ use Rattle.counts.specs.declared.choice.SplitStrategy.{SplitStrategy}
 use Rattle.lists.specs.Tree.{relists}
 use Rattle.plan.specs.PlanHead.{head_of}
 use Rattle.plan.specs.PlanCall.{planned_parity, Accepted, planned_degree, head_for}
-use Rattle.plan.specs.PlanSizes.{HasSizes}
+use Rattle.plan.specs.PlanSizes.{HasSizes, PlanSizes}
 use Rattle.plan.specs.inside.Outlines.{outline_for}
-use Rattle.plan.specs.declared.sizes.PlanSizes.{PlanSizes}
 use Rattle.plan.proofs.StepCounts.{steps_counted}
 use Rattle.plan.proofs.HeadCounts.{OutlineRange, outline_range}
 use Rattle.demands.specs.Accepts.{BringsPlan}

@@ -107,7 +107,7 @@ pub record SoFar (block : List ℕ) (from : ℕ) (line₀ : List ℕ) (held : �
   pub put : Put out₀ 0 (turn_text (take held line₀) (between from at block)) out text
   pub text_within : text ≤ length out₀
   pub line_held : take kept line ≡ turn_held (take held line₀) (between from at block)
-  pub line_room_lem : length line ≡ line_room
+  pub line_size : length line ≡ line_room
   pub kept_within : kept ≤ length line
 
 between_join : (block : List ℕ) (from at to : ℕ) → from ≤ at → at ≤ to → between from to block ≡ between from at block ++ between at to block
@@ -141,7 +141,7 @@ module _ {block line₀ out₀ : List ℕ} {from held : ℕ} where
         put = put_same (put_none out₀ 0) (sym (none_written block from first));
         text_within = omega arith;
         line_held = sym (none_held block from first (omega (arith, length-take held line₀)));
-        line_room_lem = room;
+        line_size = room;
         kept_within = fits;
       }
 
@@ -172,18 +172,18 @@ module _ {block line₀ out₀ : List ℕ} {from held : ℕ} where
               ∙ ap (λ (l : List ℕ). turn_held l part) done.line_held
               ∙ sym (turn_held_append first taken_part part)
               ∙ ap (turn_held first) (sym join);
-          line_room_lem = same ∙ done.line_room_lem;
+          line_size = same ∙ done.line_size;
           kept_within = omega (arith, held_after_most piece, taken.held_within);
         }
 
     pub so_far_end : length line₀ ≡ line_room → text_limit ≤ length out₀ → (at < length block → length out₀ < text + text_limit)
         → TakeTurn block from line₀ held out₀ line out (record { read = at; held = kept; text = text })
-    so_far_end room_before text_room_lem full =
+    so_far_end room_before text_size full =
         record {
           text = done.put;
           text_within = done.text_within;
           line_held = done.line_held;
-          held_within = omega (arith, done.kept_within, done.line_room_lem);
+          held_within = omega (arith, done.kept_within, done.line_size);
           onward = λ some. not_none some (leb at from) refl;
           within = done.within;
           full = full;

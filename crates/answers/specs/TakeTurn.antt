@@ -8,13 +8,13 @@ use Rattle.answers.specs.declared.turn.Turn.{Turn}
 
 -- what it asks of the lent buffers
 pub record TurnRoom (line : List ℕ) (held : ℕ) (coefficients planned : List ℤ) (bounds steps out : List ℕ) : Type 0 where
-  pub line_room_lem : length line ≡ line_room
+  pub line_size : length line ≡ line_room
   pub held_within : held ≤ length line
-  pub coefficient_room_lem : coefficient_room ≤ length coefficients
-  pub planned_room : list_room ≤ length planned
-  pub boundary_room : list_room ≤ length bounds
-  pub step_room_lem : step_room ≤ length steps
-  pub text_room_lem : length out ≡ text_room
+  pub coefficients_long : coefficient_room ≤ length coefficients
+  pub planned_long : list_room ≤ length planned
+  pub bounds_long : list_room ≤ length bounds
+  pub steps_long : step_room ≤ length steps
+  pub text_size : length out ≡ text_room
 
 -- the part of the block that it takes
 abbrev pub part_taken : (block : List ℕ) (from : ℕ) → Turn → List ℕ

@@ -18,7 +18,7 @@ pub struct Turn {
     pub text: usize,
 }
 
-// The text of the answer to a line that a piece ends; nothing for one that it doesn't end.
+// Puts the text of the answer to a line that a piece ends, nothing for one that it doesn't end, and returns the place behind it.
 fn put_piece(
     piece: Piece,
     line: &[u8],
@@ -47,7 +47,7 @@ fn held_after(piece: Piece) -> usize
     if piece.whole { 0 } else { piece.held }
 }
 
-// The lines of a block from `from` on: their answers are put into `out` while it has room for one more of any length.
+// Takes the lines of a block from `from` on, and puts their answers into `out` while it has room for one more of any length.
 pub fn take_turn(
     block: &[u8],
     from: usize,
@@ -67,6 +67,7 @@ pub fn take_turn(
     let mut at = from;
     let mut kept = held;
     let mut text = 0;
+    // Not a `for`: each piece says where the next one begins.
     while at < block.len() {
         if most < text {
             break;
@@ -83,7 +84,7 @@ pub fn take_turn(
     }
 }
 
-// The text at the input's end: the answer to the line that has not ended, if a byte of it is held.
+// Puts the text at the input's end, the answer to the line that has not ended, if a byte of it is held, and returns its length.
 pub fn put_end(
     line: &[u8],
     held: usize,

@@ -1,3 +1,4 @@
 mod Zeros
+mod NoChain
 mod TableLaws
 pub mod ZerosWeighed

@@ -5,13 +5,12 @@ use Rattle.algebra.specs.declared.Basis.{Basis}
 use Rattle.algebra.specs.declared.Basis.TheVariants.{Monomial}
 use Rattle.algebra.specs.declared.Parity.{Parity}
 use Rattle.algebra.specs.declared.Parity.TheVariants.{Full}
-use Rattle.counts.specs.Calls.{bits_call}
+use Rattle.counts.specs.Calls.{ConsumedBits, bits_call}
 use Rattle.counts.specs.declared.choice.SplitStrategy.{SplitStrategy}
 use Rattle.counts.specs.declared.choice.SplitStrategy.TheVariants.{MinDepth}
-use Rattle.counts.specs.declared.consumed.ConsumedBits.{ConsumedBits}
 use Rattle.lines.specs.Letters.{bases, parities, strategies, says}
 use Rattle.walk.specs.Chain.{chain_of}
-use Rattle.walk.specs.declared.chain.Chain.{Chain}
+use Rattle.walk.specs.Chain.{Chain}
 use Rattle.plan.specs.PlanCall.{plan_answer, plan_coefficients, plan_boundaries, plan_numbers}
 use Rattle.answers.specs.Limits.{list_room, step_room}
 use Rattle.answers.specs.LineInterval.{minus_one, plus_one}

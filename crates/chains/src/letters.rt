@@ -1,6 +1,11 @@
 // The settings without folding, by their letters: strategy changes fastest, then parity, then basis.
 ghost use Rattle.std.specs.Prelude.{◌≡◌};
 ghost use Rattle.chains.specs.Letters.{letters_at};
+ghost use Rattle.chains.specs.ZeroChain.{basis_of, parity_of, strategy_of};
+
+use algebra::{Basis, Parity};
+use counts::SplitStrategy;
+use lines::letter;
 
 // The letters of basis, parity and strategy.
 #[derive(Clone, Copy)]
@@ -8,6 +13,27 @@ pub struct Letters {
     pub basis: u8,
     pub parity: u8,
     pub strategy: u8,
+}
+
+impl Letters {
+    // What each letter says. The letters of a setting all say something, and what any other would say is never asked.
+    pub fn said_basis(self) -> Basis
+        ensures { result ≡ basis_of self }
+    {
+        letter::basis_of(self.basis).unwrap_or(Basis::Monomial)
+    }
+
+    pub fn said_parity(self) -> Parity
+        ensures { result ≡ parity_of self }
+    {
+        letter::parity_of(self.parity).unwrap_or(Parity::Full)
+    }
+
+    pub fn said_strategy(self) -> SplitStrategy
+        ensures { result ≡ strategy_of self }
+    {
+        letter::strategy_of(self.strategy).unwrap_or(SplitStrategy::MinDepth)
+    }
 }
 
 // The letters of setting k.

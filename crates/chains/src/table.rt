@@ -28,10 +28,8 @@ fn put_degree(out: &mut [u8], at: usize, degree: usize) -> usize
     ensures { Put out.old at (degree_text degree) out.new result × (result ≤ at + degree_room) }
 {
     let mut next = at;
-    let mut k = 0;
-    while k < 12 {
+    for k in 0..12 {
         next = put_line_at(out, next, degree, k);
-        k += 1;
     }
     next
 }
@@ -41,10 +39,8 @@ pub fn put_chains(out: &mut [u8]) -> usize
     ensures { Put out.old 0 chains_text out.new result × (result ≤ table_room) }
 {
     let mut next = 0;
-    let mut degree = 2;
-    while degree < 512 {
+    for degree in 2..512 {
         next = put_degree(out, next, degree);
-        degree += 1;
     }
     next
 }

@@ -5,8 +5,7 @@ ghost use Rattle.chains.specs.ZeroChain.{no_coefficients, no_bounds, no_steps, z
 
 use crate::letters::Letters;
 use answers::{LIST_ROOM, STEP_ROOM};
-use firrozun::{bsgs_consumed_bits, heaviest_chain, plan};
-use lines::letter::{basis_of, parity_of, strategy_of};
+use firrozun::{Settings, bsgs_consumed_bits, heaviest_chain, plan};
 
 // The scales.
 const INPUT: usize = 30;
@@ -41,10 +40,13 @@ pub fn weigh_zeros(letters: Letters, degree: usize) -> u64
     let mut coefficients = no_coefficients();
     let mut bounds = no_bounds();
     let mut steps = no_steps();
+    let settings = Settings {
+        strategy: letters.said_strategy(),
+        parity: letters.said_parity(),
+        basis: letters.said_basis(),
+    };
     let planned = plan(
-        strategy_of(letters.strategy),
-        parity_of(letters.parity),
-        basis_of(letters.basis),
+        settings,
         false,
         &curve[..degree + 1],
         -1.0,
@@ -53,15 +55,18 @@ pub fn weigh_zeros(letters: Letters, degree: usize) -> u64
         &mut bounds,
         &mut steps,
     );
-    let head = planned.head;
-    let chain = heaviest_chain(head, &coefficients, &bounds, &steps, INPUT, COEFF);
-    chain.weight
+    // A zero curve of degree 1 or more is never refused, nor is its plan's chain (specs/ZerosWeighed); what is refused has no weight.
+    match planned {
+        Ok(head) => {
+            heaviest_chain(head, &coefficients, &bounds, &steps, INPUT, COEFF).unwrap_or(0)
+        }
+        Err(_refusal) => 0,
+    }
 }
 
-// The bits of the closed form.
+// The bits of the closed form, which refuses no degree up to its limit.
 pub fn closed_bits(letters: Letters, degree: usize) -> u64
     ensures { result ≡ (closed_bits letters degree).bits }
 {
-    let consumed = bsgs_consumed_bits(strategy_of(letters.strategy), degree, INPUT, COEFF);
-    consumed.bits as u64
+    bsgs_consumed_bits(letters.said_strategy(), degree, INPUT, COEFF).unwrap_or(0) as u64
 }

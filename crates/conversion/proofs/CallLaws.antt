@@ -14,10 +14,9 @@ use Rattle.algebra.specs.declared.Basis.{Basis}
 use Rattle.number.specs.Limits.{sum_limit}
 use Rattle.number.specs.Numbers.{whole_numbers}
 use Rattle.number.specs.Refusal.{Numbered, NoneHolds}
-use Rattle.number.proofs.Refusal.{none_holds, refusal_of, when_refused, when_accepted}
+use Rattle.number.proofs.FirstRefusal.{none_holds, refusal_of, when_refused, when_accepted}
 use Rattle.bases.specs.Convert.{is_whole, converted}
-use Rattle.conversion.specs.ConvertCall.{convert_tests, refusal_for, convert_answer, convert_buffer, ConvertCall}
-use Rattle.conversion.specs.declared.call.Converted.{Converted}
+use Rattle.conversion.specs.ConvertCall.{Converted, convert_tests, refusal_for, convert_answer, convert_buffer, ConvertCall}
 
 -- ---- the ways out
 

@@ -1,8 +1,8 @@
 -- Rows in lists of 21 places: a place from its neighbours, the next row from the two before it, the first two rows, and how large their places are.
 use mathlib.Core.Path.{◌≡◌, refl, sym, ◌∙◌, ap, ap₂, fun_ext}
-use mathlib.Core.Bool.{Bool, true, false, cond}
+use mathlib.Core.Bool.{Bool, false, cond}
 use mathlib.Core.List.{List}
-use Prim.Native.Nat.{ℕ, zero, suc, ◌+◌, ◌-◌, ◌^◌, ◌≤◌, ◌<◌}
+use Prim.Native.Nat.{ℕ, zero, suc, ◌+◌, ◌≤◌, ◌<◌}
 use native.Mathlib.Decide.{ℕ_discrete, dec_le}
 use native.Mathlib.Numerals.{add-one}
 use native.Mathlib.Omega.{arith}
@@ -15,11 +15,10 @@ use Rattle.algebra.specs.Operations.{whole_ops, double}
 use Rattle.algebra.specs.declared.Basis.{Basis}
 use Rattle.algebra.specs.declared.Basis.TheVariants.{Monomial, Chebyshev}
 use Rattle.algebra.proofs.Integers.{integers}
-use Rattle.algebra.proofs.Magnitudes.{abs_double}
 use Rattle.bases.specs.Rows.{unit_row, next_row, row_of}
 use Rattle.bases.proofs.Convert.{length_tabulate, get_d_tabulate}
 use Rattle.bases.proofs.Rows.{row_zero, row_one, row_step, row_above, unit_same, unit_other}
-use Rattle.conversion.specs.inside.Converting.{places_of, left_of, twice_at_one, place_of, next_places, RowsFit, IsRow}
+use Rattle.conversion.specs.inside.Converting.{places_of, left_of, place_of, next_places, RowsFit, IsRow}
 use Rattle.conversion.proofs.Growth.{row_small}
 
 -- ---- the next row
@@ -90,26 +89,3 @@ rows_fit to n last before low last_long before_long last-is before_is = record {
   last_small = λ i. omega (arith, is_small to (suc n) last low last-is i);
   before_small = λ i. let under : n ≤ 20 = omega arith in omega (arith, is_small to n before under before_is i);
 }
-
--- twice a place, or a place
-pub twice_small : (i : ℕ) (x : ℤ) → nat_abs x ≤ 2 ^ 32 → nat_abs (twice_at_one i x) ≤ 2 ^ 52
-twice_small i x small = by_test (eqb i 1)
-  where
-    by_test : (b : Bool) → nat_abs (cond b (double whole_ops x) x) ≤ 2 ^ 52
-    by_test true = omega (arith, abs_double x)
-    by_test false = omega arith
-
--- ---- to the left
-
-pub left_none : (row : List ℤ) (i : ℕ) → i ≡ 0 → left_of row i ≡ pos 0
-left_none row zero is = refl
-left_none row (suc i) is = absurd (omega arith)
-
-pub left_some : (row : List ℤ) (i : ℕ) → 0 < i → left_of row i ≡ places_of row (i - 1)
-left_some row zero some = absurd (omega arith)
-left_some row (suc i) some = let less : i ≡ suc i - 1 = omega arith in ap (places_of row) less
-
--- so it is as small as the places are
-pub left_small : (row : List ℤ) (m : ℕ) → ((i : ℕ) → nat_abs (places_of row i) ≤ m) → (i : ℕ) → nat_abs (left_of row i) ≤ m
-left_small row m small zero = omega arith
-left_small row m small (suc i) = small i

@@ -1,17 +1,14 @@
--- What the code asks of denominators, quotients and sums: they fit i64, since quotients are at most 2^30 together and a row's places at most 3^20.
+-- What the code asks of the sums: they fit i64, since quotients are at most 2^30 together and a row's places at most 3^20.
 use mathlib.Core.Path.{◌≡◌, sym, ◌∙◌, ap, ap₂}
 use mathlib.Core.List.{List}
-use Prim.Native.Nat.{ℕ, zero, suc, ◌+◌, ◌-◌, ◌*◌, ◌^◌, ◌/◌, ◌≤◌, ◌<◌}
-use native.Mathlib.Nat.{mul-le-mul, div-le_self}
+use Prim.Native.Nat.{ℕ, zero, suc, ◌+◌, ◌*◌, ◌^◌, ◌≤◌, ◌<◌}
+use native.Mathlib.Nat.{mul-le-mul}
 use native.Mathlib.Omega.{arith}
-use lib.IntN.{ℤ, pos, negsuc, neg_ℤ, nat_abs, ◌+ℤ◌, ◌*ℤ◌}
+use lib.IntN.{ℤ, pos, nat_abs, ◌+ℤ◌, ◌*ℤ◌}
 use lib.ListN.{length, replicate, take}
-use lib.Pow.{pow_pos, pow_mono}
-use lib.Signed.{mag, quot_z}
 use Rattle.algebra.specs.Magnitude.{sum_abs}
 use Rattle.algebra.specs.Operations.{whole_ops}
 use Rattle.algebra.specs.declared.Basis.{Basis}
-use Rattle.algebra.specs.declared.Basis.TheVariants.{Monomial, Chebyshev}
 use Rattle.algebra.proofs.Magnitudes.{abs_add, abs_mul, abs_get_d, sum_abs_take, sum_abs_take_suc}
 use Rattle.algebra.proofs.Sums.{sum_none, sum_suc}
 use Rattle.bases.specs.Rows.{denominator, row_of}
@@ -19,27 +16,6 @@ use Rattle.bases.specs.Convert.{quotient_of, new_coefficient, tabulate, converte
 use Rattle.bases.proofs.Convert.{length_tabulate, get_d_tabulate, tabulate_ext, tabulate_constant, quotient_small}
 use Rattle.conversion.specs.inside.Converting.{places_of, IsRow, Convertible, with_row, TermsFit, part_of}
 use Rattle.conversion.proofs.Growth.{row_small}
-
--- ---- denominators
-
-pub denominator_some : (to : Basis) (n : ℕ) → 0 < denominator to n
-denominator_some Monomial n = omega arith
-denominator_some Chebyshev n = pow_pos (n - 1)
-
-pub denominator_small : (to : Basis) (n : ℕ) → n ≤ 20 → denominator to n ≤ 2 ^ 20
-denominator_small Monomial n low = omega arith
-denominator_small Chebyshev n low = let less : n - 1 ≤ 20 = omega arith in pow_mono less
-
--- ---- quotients
-
-mag_neg : (k n : ℕ) → k ≤ suc n → mag (neg_ℤ (pos k)) ≤ n
-mag_neg zero n h = omega arith
-mag_neg (suc k) n h = omega arith
-
--- a quotient fits where the number does
-pub quotient_mag : (z : ℤ) (m : ℕ) → mag (quot_z z (pos m)) ≤ mag z
-quotient_mag (pos n) m = div-le_self n m
-quotient_mag (negsuc n) m = mag_neg (suc n / m) n (div-le_self (suc n) m)
 
 -- ---- the sums of the first n terms
 

@@ -1,21 +1,21 @@
 -- The tests of the conversion call in two parts, over plain values: each way out of them, what a call that they pass knows, and what it answers and leaves.
 use mathlib.Core.Path.{◌≡◌, sym, ◌∙◌, ap}
 use mathlib.Core.Bool.{true, false, not}
-use mathlib.Core.List.{List, [], ◌∷◌}
-use Prim.Native.Nat.{ℕ, zero, suc, ◌-◌, ◌≤◌, ◌<◌}
+use mathlib.Core.List.{List, [], ◌∷◌, ◌++◌}
+use Prim.Native.Nat.{ℕ, zero, suc, ◌+◌, ◌-◌, ◌≤◌, ◌<◌}
 use native.Mathlib.Omega.{arith}
 use borrow.Author.Tests.{ltb-false, leb-true, not-false}
 use lib.Dec.{ltb}
 use lib.IntN.{ℤ}
-use lib.ListN.{length}
-use lib.Seq.{sets}
+use lib.ListN.{length, drop}
+use lib.Seq.{sets, sets-eq}
 use Rattle.algebra.specs.Magnitude.{sum_abs}
 use Rattle.algebra.specs.declared.Basis.{Basis}
 use Rattle.number.specs.Limits.{sum_limit}
 use Rattle.number.specs.Numbers.{whole_numbers}
 use Rattle.number.specs.Refusal.{first_refusal, unless_refused}
 use Rattle.number.specs.Tests.{too_large, no_room}
-use Rattle.number.proofs.Refusal.{none_holds, first_kept, first_of_more}
+use Rattle.number.proofs.FirstRefusal.{none_holds, first_kept, first_of_more}
 use Rattle.bases.specs.Convert.{is_whole, new_coefficient, converted}
 use Rattle.bases.proofs.Convert.{length_tabulate}
 use Rattle.conversion.specs.ConvertCall.{refusal_for, convert_answer, convert_buffer, ConvertCall}
@@ -106,3 +106,9 @@ pub call_done : (to : Basis) (c out left : List ℤ) → refusal_for to c (lengt
     → ConvertCall to c out (record { refusal = 0; count = length c }) left
 unfolding convert_answer convert_buffer unless_refused
 call_done to c out left none is = record { answer = rw none; buffer = rw none is }
+
+-- a list and what stands behind it is that list written over the first places
+pub front_written : (new out : List ℤ) → length new ≤ length out → new ++ drop (length new) out ≡ sets out 0 new
+front_written new out room =
+    let start : 0 + length new ≡ length new = omega arith in
+    sym (sets-eq new out 0 (omega arith) ∙ ap (λ (n : ℕ). new ++ drop n out) start)

@@ -1,12 +1,22 @@
 -- The conversion call (docs/RULES.md, "The other basis" and "Refusals"): its tests in order, its answer, and what it leaves in the buffer.
-use Rattle.std.specs.Prelude.{◌≡◌, not, List, [], ◌∷◌, ℕ, ltb, ℤ, length}
+use Rattle.std.specs.Prelude.{◌≡◌, not, List, [], ◌∷◌, ℕ, ltb, ℤ, length, Result}
 use Rattle.std.proofs.lemmas.List.Edits.{sets}
 use Rattle.algebra.specs.declared.Basis.{Basis}
 use Rattle.number.specs.Numbers.{whole_numbers}
 use Rattle.number.specs.Refusal.{Test, first_refusal, unless_refused}
+use Rattle.number.specs.Refused.{numbered}
+use Rattle.number.specs.declared.refusal.Refusal.{Refusal}
 use Rattle.number.specs.Tests.{degree_of, too_large, no_room}
 use Rattle.bases.specs.Convert.{is_whole, converted}
-use Rattle.conversion.specs.declared.call.Converted.{Converted}
+
+-- the call's answer in numbers: its refusal, or 0 with how many coefficients there are
+pub record Converted : Type 0 where
+  pub refusal : ℕ
+  pub count : ℕ
+
+-- what a result says of the answer
+abbrev pub converted_in : Result ℕ Refusal → Converted
+converted_in = numbered (λ (count : ℕ). record { refusal = 0; count = count }) (λ (refusal : ℕ). record { refusal = refusal; count = 0 })
 
 -- the greatest degree that is converted
 abbrev pub convert_limit : ℕ

@@ -6,4 +6,4 @@ pub mod rows;
 pub mod sums;
 pub mod whole;
 
-pub use call::{CONVERT_LIMIT, Converted, convert_coeffs};
+pub use call::{CONVERT_LIMIT, convert_coeffs};

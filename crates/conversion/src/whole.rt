@@ -5,7 +5,7 @@ ghost use Rattle.bases.specs.Convert.{is_whole, quotient_of};
 
 use number::{Basis, degree_of, magnitude_of, power_of_two};
 
-// The denominator of element n's coefficients.
+// Returns the denominator of element n's coefficients.
 fn denominator(to: Basis, n: usize) -> usize
     requires { n ≤ 20 }
     ensures { result ≡ denominator to n }
@@ -16,16 +16,15 @@ fn denominator(to: Basis, n: usize) -> usize
     }
 }
 
-// Coefficient n divided by its element's denominator.
+// Returns coefficient n divided by its element's denominator.
 pub fn quotient(to: Basis, n: usize, z: i64) -> i64
     requires { n ≤ 20 }
     ensures { result ≡ quotient_of to n z }
 {
-    let d = denominator(to, n) as i64;
-    z / d
+    z / denominator(to, n) as i64
 }
 
-// Whether coefficient n is a multiple of its element's denominator.
+// Tells whether coefficient n is a multiple of its element's denominator.
 fn is_multiple(to: Basis, n: usize, z: i64) -> bool
     requires { n ≤ 20 }
     ensures { result ≡ eqb (nat_abs z % denominator to n) 0 }
@@ -33,17 +32,10 @@ fn is_multiple(to: Basis, n: usize, z: i64) -> bool
     magnitude_of(z) % denominator(to, n) == 0
 }
 
-// Whether each coefficient is, so that the new ones are whole.
+// Tells whether each coefficient is, so that the new ones are whole.
 pub fn is_whole(to: Basis, c: &[i64]) -> bool
     requires { length c.now ≤ 21 }
     ensures { result ≡ is_whole to c.now }
 {
-    let mut n: usize = 0;
-    while n < c.len() {
-        if !is_multiple(to, n, c[n]) {
-            return false;
-        }
-        n += 1;
-    }
-    true
+    c.iter().enumerate().all(|(n, z)| is_multiple(to, n, *z))
 }

@@ -1,16 +1,15 @@
 -- The choice may begin with any split and take the others in any order: 'at least as good' is transitive, so the best so far is as good as
 -- every split passed. One that is as good as all of them is the smallest with the least pair.
 use mathlib.Core.Path.{◌≡◌, refl, sym, ◌∙◌, subst}
-use mathlib.Core.Bool.{true, false}
 use mathlib.Core.Logic.{◌⊎◌, inl, inr, ⊎_elim}
 use Prim.Native.Nat.{ℕ, ◌+◌, ◌≤◌, ◌<◌}
 use native.Mathlib.Nat.{eq-or-lt_of_le}
 use native.Mathlib.Omega.{arith}
-use Rattle.counts.specs.MinMult.{AtMost, Smallest, less_pair}
+use Rattle.counts.specs.MinMult.{AtMost, Smallest}
 use Rattle.counts.specs.declared.pair.Pair.{Pair}
 use Rattle.counts.specs.declared.choice.Best.{Best}
 use Rattle.counts.specs.inside.BetterOf.{Below, AsGood, BetterOf, with_pair}
-use Rattle.counts.proofs.MinMultLaws.{less_is, less_not, below_most, below_not, same_most, at_most_both}
+use Rattle.counts.proofs.MinMultLaws.{below_most, below_not, same_most}
 
 -- ---- the order
 
@@ -28,41 +27,6 @@ good_trans a b c (inl ab) (inl bc) = inl (below_trans a.pair b.pair c.pair ab bc
 good_trans a b c (inl ab) (inr bc) = inl (subst (Below a.pair) bc.0 ab)
 good_trans a b c (inr ab) (inl bc) = inl (subst (λ (p : Pair). Below p c.pair) (sym ab.0) bc)
 good_trans a b c (inr ab) (inr bc) = inr (ab.0 ∙ bc.0, omega arith)
-
--- ---- the better of two
-
-module _ (one other : Best) where
-  first_better : AsGood one other → BetterOf one other one
-  first_better good = record { either = inl refl; first = good_self one; second = good }
-
-  second_better : AsGood other one → BetterOf one other other
-  second_better good = record { either = inr refl; first = good; second = good_self other }
-
-  -- by the test of the pairs
-  pub second_less : less_pair other.pair one.pair ≡ true → BetterOf one other other
-  second_less test = second_better (inl (less_is other.pair one.pair test))
-
-  pub first_less : less_pair one.pair other.pair ≡ true → BetterOf one other one
-  first_less test = first_better (inl (less_is one.pair other.pair test))
-
-  -- neither pair is less, so they are equal
-  module _ (not-second : less_pair other.pair one.pair ≡ false) (not_first : less_pair one.pair other.pair ≡ false) where
-    same_pair : one.pair ≡ other.pair
-    same_pair = at_most_both one.pair other.pair (less_not other.pair one.pair not-second) (less_not one.pair other.pair not_first)
-
-    pub second_smaller : other.split < one.split → BetterOf one other other
-    second_smaller less = second_better (inr (sym same_pair, omega arith))
-
-    pub first_smaller : one.split ≤ other.split → BetterOf one other one
-    first_smaller less = first_better (inr (same_pair, less))
-
-  -- a split that takes more ct-ct multiplications
-  pub passed_over : one.pair.ct < other.pair.ct → BetterOf one other one
-  passed_over more = first_better (inl (inl more))
-
-  -- the same split again
-  pub met_again : one.pair ≡ other.pair → one.split ≡ other.split → BetterOf one other one
-  met_again pair split = first_better (inr (pair, omega arith))
 
 -- ---- the best so far
 

@@ -13,9 +13,8 @@ use Rattle.number.specs.Limits.{plan_limit, scale_limit}
 use Rattle.counts.specs.Depth.{depth_of}
 use Rattle.counts.specs.ConsumedBits.{pure_chain, chain_before, bits_of}
 use Rattle.counts.specs.LargestDegree.{greatest_within, GreatestWithin, NoneWithin}
-use Rattle.counts.specs.Calls.{no_largest, largest_call}
+use Rattle.counts.specs.Calls.{LargestDegree, no_largest, largest_call}
 use Rattle.counts.specs.BudgetPromises.{LargestDegrees, BitsFall, NoneBelowScale}
-use Rattle.counts.specs.declared.budget.LargestDegree.{LargestDegree}
 use Rattle.counts.specs.declared.choice.SplitStrategy.{SplitStrategy}
 use Rattle.counts.specs.declared.choice.SplitStrategy.TheVariants.{MinDepth, MinMult}
 use Rattle.counts.proofs.ConsumedLaws.{bits_from_one}
@@ -41,7 +40,7 @@ module _ (strategy : SplitStrategy) (budget input coeff : ℕ) where
 
   by_found : input ≤ scale_limit → coeff ≤ scale_limit → (found ≡ 0) ⊎ (0 < found) → Ending answer
   by_found g h (inl none) =
-      none_fits (g, h, (none_within_lem strategy budget input coeff).0 none) (none_found strategy budget input coeff g h refl none)
+      none_fits (g, h, (none_within_lem strategy budget input coeff).0 none) (none_found strategy budget input coeff g h none)
   by_found g h (inr some) =
       one_fits (g, h, greatest_within_lem strategy budget input coeff some) (one_found strategy budget input coeff g h refl (λ none. omega arith))
 

@@ -18,14 +18,14 @@ module _ (strategy : SplitStrategy) (budget input coeff : ℕ) where
   coeff_wide within above = rw (le-ltb scale_limit input within, lt-ltb scale_limit coeff above)
 
   -- past the tests of the scales the greatest degree within the budget decides
-  module _ (input_within : input ≤ scale_limit) (coeff_within : coeff ≤ scale_limit) {degree : ℕ}
-      (is : degree ≡ greatest_within strategy budget input coeff plan_limit) where
-    pub none_found : degree ≡ 0 → no_largest 31 ≡ largest_call strategy budget input coeff
+  module _ (input_within : input ≤ scale_limit) (coeff_within : coeff ≤ scale_limit) where
+    pub none_found : greatest_within strategy budget input coeff plan_limit ≡ 0 → no_largest 31 ≡ largest_call strategy budget input coeff
     unfolding largest_call unless_refused
     none_found none =
-        rw (le-ltb scale_limit input input_within, le-ltb scale_limit coeff coeff_within, ← is, eq-eqb degree 0 none)
+        rw (le-ltb scale_limit input input_within, le-ltb scale_limit coeff coeff_within, eq-eqb _ 0 none)
 
-    pub one_found : (degree ≡ 0 → ⊥) → record { refusal = 0; degree = degree } ≡ largest_call strategy budget input coeff
+    pub one_found : {degree : ℕ} → degree ≡ greatest_within strategy budget input coeff plan_limit → (degree ≡ 0 → ⊥)
+        → record { refusal = 0; degree = degree } ≡ largest_call strategy budget input coeff
     unfolding largest_call unless_refused
-    one_found some =
+    one_found {degree} is some =
         rw (le-ltb scale_limit input input_within, le-ltb scale_limit coeff coeff_within, ← is, ne_eqb degree 0 some)

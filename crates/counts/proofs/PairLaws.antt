@@ -5,6 +5,7 @@ use Prim.Native.Nat.{ℕ, ◌+◌, ◌-◌, ◌≤◌}
 use borrow.Author.Tests.{leb-true}
 use lib.Dec.{leb, eqb}
 use lib.ListN.{length}
+use Rattle.std.proofs.lemmas.Bool.{and_parts}
 use Rattle.algebra.specs.declared.Basis.{Basis}
 use Rattle.algebra.specs.declared.Parity.{Parity}
 use Rattle.number.specs.Bits.{top_power}
@@ -14,17 +15,16 @@ use Rattle.counts.specs.Pair.{last_is_plain, pair_of, pair_at}
 use Rattle.counts.specs.inside.Tallies.{tally_of}
 use Rattle.counts.specs.declared.slices.Tally.{Tally}
 use Rattle.number.proofs.Bits.{power_is}
-use Rattle.needed.proofs.Flags.{both}
 
 -- the last combine is plain only where there are two or more slices
 pub plain_two : (degree slices last : ℕ) → last_is_plain degree slices last ≡ true → 2 ≤ slices
 unfolding last_is_plain
-plain_two degree slices last holds = leb-true 2 slices (both (leb 2 slices) _ holds).0
+plain_two degree slices last holds = leb-true 2 slices (and_parts (leb 2 slices) _ holds).0
 
 -- and the degree is a power of two
 pub plain_power : (degree slices last : ℕ) → last_is_plain degree slices last ≡ true → degree ≡ top_power degree
 unfolding last_is_plain
-plain_power degree slices last holds = power_is degree (both (eqb last 0) _ (both (leb 2 slices) _ holds).1).1
+plain_power degree slices last holds = power_is degree (and_parts (eqb last 0) _ (and_parts (leb 2 slices) _ holds).1).1
 
 module _ (parity : Parity) (basis : Basis) (degree split : ℕ) {needed : ℕ} {tally : Tally} {test : Bool}
     (tally_is : tally ≡ tally_of parity (slices_of degree split)) (needed_is : needed ≡ needed_count parity basis degree split)

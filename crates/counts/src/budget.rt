@@ -1,31 +1,17 @@
 // The largest degree whose bits are within a budget.
-ghost use Rattle.std.specs.Prelude.{◌≡◌, ◌≤◌};
+ghost use Rattle.std.specs.Prelude.{◌≡◌, ◌≤◌, ◌<◌, MatchOption};
 ghost use Rattle.number.specs.Limits.{degree_limit, plan_limit, scale_limit};
 ghost use Rattle.number.specs.inside.Between.{Between};
 ghost use Rattle.counts.specs.LargestDegree.{greatest_within};
-ghost use Rattle.counts.specs.Calls.{no_largest, largest_call};
+ghost use Rattle.counts.specs.Calls.{largest_in, largest_call};
 ghost use Rattle.counts.specs.inside.SameBits.{SameDownTo};
 
 use super::choice::SplitStrategy;
 use super::consumed::bits_from_one;
 use super::depth::depth_threshold;
-use number::{PLAN_LIMIT, SCALE_LIMIT, bit_len, top_power};
+use number::{PLAN_LIMIT, Refusal, SCALE_LIMIT, bit_len, top_power};
 
-// The degree, or a refusal with zero.
-#[derive(Clone, Copy)]
-pub struct LargestDegree {
-    pub refusal: u8,
-    pub degree: usize,
-}
-
-// A refusal.
-fn no_largest(refusal: u8) -> LargestDegree
-    ensures { result ≡ no_largest refusal }
-{
-    LargestDegree { refusal, degree: 0 }
-}
-
-// The next lower degree whose bits may differ. Up to degree 8 it is the next one, since degree 5 is an exception.
+// Returns the next lower degree whose bits may differ. Up to degree 8 it is the next one, since degree 5 is an exception.
 fn lower_degree(strategy: SplitStrategy, degree: usize) -> usize
     requires { Between 1 degree degree_limit }
     ensures { SameDownTo strategy degree result }
@@ -50,41 +36,42 @@ fn lower_degree(strategy: SplitStrategy, degree: usize) -> usize
     }
 }
 
-// The greatest degree from 1 to 4,095 within the budget, 0 if there is none. Bits need not rise with the degree, so it is looked for from above,
-// and only degrees are passed over that have the bits of one that does not fit.
-fn greatest_within(strategy: SplitStrategy, budget: u64, input: usize, coeff: usize) -> usize
+// Returns the greatest degree from 1 to 4,095 within the budget. Bits need not rise with the degree, so it is looked for from above, and only
+// degrees are passed over that have the bits of one that does not fit: a `while`, since the steps down are of several lengths.
+fn greatest_within(
+    strategy: SplitStrategy,
+    budget: u64,
+    input: usize,
+    coeff: usize,
+) -> Option<usize>
     requires { (input ≤ scale_limit) × (coeff ≤ scale_limit) }
-    ensures { result ≡ greatest_within strategy budget input coeff plan_limit }
+    ensures { MatchOption result
+        (greatest_within strategy budget input coeff plan_limit ≡ 0)
+        (λ degree. (0 < degree) × (degree ≡ greatest_within strategy budget input coeff plan_limit)) }
 {
     let mut degree = PLAN_LIMIT;
     while 0 < degree {
         let bits = bits_from_one(strategy, degree, input, coeff);
         if bits as u64 <= budget {
-            return degree;
+            return Some(degree);
         }
         degree = lower_degree(strategy, degree);
     }
-    0
+    None
 }
 
-// The largest degree within a budget of bits: refusal 10 where a scale is above 65,535, then 31 where no degree from 1 to 4,095 is within it.
+// Returns the largest degree from 1 to 4,095 within a budget of bits. It refuses a scale above 65,535, then a budget that no degree is within.
+#[tactic(auto, unfolding(crate::specs::Calls::largest_call, number::specs::Refusal::unless_refused))]
 pub fn largest_degree(
     strategy: SplitStrategy,
     budget: u64,
     input: usize,
     coeff: usize,
-) -> LargestDegree
-    ensures { result ≡ largest_call strategy budget input coeff }
+) -> Result<usize, Refusal>
+    ensures { largest_in result ≡ largest_call strategy budget input coeff }
 {
-    if SCALE_LIMIT < input {
-        return no_largest(10);
+    if SCALE_LIMIT < input || SCALE_LIMIT < coeff {
+        return Err(Refusal::ScaleTooWide);
     }
-    if SCALE_LIMIT < coeff {
-        return no_largest(10);
-    }
-    let degree = greatest_within(strategy, budget, input, coeff);
-    if degree == 0 {
-        return no_largest(31);
-    }
-    LargestDegree { refusal: 0, degree }
+    greatest_within(strategy, budget, input, coeff).ok_or(Refusal::NothingFits)
 }

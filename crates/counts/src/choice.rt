@@ -1,50 +1,38 @@
 // The choice of the split by either strategy, and the pair at the chosen split.
 ghost use Rattle.std.specs.Prelude.{◌≡◌, ◌≤◌};
-ghost use Rattle.number.specs.Limits.{plan_limit};
+ghost use Rattle.number.specs.Bits.{bit_len};
+ghost use Rattle.number.specs.Limits.{degree_limit, plan_limit};
 ghost use Rattle.number.specs.inside.Between.{Between};
-ghost use Rattle.needed.specs.inside.Planned.{Planned};
 ghost use Rattle.counts.specs.Pair.{pair_at};
 ghost use Rattle.counts.specs.MinDepth.{min_depth};
-ghost use Rattle.counts.specs.MinMult.{Smallest, less_pair, min_mult};
+ghost use Rattle.counts.specs.MinMult.{Smallest, min_mult};
 ghost use Rattle.counts.specs.Choice.{split_for};
-ghost use Rattle.counts.specs.Calls.{min_depth_call, min_mult_call, counts_call};
+ghost use Rattle.counts.specs.Calls.{choice_in, counts_in, min_depth_call, min_mult_call, counts_call};
 ghost use Rattle.counts.specs.inside.BetterOf.{with_pair, BetterOf};
 
 use super::bound::fewest_ct;
 use super::pair::{Pair, estimate_op_counts};
+use super::settings::Settings;
 use algebra::{Basis, Parity};
-use number::{DEGREE_LIMIT, PLAN_LIMIT, bit_len};
+use needed::Slicing;
+use number::{DEGREE_LIMIT, PLAN_LIMIT, Refusal, bit_len};
 
 // Least depth, or fewest multiplications.
-#[derive(Clone, Copy)]
+#[derive(Clone, Copy, Debug, PartialEq, Eq)]
 pub enum SplitStrategy {
     MinDepth,
     MinMult,
 }
 
-// A split, or a refusal with zero.
-#[derive(Clone, Copy)]
-pub struct SplitChoice {
-    pub refusal: u8,
-    pub split: usize,
-}
-
-// The pair at the chosen split, or a refusal with zeros.
-#[derive(Clone, Copy)]
-pub struct OpCounts {
-    pub refusal: u8,
-    pub ct: usize,
-    pub pt: usize,
-}
-
-// A split with its pair.
-#[derive(Clone, Copy)]
+// A split with its pair. Of two the better is less: that with the lesser pair, and of equal pairs that with the smaller split.
+#[derive(Clone, Copy, Debug, PartialEq, Eq, PartialOrd, Ord)]
 pub struct Best {
-    pub split: usize,
     pub pair: Pair,
+    pub split: usize,
 }
 
-// MinDepth's split at a bit length, a case for each from 1 to 32. No accepted degree has another.
+// Returns MinDepth's split at a bit length. The cases are listed, one for each length from 1 to 32, so that they can be read off; no accepted degree
+// has another.
 #[tactic(auto, unfolding(crate::specs::MinDepth::min_depth))]
 fn min_depth(bits: usize) -> usize
     requires { Between 1 bits 32 }
@@ -87,74 +75,50 @@ fn min_depth(bits: usize) -> usize
     }
 }
 
-// Whether a pair is less: ct-ct is compared first.
-fn less_pair(p: Pair, q: Pair) -> bool
-    ensures { result ≡ less_pair p q }
+// Returns the better of the best so far and another split, which is passed over if it takes more ct-ct multiplications than the best.
+fn better_at(parity: Parity, basis: Basis, best: Best, slicing: Slicing) -> Best
+    requires { best.pair ≡ pair_at parity basis slicing.degree best.split }
+    ensures { BetterOf best (with_pair (pair_at parity basis slicing.degree) slicing.split) result }
 {
-    if p.ct < q.ct {
-        return true;
-    }
-    if q.ct < p.ct {
-        return false;
-    }
-    p.pt < q.pt
-}
-
-// The better of two splits: that of the lesser pair, and of equal pairs the smaller split.
-fn better_of(best: Best, other: Best) -> Best
-    ensures { BetterOf best other result }
-{
-    let least = best.pair;
-    let pair = other.pair;
-    if less_pair(pair, least) {
-        return other;
-    }
-    if less_pair(least, pair) {
+    if slicing.split == best.split || best.pair.ct < fewest_ct(parity, slicing) {
         return best;
     }
-    if other.split < best.split {
-        other
-    } else {
-        best
-    }
+    let pair = estimate_op_counts(parity, basis, slicing);
+    let split = slicing.split;
+    best.min(Best { pair, split })
 }
 
-// The better of the best so far and another split, which is passed over if it takes more ct-ct multiplications than the best.
-fn better_at(parity: Parity, basis: Basis, degree: usize, best: Best, split: usize) -> Best
-    requires { Planned degree split × (best.pair ≡ pair_at parity basis degree best.split) }
-    ensures { BetterOf best (with_pair (pair_at parity basis degree) split) result }
+// Returns MinDepth's split of a degree from 1.
+#[tactic(auto, using(number::proofs::Bits::digits_range))]
+pub fn min_depth_of(degree: usize) -> usize
+    requires { Between 1 degree degree_limit }
+    ensures { result ≡ min_depth (bit_len degree) }
 {
-    if split == best.split {
-        return best;
-    }
-    let least = best.pair;
-    if least.ct < fewest_ct(parity, degree, split) {
-        return best;
-    }
-    let pair = estimate_op_counts(parity, basis, degree, split);
-    better_of(best, Best { split, pair })
+    min_depth(bit_len(degree))
 }
 
-// The smallest split from 1 to the bit length with the least pair. It begins with a likely one, MinDepth's.
+// Returns the smallest split from 1 to the bit length with the least pair. It begins with a likely one, MinDepth's.
 fn best_split(parity: Parity, basis: Basis, degree: usize, bits: usize) -> Best
     requires { Between 1 degree plan_limit × Between 1 bits 12 }
     ensures { Smallest (pair_at parity basis degree) bits result.split }
 {
     let likely = min_depth(bits);
-    let pair = estimate_op_counts(parity, basis, degree, likely);
-    let mut best = Best {
+    let slicing = Slicing {
+        degree,
         split: likely,
-        pair,
     };
-    let mut split = 1;
-    while split <= bits {
-        best = better_at(parity, basis, degree, best, split);
-        split += 1;
+    let mut best = Best {
+        pair: estimate_op_counts(parity, basis, slicing),
+        split: likely,
+    };
+    for split in 1..=bits {
+        best = better_at(parity, basis, best, Slicing { degree, split });
     }
     best
 }
 
-// MinMult's split.
+// Returns MinMult's split.
+#[tactic(auto, using(number::proofs::Bits::few_digits, number::proofs::Bits::digit_some, crate::proofs::MinMultLaws::mult_low))]
 fn min_mult(parity: Parity, basis: Basis, degree: usize) -> usize
     requires { degree ≤ plan_limit }
     ensures { result ≡ min_mult parity basis degree }
@@ -163,88 +127,58 @@ fn min_mult(parity: Parity, basis: Basis, degree: usize) -> usize
     if bits <= 1 {
         return 1;
     }
-    let best = best_split(parity, basis, degree, bits);
-    best.split
+    best_split(parity, basis, degree, bits).split
 }
 
-// The split that a strategy chooses.
-pub fn split_for_strategy(
-    strategy: SplitStrategy,
-    parity: Parity,
-    basis: Basis,
-    degree: usize,
-) -> usize
+// Returns the split that a strategy chooses.
+#[tactic(auto, unfolding(crate::specs::Choice::split_for))]
+pub fn split_for_strategy(settings: Settings, degree: usize) -> usize
     requires { Between 1 degree plan_limit }
-    ensures { result ≡ split_for strategy parity basis degree }
+    ensures { result ≡ split_for settings.strategy settings.parity settings.basis degree }
 {
-    match strategy {
-        SplitStrategy::MinDepth => min_depth(bit_len(degree)),
-        SplitStrategy::MinMult => min_mult(parity, basis, degree),
+    match settings.strategy {
+        SplitStrategy::MinDepth => min_depth_of(degree),
+        SplitStrategy::MinMult => min_mult(settings.parity, settings.basis, degree),
     }
 }
 
-// MinDepth's split of a degree: refusal 2 above 4,294,967,295, then 1 at degree 0.
-pub fn min_depth_split(degree: usize) -> SplitChoice
-    ensures { result ≡ min_depth_call degree }
+// Returns MinDepth's split of a degree. It refuses a degree above 4,294,967,295, then degree 0.
+#[tactic(auto, unfolding(crate::specs::Calls::min_depth_call, number::specs::Refusal::unless_refused))]
+pub fn min_depth_split(degree: usize) -> Result<usize, Refusal>
+    ensures { choice_in result ≡ min_depth_call degree }
 {
     if DEGREE_LIMIT < degree {
-        return SplitChoice {
-            refusal: 2,
-            split: 0,
-        };
+        return Err(Refusal::DegreeTooHigh);
     }
     if degree == 0 {
-        return SplitChoice {
-            refusal: 1,
-            split: 0,
-        };
+        return Err(Refusal::DegreeZero);
     }
-    let split = min_depth(bit_len(degree));
-    SplitChoice { refusal: 0, split }
+    Ok(min_depth_of(degree))
 }
 
-// MinMult's split of a degree: refusal 2 above 4,095.
-pub fn min_mult_split(parity: Parity, basis: Basis, degree: usize) -> SplitChoice
-    ensures { result ≡ min_mult_call parity basis degree }
+// Returns MinMult's split of a degree. It refuses a degree above 4,095.
+#[tactic(auto, unfolding(crate::specs::Calls::min_mult_call, number::specs::Refusal::unless_refused))]
+pub fn min_mult_split(parity: Parity, basis: Basis, degree: usize) -> Result<usize, Refusal>
+    ensures { choice_in result ≡ min_mult_call parity basis degree }
 {
     if PLAN_LIMIT < degree {
-        return SplitChoice {
-            refusal: 2,
-            split: 0,
-        };
+        return Err(Refusal::DegreeTooHigh);
     }
-    let split = min_mult(parity, basis, degree);
-    SplitChoice { refusal: 0, split }
+    Ok(min_mult(parity, basis, degree))
 }
 
-// The pair at the chosen split, (0, 0) at degree 0: refusal 2 above 4,095.
-pub fn bsgs_op_counts(
-    strategy: SplitStrategy,
-    parity: Parity,
-    basis: Basis,
-    degree: usize,
-) -> OpCounts
-    ensures { result ≡ counts_call strategy parity basis degree }
+// Returns the pair at the chosen split, (0, 0) at degree 0. It refuses a degree above 4,095.
+#[tactic(auto, unfolding(crate::specs::Calls::counts_call, number::specs::Refusal::unless_refused))]
+pub fn bsgs_op_counts(settings: Settings, degree: usize) -> Result<Pair, Refusal>
+    ensures { counts_in result ≡ counts_call settings.strategy settings.parity settings.basis degree }
 {
     if PLAN_LIMIT < degree {
-        return OpCounts {
-            refusal: 2,
-            ct: 0,
-            pt: 0,
-        };
+        return Err(Refusal::DegreeTooHigh);
     }
     if degree == 0 {
-        return OpCounts {
-            refusal: 0,
-            ct: 0,
-            pt: 0,
-        };
+        return Ok(Pair { ct: 0, pt: 0 });
     }
-    let split = split_for_strategy(strategy, parity, basis, degree);
-    let pair = estimate_op_counts(parity, basis, degree, split);
-    OpCounts {
-        refusal: 0,
-        ct: pair.ct,
-        pt: pair.pt,
-    }
+    let split = split_for_strategy(settings, degree);
+    let slicing = Slicing { degree, split };
+    Ok(estimate_op_counts(settings.parity, settings.basis, slicing))
 }

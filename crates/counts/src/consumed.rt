@@ -1,22 +1,16 @@
 // The bits that an evaluation consumes: its heaviest chain, by the closed form.
-ghost use Rattle.std.specs.Prelude.{◌≡◌, ◌≤◌, max};
+ghost use Rattle.std.specs.Prelude.{◌≡◌, ◌≤◌};
 ghost use Rattle.number.specs.Limits.{degree_limit, scale_limit};
 ghost use Rattle.number.specs.inside.Between.{Between};
 ghost use Rattle.counts.specs.ConsumedBits.{pure_chain, chain_before, bits_of};
-ghost use Rattle.counts.specs.Calls.{bits_call};
+ghost use Rattle.counts.specs.Calls.{bits_in, bits_call};
 
 use super::choice::SplitStrategy;
 use super::depth::depth_from_one;
-use number::{DEGREE_LIMIT, SCALE_LIMIT, bit_len, top_power};
+use number::{DEGREE_LIMIT, Refusal, SCALE_LIMIT, bit_len, top_power};
 
-// The bits, or a refusal with zero.
-#[derive(Clone, Copy)]
-pub struct ConsumedBits {
-    pub refusal: u8,
-    pub bits: usize,
-}
-
-// The ct-ct multiplications of the longest chain without a pt-ct.
+// Counts the ct-ct multiplications of the longest chain without a pt-ct.
+#[tactic(auto, using(number::proofs::Bits::digits_range, crate::proofs::ConsumedLaws::pure_less, crate::proofs::ConsumedLaws::pure_whole))]
 fn pure_chain(degree: usize) -> usize
     requires { Between 1 degree degree_limit }
     ensures { result ≡ pure_chain degree }
@@ -29,7 +23,8 @@ fn pure_chain(degree: usize) -> usize
     }
 }
 
-// The ct-ct multiplications of the longest chain with a pt-ct.
+// Counts the ct-ct multiplications of the longest chain with a pt-ct.
+#[tactic(auto, using(crate::proofs::DepthLaws::depth_bounds), unfolding(crate::specs::ConsumedBits::chain_before))]
 fn chain_before(strategy: SplitStrategy, degree: usize) -> usize
     requires { Between 1 degree degree_limit }
     ensures { result ≡ chain_before strategy degree }
@@ -41,56 +36,34 @@ fn chain_before(strategy: SplitStrategy, degree: usize) -> usize
     }
 }
 
-// The greater of two numbers.
-fn greatest(a: usize, b: usize) -> usize
-    ensures { result ≡ max a b }
-{
-    if a < b { b } else { a }
-}
-
-// The bits of a degree from 1: the heavier of the two chains.
+// Returns the bits of a degree from 1: the heavier of the two chains.
 pub fn bits_from_one(strategy: SplitStrategy, degree: usize, input: usize, coeff: usize) -> usize
     requires { Between 1 degree degree_limit × (input ≤ scale_limit) × (coeff ≤ scale_limit) }
     ensures { result ≡ bits_of strategy degree input coeff }
 {
-    let pure = pure_chain(degree);
-    let before = chain_before(strategy, degree);
-    greatest(pure * input, before * input + coeff)
+    let pure = pure_chain(degree) * input;
+    let before = chain_before(strategy, degree) * input + coeff;
+    pure.max(before)
 }
 
-// The bits of a degree, 0 at degree 0: refusal 2 above 4,294,967,295, then 10 where a scale is above 65,535.
+// Returns the bits of a degree, 0 at degree 0. It refuses a degree above 4,294,967,295, then a scale above 65,535.
+#[tactic(auto, unfolding(crate::specs::Calls::bits_call, crate::specs::ConsumedBits::bits_of, number::specs::Refusal::unless_refused))]
 pub fn bsgs_consumed_bits(
     strategy: SplitStrategy,
     degree: usize,
     input: usize,
     coeff: usize,
-) -> ConsumedBits
-    ensures { result ≡ bits_call strategy degree input coeff }
+) -> Result<usize, Refusal>
+    ensures { bits_in result ≡ bits_call strategy degree input coeff }
 {
     if DEGREE_LIMIT < degree {
-        return ConsumedBits {
-            refusal: 2,
-            bits: 0,
-        };
+        return Err(Refusal::DegreeTooHigh);
     }
-    if SCALE_LIMIT < input {
-        return ConsumedBits {
-            refusal: 10,
-            bits: 0,
-        };
-    }
-    if SCALE_LIMIT < coeff {
-        return ConsumedBits {
-            refusal: 10,
-            bits: 0,
-        };
+    if SCALE_LIMIT < input || SCALE_LIMIT < coeff {
+        return Err(Refusal::ScaleTooWide);
     }
     if degree == 0 {
-        return ConsumedBits {
-            refusal: 0,
-            bits: 0,
-        };
+        return Ok(0);
     }
-    let bits = bits_from_one(strategy, degree, input, coeff);
-    ConsumedBits { refusal: 0, bits }
+    Ok(bits_from_one(strategy, degree, input, coeff))
 }

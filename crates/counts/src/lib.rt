@@ -8,17 +8,16 @@ pub mod consumed;
 pub mod depth;
 pub mod kind;
 pub mod pair;
+pub mod settings;
 pub mod slices;
 
-pub use budget::{LargestDegree, largest_degree};
-pub use choice::{
-    OpCounts, SplitChoice, SplitStrategy, bsgs_op_counts, min_depth_split, min_mult_split,
-};
-pub use consumed::{ConsumedBits, bsgs_consumed_bits};
-pub use depth::{EvalDepth, bsgs_eval_depth};
-pub use kind::strategy_number;
+pub use budget::largest_degree;
+pub use choice::{SplitStrategy, bsgs_op_counts, min_depth_split, min_mult_split};
+pub use consumed::bsgs_consumed_bits;
+pub use depth::bsgs_eval_depth;
+pub use settings::Settings;
 // What serves planning, which calls it within its ranges.
-pub use choice::split_for_strategy;
+pub use choice::{min_depth_of, split_for_strategy};
 pub use depth::depth_from_one;
 pub use pair::{Pair, estimate_op_counts};
 pub use slices::allowed_to;

@@ -17,7 +17,7 @@ pub struct Tally {
     pub last: usize,
 }
 
-// How many of the powers 1 to the degree the parity allows.
+// Counts the powers 1 to the degree that the parity allows.
 pub fn allowed_to(parity: Parity, degree: usize) -> usize
     requires { degree ≤ plan_limit }
     ensures { result ≡ allowed_to parity degree }
@@ -25,11 +25,11 @@ pub fn allowed_to(parity: Parity, degree: usize) -> usize
     match parity {
         Parity::Full => degree,
         Parity::Even => degree / 2,
-        Parity::Odd => (degree + 1) / 2,
+        Parity::Odd => degree.div_ceil(2),
     }
 }
 
-// The slices at a split, counted over the low and the high part of each cut.
+// Counts the slices at a split over the low and the high part of each cut.
 pub fn count_slices(parity: Parity, degree: usize, split: usize) -> Tally
     requires { (degree ≤ plan_limit) × Between 1 split 12 }
     ensures { result ≡ tally_of parity (slices_of degree split) }

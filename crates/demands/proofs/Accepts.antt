@@ -21,7 +21,7 @@ use Rattle.number.specs.Numbers.{whole_numbers}
 use Rattle.number.specs.Parity.{has_parity}
 use Rattle.number.specs.Tests.{degree_of, least_folded, is_full}
 use Rattle.number.proofs.ParityTold.{parity_told}
-use Rattle.number.proofs.Refusal.{none_holds}
+use Rattle.number.proofs.FirstRefusal.{none_holds}
 use Rattle.plan.specs.PlanCall.{planned_coefficients, planned_parity, input_tests, Accepted}
 use Rattle.demands.specs.Accepts.{Foldable, Covered, CoveredAccepted}
 

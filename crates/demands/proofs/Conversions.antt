@@ -30,8 +30,7 @@ use Rattle.bases.proofs.Convert.{whole_exactly_if}
 use Rattle.bases.proofs.Promises.{values_kept, only_one, none_whole, whole_powers}
 use Rattle.bases.proofs.ParityKept.{parity_kept}
 use Rattle.bases.proofs.NoLarger.{no_larger}
-use Rattle.conversion.specs.ConvertCall.{refusal_for, ConvertCall}
-use Rattle.conversion.specs.declared.call.Converted.{Converted}
+use Rattle.conversion.specs.ConvertCall.{Converted, refusal_for, ConvertCall}
 use Rattle.lists.proofs.ListCall.{front, front_take}
 use Rattle.plan.specs.PlanCall.{Accepted}
 use Rattle.demands.specs.Accepts.{Foldable}

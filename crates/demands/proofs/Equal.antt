@@ -26,13 +26,13 @@ use Rattle.number.specs.FoldCall.{fold_tests, fold_refusal, fold_answer, fold_bu
 use Rattle.number.specs.Limits.{plan_limit, sum_limit, degree_limit}
 use Rattle.number.specs.Numbers.{whole_numbers, float_ops, float_numbers}
 use Rattle.number.specs.Refusal.{unless_refused}
-use Rattle.number.specs.declared.fold.Folded.{Folded}
+use Rattle.number.specs.FoldCall.{Folded}
 use Rattle.number.proofs.Bits.{digits_by_halving, powers_of_two}
 use Rattle.number.proofs.CutSame.{cuts_same}
 use Rattle.number.proofs.EvaluateLaw.{evaluate_law}
 use Rattle.number.proofs.Exact.{exact}
 use Rattle.number.proofs.FoldSame.{folds_same}
-use Rattle.number.proofs.Refusal.{none_holds, refusal_of, when_accepted}
+use Rattle.number.proofs.FirstRefusal.{none_holds, refusal_of, when_accepted}
 use Rattle.interpolation.proofs.InterpolateLaw.{interpolate_law}
 use Rattle.needed.proofs.Promises.{needed_powers}
 use Rattle.counts.specs.Choice.{split_for}
@@ -45,8 +45,7 @@ use Rattle.counts.proofs.Promises.{chosen}
 use Rattle.counts.proofs.SliceRule.{slice_rule}
 use Rattle.lists.specs.Tree.{relists}
 use Rattle.lists.specs.Arrange.{arranged, leaves_of}
-use Rattle.lists.specs.ListCall.{list_refusal, list_answer, list_coefficients, list_boundaries, ListCall}
-use Rattle.lists.specs.declared.call.Listed.{Listed}
+use Rattle.lists.specs.ListCall.{Listed, list_refusal, list_answer, list_coefficients, list_boundaries, ListCall}
 use Rattle.lists.proofs.Lists.{lists_in_order}
 use Rattle.lists.proofs.Promises.{lists_to_53, folded_lists_to_53, lists_same, folded_lists_same}
 use Rattle.lists.proofs.Same.{arranged_same}

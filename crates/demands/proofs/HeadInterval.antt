@@ -15,14 +15,13 @@ use Rattle.algebra.specs.declared.Basis.{Basis}
 use Rattle.algebra.specs.declared.Parity.{Parity}
 use Rattle.number.specs.Interval.{Ordered}
 use Rattle.number.specs.Refusal.{first_refusal, unless_refused}
-use Rattle.number.proofs.Refusal.{first_kept, first_most}
+use Rattle.number.proofs.FirstRefusal.{first_kept, first_most}
 use Rattle.counts.specs.declared.choice.SplitStrategy.{SplitStrategy}
 use Rattle.walk.specs.IntervalUnread.{SameButInterval}
 use Rattle.walk.specs.declared.plan.Head.{Head}
 use Rattle.plan.specs.PlanHead.{head_of, no_head}
-use Rattle.plan.specs.PlanCall.{input_tests, Accepted, early_tests, head_for, coefficients_for, boundaries_for, numbers_for}
+use Rattle.plan.specs.PlanCall.{input_tests, Accepted, early_tests, head_for, coefficients_for, boundaries_for, numbers_for, Planned}
 use Rattle.plan.specs.PlanCall.{plan_refusal, plan_answer, plan_coefficients, plan_boundaries, plan_numbers}
-use Rattle.plan.specs.declared.call.Planned.{Planned}
 use Rattle.plan.proofs.PlanTests.{inputs_to, early_kept, early_unordered}
 use Rattle.demands.specs.HeadInterval.{IntervalsTold, UnorderedRefused, PlansAlike}
 use Rattle.demands.proofs.HeadTold.{heads_told}

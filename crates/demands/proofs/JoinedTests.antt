@@ -6,7 +6,7 @@ use mathlib.Core.List.Memᴰ
 use mathlib.Core.List.{List, [], ◌∷◌, ◌++◌, map, map-append, Memᴰ}
 use Prim.Native.Nat.{ℕ, ◌<◌}
 use Rattle.number.specs.Refusal.{Test, first_refusal, Numbered}
-use Rattle.number.proofs.Refusal.{numbered_append, first_kept, first_of_more, first_passed, NumbersTo, numbers_append}
+use Rattle.number.proofs.FirstRefusal.{numbered_append, first_kept, first_of_more, first_passed, NumbersTo, numbers_append}
 use Rattle.lists.specs.Lists.{joined}
 use Rattle.demands.specs.Total.{numbers_of}
 use Rattle.demands.proofs.Parts.{part_of}

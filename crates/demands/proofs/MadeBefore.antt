@@ -12,12 +12,12 @@ use borrow.Author.Tests.{eqb-true, ne_eqb}
 use lib.Dec.{eqb}
 use lib.IntN.{ℤ, pos}
 use lib.ListN.{length}
+use Rattle.std.proofs.lemmas.Bool.{or_cases}
 use Rattle.algebra.specs.declared.Basis.{Basis}
 use Rattle.algebra.specs.declared.Parity.{Parity}
 use Rattle.number.specs.Options.{◌then◌}
 use Rattle.number.proofs.BothHold.{and_left, and_right}
 use Rattle.number.proofs.Options.{then_some, when_some}
-use Rattle.needed.proofs.Flags.{either}
 use Rattle.walk.specs.Kinds.{kind_of}
 use Rattle.walk.specs.Rules.{exact_rules}
 use Rattle.walk.specs.State.{Lists}
@@ -46,7 +46,7 @@ step_made : (kind x n : ℕ) (before : List ℕ) → is_among n (made_by (kind_o
 unfolding is_among
 step_made zero x n before among = inl among
 step_made (suc zero) x n before among =
-    ⊎_elim (λ (new : eqb n x ≡ true). inr (refl, eqb-true n x new)) (λ (old : is_among n before ≡ true). inl old) (either (eqb n x) (is_among n before) among)
+    ⊎_elim (λ (new : eqb n x ≡ true). inr (refl, eqb-true n x new)) (λ (old : is_among n before ≡ true). inl old) (or_cases (eqb n x) (is_among n before) among)
 step_made (suc (suc zero)) x n before among = inl among
 step_made (suc (suc (suc zero))) x n before among = inl among
 step_made (suc (suc (suc (suc zero)))) x n before among = inl among

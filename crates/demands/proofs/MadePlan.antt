@@ -10,12 +10,11 @@ use lib.ListN.{take}
 use lib.Seq.{take_at}
 use Rattle.algebra.specs.declared.Basis.{Basis}
 use Rattle.algebra.specs.declared.Parity.{Parity}
-use Rattle.number.proofs.Refusal.{when_accepted}
+use Rattle.number.proofs.FirstRefusal.{when_accepted}
 use Rattle.counts.specs.declared.choice.SplitStrategy.{SplitStrategy}
 use Rattle.walk.specs.declared.plan.Head.{Head}
-use Rattle.plan.specs.PlanCall.{head_for, coefficients_for, boundaries_for, numbers_for}
+use Rattle.plan.specs.PlanCall.{head_for, coefficients_for, boundaries_for, numbers_for, Planned}
 use Rattle.plan.specs.PlanCall.{plan_refusal, plan_answer, plan_coefficients, plan_boundaries, plan_numbers, PlanCall}
-use Rattle.plan.specs.declared.call.Planned.{Planned}
 use Rattle.demands.specs.Accepts.{BringsPlan}
 use Rattle.demands.specs.MadePlan.{MadePlan, lists_in, boundaries_in, steps_in, PlansIfAccepted}
 use Rattle.demands.specs.Right.{PlanRight}

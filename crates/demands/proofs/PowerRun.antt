@@ -18,9 +18,8 @@ use Rattle.algebra.specs.declared.Parity.{Parity}
 use Rattle.algebra.proofs.Chebyshev.{cheb_zero, cheb_one}
 use Rattle.algebra.proofs.Integers.{integers}
 use Rattle.number.specs.Limits.{plan_limit}
-use Rattle.number.specs.Split.{parts_of, split_of}
+use Rattle.number.specs.Split.{Parts, parts_of, split_of}
 use Rattle.number.specs.SplitDistance.{Taken}
-use Rattle.number.specs.declared.split.Parts.{Parts}
 use Rattle.number.proofs.SplitParts.{parted, split_accepted}
 use Rattle.number.proofs.SplitDistance.{split_product}
 use Rattle.needed.specs.Needed.{first, second, apart, Closed}

@@ -11,19 +11,17 @@ use lib.ListN.{length, take, drop, take-append-drop}
 use Rattle.algebra.specs.declared.Basis.{Basis}
 use Rattle.algebra.specs.declared.Parity.{Parity}
 use Rattle.number.specs.Tests.{degree_of}
-use Rattle.number.proofs.Refusal.{when_accepted}
+use Rattle.number.proofs.FirstRefusal.{when_accepted}
 use Rattle.counts.specs.Choice.{split_for}
 use Rattle.counts.specs.declared.choice.SplitStrategy.{SplitStrategy}
 use Rattle.lists.specs.Tree.{plan_tree}
 use Rattle.lists.specs.Arrange.{leaves_of}
-use Rattle.lists.specs.declared.call.Listed.{Listed}
+use Rattle.lists.specs.ListCall.{Listed}
 use Rattle.lists.proofs.Standing.{Stands, whole}
-use Rattle.rebuild.specs.RebuildCall.{RebuildCall}
-use Rattle.rebuild.specs.declared.call.Rebuilt.{Rebuilt}
+use Rattle.rebuild.specs.RebuildCall.{Rebuilt, RebuildCall}
 use Rattle.rebuild.proofs.RoundTrips.{gives_again, same_lists, lists_again, listed_front, ended_front}
 use Rattle.plan.specs.PlanHead.{head_of}
-use Rattle.plan.specs.PlanCall.{planned_coefficients, planned_parity, plan_coefficients, plan_boundaries, PlanCall}
-use Rattle.plan.specs.declared.call.Planned.{Planned}
+use Rattle.plan.specs.PlanCall.{planned_coefficients, planned_parity, plan_coefficients, plan_boundaries, PlanCall, Planned}
 use Rattle.plan.proofs.PlanTests.{passed, planned_to_53}
 use Rattle.demands.specs.RebuiltPlans.{RebuildsPlans, listed_in, PlansRebuilt, RebuiltRight, PlansTell, RebuildOrder}
 use Rattle.demands.proofs.Accepts.{plannable}

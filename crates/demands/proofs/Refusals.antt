@@ -11,12 +11,11 @@ use Rattle.algebra.specs.declared.Basis.{Basis}
 use Rattle.algebra.specs.declared.Parity.{Parity}
 use Rattle.number.specs.Interval.{change_of_basis, Ordered}
 use Rattle.number.specs.Refusal.{Test, first_refusal}
-use Rattle.number.proofs.Refusal.{first_of_more, first_passed}
+use Rattle.number.proofs.FirstRefusal.{first_of_more, first_passed}
 use Rattle.counts.specs.declared.choice.SplitStrategy.{SplitStrategy}
 use Rattle.walk.specs.declared.plan.Head.{Head}
 use Rattle.plan.specs.PlanCall.{planned_parity, planned_transform, Accepted, early_tests, buffer_tests, planned_degree, head_for, plan_refusal}
-use Rattle.plan.specs.PlanSizes.{sizes_for, sizes_in, HasSizes}
-use Rattle.plan.specs.declared.sizes.PlanSizes.{PlanSizes}
+use Rattle.plan.specs.PlanSizes.{sizes_for, sizes_in, HasSizes, PlanSizes}
 use Rattle.plan.proofs.HeadCounts.{head_sizes}
 use Rattle.plan.proofs.PlanTests.{early_numbered, early_passed, early_accepted, early_ordered, buffers_fit, fit_passes}
 use Rattle.demands.specs.Accepts.{BringsPlan}

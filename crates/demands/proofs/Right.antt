@@ -23,7 +23,7 @@ use Rattle.algebra.proofs.FoldLaw.{fold_law}
 use Rattle.algebra.proofs.Integers.{integers}
 use Rattle.algebra.proofs.IsRemainder.{remainders_told}
 use Rattle.number.specs.Options.{◌then◌, missing}
-use Rattle.number.proofs.Refusal.{when_accepted}
+use Rattle.number.proofs.FirstRefusal.{when_accepted}
 use Rattle.counts.specs.Choice.{split_for}
 use Rattle.counts.specs.declared.choice.SplitStrategy.{SplitStrategy}
 use Rattle.counts.proofs.Promises.{chosen}

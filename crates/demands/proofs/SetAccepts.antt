@@ -12,9 +12,9 @@ use lib.Dec.{ltb, eqb}
 use lib.IntN.{ℤ}
 use lib.ListN.{length, take, drop}
 use Rattle.number.specs.Refusal.{Test, first_refusal, Numbered}
-use Rattle.number.proofs.Refusal.{none_holds, numbered_append, first_of_more, first_passed}
+use Rattle.number.proofs.FirstRefusal.{none_holds, numbered_append, first_of_more, first_passed}
 use Rattle.lists.specs.Lists.{joined}
-use Rattle.plan.specs.declared.sizes.PlanSizes.{PlanSizes}
+use Rattle.plan.specs.PlanSizes.{PlanSizes}
 use Rattle.plan.proofs.PlanTests.{early_numbered, early_accepted, early_ordered, early_passed, buffers_fit, fit_passes}
 use Rattle.sets.specs.Members.{members_in, Curve, curves_in, handed_count, all_alike}
 use Rattle.sets.specs.SetPlan.{member_limit, heads_of}

@@ -17,10 +17,9 @@ use Rattle.plan.proofs.StepCounts.{steps_length}
 use Rattle.sets.specs.Members.{members_in, Curve, curves_in}
 use Rattle.sets.specs.Own.{own_tree, own_powers, own_steps, with_steps, alone_head, member_head}
 use Rattle.sets.specs.SetPlan.{member_limit, heads_of, set_of}
-use Rattle.sets.specs.SetCall.{curves}
+use Rattle.sets.specs.SetCall.{curves, SetPlanned}
 use Rattle.sets.specs.declared.member.Member.{Member}
 use Rattle.sets.specs.declared.member.Members.{Members}
-use Rattle.sets.specs.declared.set.SetPlanned.{SetPlanned}
 use Rattle.demands.specs.MadePlan.{MadePlan}
 use Rattle.demands.specs.SetAnswer.{HeadAsAlone, SetsAnswered}
 use Rattle.demands.proofs.Total.{zero_head}

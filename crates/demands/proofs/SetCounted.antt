@@ -26,8 +26,7 @@ use Rattle.plan.proofs.StepCounts.{kinds_append, makes}
 use Rattle.sets.specs.Members.{total, Curve}
 use Rattle.sets.specs.Own.{own_split, own_steps, own_boundaries, own_lengths, alone_head, member_head}
 use Rattle.sets.specs.SetPlan.{heads_of, set_powers, common_steps, member_steps, set_steps, shared_cost, set_ct, set_pt, set_of, set_step_count, set_boundaries}
-use Rattle.sets.specs.SetCall.{curves}
-use Rattle.sets.specs.declared.set.SetPlanned.{SetPlanned}
+use Rattle.sets.specs.SetCall.{curves, SetPlanned}
 use Rattle.demands.specs.Counted.{lengths_from}
 use Rattle.demands.specs.SetCounted.{allowed_over, SetsReport, SharedCostsTold, SetsWritten}
 use Rattle.demands.proofs.Counted.{boundaries_read}

@@ -16,7 +16,7 @@ use Rattle.algebra.specs.Operations.{whole_ops}
 use Rattle.algebra.specs.Value.{value}
 use Rattle.algebra.specs.Transform.{input_of}
 use Rattle.number.specs.Limits.{plan_limit}
-use Rattle.number.proofs.Refusal.{when_accepted}
+use Rattle.number.proofs.FirstRefusal.{when_accepted}
 use Rattle.needed.proofs.Promises.{needed_powers}
 use Rattle.counts.specs.Choice.{split_for}
 use Rattle.lists.specs.Tree.{Tree, leaf, cut, relists}

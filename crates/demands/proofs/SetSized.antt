@@ -19,25 +19,23 @@ use Rattle.number.specs.Interval.{Ordered}
 use Rattle.number.specs.Limits.{plan_limit, count_limit}
 use Rattle.number.specs.Refusal.{Test, first_refusal, Numbered}
 use Rattle.number.specs.Tests.{degree_of}
-use Rattle.number.proofs.Refusal.{none_holds, first_kept, first_of_more, first_passed, NumbersTo, first_most, refusal_of, when_accepted, when_refused}
+use Rattle.number.proofs.FirstRefusal.{none_holds, first_kept, first_of_more, first_passed, NumbersTo, first_most, refusal_of, when_accepted, when_refused}
 use Rattle.needed.specs.Promises.{Rising, next}
 use Rattle.needed.proofs.Promises.{needed_powers}
 use Rattle.lists.specs.Lists.{joined}
 use Rattle.walk.specs.declared.plan.Head.{Head}
 use Rattle.plan.specs.PlanHead.{no_head}
 use Rattle.plan.specs.PlanCall.{settings_tests, Accepted, buffer_tests}
-use Rattle.plan.specs.PlanSizes.{no_sizes, HasSizes}
-use Rattle.plan.specs.declared.sizes.PlanSizes.{PlanSizes}
+use Rattle.plan.specs.PlanSizes.{no_sizes, HasSizes, PlanSizes}
 use Rattle.plan.proofs.PlanTests.{settings_numbered, settings_accepted, early_passed}
 use Rattle.sets.specs.Members.{members_in, Curve, curves_in, total, handed_count, all_alike}
 use Rattle.sets.specs.Own.{own_split, head_by}
 use Rattle.sets.specs.SetPlan.{member_limit, heads_of, set_powers, set_of}
-use Rattle.sets.specs.SetCall.{unlike_members, own_tests, curves, ahead_tests, SetAccepted, set_refusal}
+use Rattle.sets.specs.SetCall.{unlike_members, own_tests, curves, ahead_tests, SetAccepted, set_refusal, SetPlanned}
 use Rattle.sets.specs.SetSizes.{bad_count, member_settings_tests, set_sizes_tests, set_sizes_of, set_sizes_call}
 use Rattle.sets.specs.inside.Heads.{HeadFits}
 use Rattle.sets.specs.declared.member.Member.{Member}
 use Rattle.sets.specs.declared.member.Members.{Members}
-use Rattle.sets.specs.declared.set.SetPlanned.{SetPlanned}
 use Rattle.sets.proofs.HeadLaws.{heads_by_lem, sizes_most, fits_by}
 use Rattle.demands.specs.SetPowers.{NeededBySome, needed_by}
 use Rattle.demands.specs.SetSized.{set_sizes_in, SetsSized, SetSizesTotal, SetSizesOrder, set_coefficient_room, set_boundary_room, set_step_room, SetRoom}

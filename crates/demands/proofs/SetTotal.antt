@@ -12,11 +12,11 @@ use borrow.Author.Tests.{ltb-true, lt-ltb, eqb-true, eq-eqb}
 use lib.Dec.{ltb, eqb}
 use lib.IntN.{ℤ}
 use lib.ListN.{length, replicate}
+use Rattle.std.proofs.lemmas.Bool.{or_cases, or_left, or_right}
 use Rattle.number.specs.Interval.{Ordered}
 use Rattle.number.specs.Refusal.{Test, first_refusal, Numbered}
 use Rattle.number.specs.Tests.{unordered}
-use Rattle.number.proofs.Refusal.{numbered_append, first_kept, first_of_more, NumbersTo, first_most, numbers_append, refusal_of, when_refused}
-use Rattle.needed.proofs.Flags.{either, left_or, right_or}
+use Rattle.number.proofs.FirstRefusal.{numbered_append, first_kept, first_of_more, NumbersTo, first_most, numbers_append, refusal_of, when_refused}
 use Rattle.lists.specs.Lists.{joined}
 use Rattle.walk.specs.declared.plan.Head.{Head}
 use Rattle.plan.specs.Reported.{of_kind}
@@ -27,11 +27,10 @@ use Rattle.sets.specs.Members.{members_in, total, Curve, handed_count, all_alike
 use Rattle.sets.specs.Union.{union_of}
 use Rattle.sets.specs.Own.{alone_head}
 use Rattle.sets.specs.SetPlan.{member_limit, heads_of, set_powers, common_steps, member_steps, set_steps, set_ct, set_pt, set_of}
-use Rattle.sets.specs.SetCall.{no_set, own_tests, room_tests, curves, ahead_tests, set_tests, set_refusal, set_answer, set_coefficients_left}
+use Rattle.sets.specs.SetCall.{no_set, own_tests, room_tests, curves, ahead_tests, set_tests, set_refusal, set_answer, set_coefficients_left, SetPlanned}
 use Rattle.sets.specs.SetCall.{set_boundaries_left}
 use Rattle.sets.specs.SetCall.{set_numbers_left, SetCall}
 use Rattle.sets.specs.declared.member.Members.{Members}
-use Rattle.sets.specs.declared.set.SetPlanned.{SetPlanned}
 use Rattle.demands.specs.Total.{ZeroHead}
 use Rattle.demands.specs.SetTotal.{ZeroSet, SetsTotal, SetsMade, SetOrder, BadSet, no_member_lem, too_many, past_slice, Unlike, SetRefusalsTold}
 use Rattle.demands.proofs.Refusals.{late_tests}
@@ -147,16 +146,16 @@ module _ (handed : Members) (c : List ℤ) where
       (λ (more : (ltb member_limit handed.count || ltb (length c) (handed_count (members_in handed))) ≡ true).
       ⊎_elim (λ (many : ltb member_limit handed.count ≡ true). too_many (ltb-true member_limit handed.count many))
       (λ (past : ltb (length c) (handed_count (members_in handed)) ≡ true). past_slice (ltb-true (length c) (handed_count (members_in handed)) past))
-      (either (ltb member_limit handed.count) (ltb (length c) (handed_count (members_in handed))) more))
-      (either (eqb handed.count 0) (ltb member_limit handed.count || ltb (length c) (handed_count (members_in handed))) is)
+      (or_cases (ltb member_limit handed.count) (ltb (length c) (handed_count (members_in handed))) more))
+      (or_cases (eqb handed.count 0) (ltb member_limit handed.count || ltb (length c) (handed_count (members_in handed))) is)
 
   told : BadSet handed c → bad ≡ true
-  told (no_member_lem none) = left_or (eqb handed.count 0) _ (eq-eqb handed.count 0 none)
+  told (no_member_lem none) = or_left (eqb handed.count 0) _ (eq-eqb handed.count 0 none)
   told (too_many many) =
-      right_or (eqb handed.count 0) _ (left_or (ltb member_limit handed.count) _ (lt-ltb member_limit handed.count many))
+      or_right (eqb handed.count 0) _ (or_left (ltb member_limit handed.count) _ (lt-ltb member_limit handed.count many))
   told (past_slice past) =
-      right_or (eqb handed.count 0) _
-      (right_or (ltb member_limit handed.count) _ (lt-ltb (length c) (handed_count (members_in handed)) past))
+      or_right (eqb handed.count 0) _
+      (or_right (ltb member_limit handed.count) _ (lt-ltb (length c) (handed_count (members_in handed)) past))
 
   not_bad : (BadSet handed c → ⊥) → bad ≡ false
   not_bad never = down bad (λ is. never (found is))

@@ -14,13 +14,11 @@ use Rattle.algebra.specs.declared.Parity.{Parity}
 use Rattle.number.specs.Interval.{Ordered}
 use Rattle.number.specs.Refusal.{Test, first_refusal}
 use Rattle.number.specs.Tests.{degree_of}
-use Rattle.number.proofs.Refusal.{first_kept, refusal_of, when_accepted}
+use Rattle.number.proofs.FirstRefusal.{first_kept, refusal_of, when_accepted}
 use Rattle.counts.specs.declared.choice.SplitStrategy.{SplitStrategy}
-use Rattle.plan.specs.PlanCall.{planned_parity, settings_tests, coefficient_tests, input_tests, Accepted, early_tests, buffer_tests, planned_degree}
+use Rattle.plan.specs.PlanCall.{planned_parity, settings_tests, coefficient_tests, input_tests, Accepted, early_tests, buffer_tests, planned_degree, Planned}
 use Rattle.plan.specs.PlanCall.{head_for, plan_refusal}
-use Rattle.plan.specs.PlanSizes.{degree_to_plan, sizes_for, sizes_in, sizes_of, HasSizes, sizes_refusal, sizes_call}
-use Rattle.plan.specs.declared.call.Planned.{Planned}
-use Rattle.plan.specs.declared.sizes.PlanSizes.{PlanSizes}
+use Rattle.plan.specs.PlanSizes.{degree_to_plan, sizes_for, sizes_in, sizes_of, HasSizes, sizes_refusal, sizes_call, PlanSizes}
 use Rattle.plan.proofs.PlanTests.{settings_accepted, planned_length, degree_planned, early_kept, early_accepted, early_ordered, early_most}
 use Rattle.demands.specs.Accepts.{BringsPlan}
 use Rattle.demands.specs.Sized.{PlansSized, SizesOrder}

@@ -27,8 +27,7 @@ use Rattle.counts.specs.MinMult.{better, best_of, min_mult}
 use Rattle.counts.specs.Choice.{split_for, counts_of}
 use Rattle.counts.specs.Depth.{depth_of}
 use Rattle.counts.specs.ConsumedBits.{pure_chain, chain_before, bits_of}
-use Rattle.counts.specs.Calls.{min_mult_call, counts_call, depth_call, bits_call}
-use Rattle.counts.specs.declared.choice.SplitChoice.{SplitChoice}
+use Rattle.counts.specs.Calls.{SplitChoice, min_mult_call, counts_call, depth_call, bits_call}
 use Rattle.counts.specs.declared.choice.SplitStrategy.TheVariants.{MinDepth, MinMult}
 use Rattle.lists.specs.Tree.{listed_again, tree_in, tree_of}
 use Rattle.lists.specs.Arrange.{leaves_of, lengths_of}

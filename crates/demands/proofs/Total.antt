@@ -21,18 +21,17 @@ use Rattle.number.specs.FoldCall.{fold_tests, fold_refusal, fold_answer, fold_bu
 use Rattle.number.specs.Limits.{plan_limit, degree_limit, scale_limit}
 use Rattle.number.specs.Numbers.{Numbers, float_numbers}
 use Rattle.number.specs.Refusal.{Test, first_refusal, unless_refused, Numbered}
-use Rattle.number.specs.Split.{parts_by, parts_of, no_parts, split_refusal, split_of}
+use Rattle.number.specs.Split.{Parts, parts_by, parts_of, no_parts, split_refusal, split_of}
 use Rattle.number.specs.Tests.{degree_of, no_degree, too_high, unordered, miscounted, out_of_range, too_wide, no_room}
-use Rattle.number.specs.declared.fold.Folded.{Folded}
-use Rattle.number.specs.declared.split.Parts.{Parts}
-use Rattle.number.proofs.Refusal.{none_holds, numbered_append, refusals_say, refusal_of, when_refused, when_accepted}
+use Rattle.number.specs.FoldCall.{Folded}
+use Rattle.number.proofs.FirstRefusal.{none_holds, numbered_append, refusals_say, refusal_of, when_refused, when_accepted}
 use Rattle.number.proofs.Options.{missing_image, missing_some}
 use Rattle.bases.specs.Convert.{converted}
 use Rattle.bases.proofs.Promises.{values_kept}
 use Rattle.conversion.specs.ConvertCall.{convert_tests, refusal_for}
 use Rattle.interpolation.specs.Interpolate.{coefficients_of}
-use Rattle.interpolation.specs.InterpolateCall.{interpolate_refusal, interpolate_answer, interpolate_buffer}
-use Rattle.interpolation.specs.declared.Interpolated.{Interpolated}
+use Rattle.interpolation.specs.InterpolateCall.{Interpolated, interpolate_refusal, interpolate_answer, interpolate_buffer}
+use Rattle.counts.specs.Calls.{OpCounts, SplitChoice, ConsumedBits, LargestDegree, EvalDepth}
 use Rattle.counts.specs.Calls.{no_split, min_depth_refusal, min_depth_call, min_mult_refusal, min_mult_call, no_counts, counts_refusal, counts_call}
 use Rattle.counts.specs.Calls.{no_depth, depth_refusal, depth_call, no_bits, bits_refusal, bits_call, no_largest, largest_tests, largest_call}
 use Rattle.counts.specs.Choice.{split_for, counts_of}
@@ -41,23 +40,16 @@ use Rattle.counts.specs.LargestDegree.{greatest_within, GreatestWithin}
 use Rattle.counts.specs.Depth.{depth_of}
 use Rattle.counts.specs.MinDepth.{min_depth}
 use Rattle.counts.specs.MinMult.{min_mult}
-use Rattle.counts.specs.declared.choice.OpCounts.{OpCounts}
-use Rattle.counts.specs.declared.choice.SplitChoice.{SplitChoice}
 use Rattle.counts.specs.declared.choice.SplitStrategy.{SplitStrategy}
 use Rattle.counts.specs.declared.choice.SplitStrategy.TheVariants.{MinDepth, MinMult}
-use Rattle.counts.specs.declared.consumed.ConsumedBits.{ConsumedBits}
-use Rattle.counts.specs.declared.budget.LargestDegree.{LargestDegree}
-use Rattle.counts.specs.declared.depth.EvalDepth.{EvalDepth}
 use Rattle.counts.proofs.BudgetPromises.{largest_degrees}
 use Rattle.counts.proofs.Promises.{chosen}
 use Rattle.lists.specs.Tree.{relists, plan_tree}
 use Rattle.lists.specs.Arrange.{leaves_of}
 use Rattle.lists.specs.Lists.{lists_of}
-use Rattle.lists.specs.ListCall.{list_tests, list_refusal, list_answer, list_coefficients, list_boundaries}
-use Rattle.lists.specs.declared.call.Listed.{Listed}
+use Rattle.lists.specs.ListCall.{Listed, list_tests, list_refusal, list_answer, list_coefficients, list_boundaries}
 use Rattle.lists.proofs.Lists.{lists_in_order}
-use Rattle.rebuild.specs.RebuildCall.{coefficients_from, rebuild_tests, rebuild_refusal, rebuild_answer, rebuild_coefficients}
-use Rattle.rebuild.specs.declared.call.Rebuilt.{Rebuilt}
+use Rattle.rebuild.specs.RebuildCall.{Rebuilt, coefficients_from, rebuild_tests, rebuild_refusal, rebuild_answer, rebuild_coefficients}
 use Rattle.rebuild.proofs.RoundTrips.{rebuilt_facts, rebuilt_size, count_is, buffer_is}
 use Rattle.walk.specs.Limits.{modulus_limit}
 use Rattle.walk.specs.Lent.{exact_walk}
@@ -65,17 +57,15 @@ use Rattle.walk.specs.Trial.{trial_tests, trial_refusal, trial_of}
 use Rattle.walk.specs.declared.plan.Head.{Head}
 use Rattle.walk.specs.Chain.{answer_made, chain_tests, chain_refusal, chain_of}
 use Rattle.walk.specs.HeaviestChain.{GreatestOfAnswer}
-use Rattle.walk.specs.declared.call.Trial.{Trial}
-use Rattle.walk.specs.declared.chain.Chain.{Chain}
+use Rattle.walk.specs.Trial.{Trial}
+use Rattle.walk.specs.Chain.{Chain}
 use Rattle.walk.proofs.TrialFollows.{trial_follows}
 use Rattle.walk.proofs.Paths.{heaviest_greatest}
 use Rattle.walk.proofs.ChainLaws.{one_made}
 use Rattle.plan.specs.PlanHead.{no_head}
-use Rattle.plan.specs.PlanCall.{planned_parity, settings_tests, early_tests, plan_tests, plan_refusal}
+use Rattle.plan.specs.PlanCall.{planned_parity, settings_tests, early_tests, plan_tests, plan_refusal, Planned}
 use Rattle.plan.specs.PlanCall.{plan_answer, plan_coefficients, plan_boundaries, plan_numbers, PlanCall}
-use Rattle.plan.specs.PlanSizes.{degree_to_plan, sizes_of, no_sizes, sizes_refusal, sizes_call}
-use Rattle.plan.specs.declared.call.Planned.{Planned}
-use Rattle.plan.specs.declared.sizes.PlanSizes.{PlanSizes}
+use Rattle.plan.specs.PlanSizes.{degree_to_plan, sizes_of, no_sizes, sizes_refusal, sizes_call, PlanSizes}
 use Rattle.demands.specs.Total.{Ends, answers, refuses, ZeroHead, PlansTotal, PlansMade, PlanOrder, FoldsTotal, ListsTotal, RebuildsTotal}
 use Rattle.demands.specs.Total.{ConvertsTotal, TrialAnswered, TrialsTotal, ChainsTotal, InterpolationsTotal, NumbersTotal}
 use Rattle.plan.proofs.PlanTests.{settings_numbered, early_numbered}

@@ -9,8 +9,7 @@ use Rattle.algebra.specs.declared.Parity.{Parity}
 use Rattle.number.specs.Tests.{degree_of}
 use Rattle.bases.specs.Rows.{other}
 use Rattle.bases.specs.Promises.{SameAtWholes, SameEverywhere}
-use Rattle.conversion.specs.ConvertCall.{convert_tests, ConvertCall}
-use Rattle.conversion.specs.declared.call.Converted.{Converted}
+use Rattle.conversion.specs.ConvertCall.{Converted, convert_tests, ConvertCall}
 use Rattle.counts.specs.declared.choice.SplitStrategy.{SplitStrategy}
 use Rattle.plan.specs.PlanCall.{Accepted}
 use Rattle.demands.specs.MadePlan.{MadePlan}

@@ -9,8 +9,7 @@ use Rattle.walk.specs.Lent.{lent_steps}
 use Rattle.walk.specs.declared.plan.Head.{Head}
 use Rattle.walk.specs.declared.plan.Step.{Step}
 use Rattle.plan.specs.Reported.{of_kind, allowed_in, transform_cost}
-use Rattle.plan.specs.PlanCall.{planned_transform, PlanCall}
-use Rattle.plan.specs.declared.call.Planned.{Planned}
+use Rattle.plan.specs.PlanCall.{planned_transform, PlanCall, Planned}
 use Rattle.demands.specs.Accepts.{BringsPlan}
 
 -- ---- "Encrypted multiplications reported = steps of kind 1 + steps of kind 3 + 0, 1 or 2 for the transform."

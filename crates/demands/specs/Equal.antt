@@ -31,21 +31,19 @@ use Rattle.number.specs.Exact.{num, ExactTo53}
 use Rattle.number.specs.FoldCall.{FoldCall}
 use Rattle.number.specs.FoldSame.{FoldsSame}
 use Rattle.number.specs.Numbers.{float_ops, float_numbers}
-use Rattle.number.specs.declared.fold.Folded.{Folded}
+use Rattle.number.specs.FoldCall.{Folded}
 use Rattle.interpolation.specs.InterpolateLaw.{InterpolateLaw}
 use Rattle.needed.specs.Promises.{NeededPowers}
 use Rattle.counts.specs.SliceRule.{SliceRule}
 use Rattle.counts.specs.PlainCount.{AllowedCounts}
-use Rattle.counts.specs.Calls.{min_depth_call, min_mult_call, depth_call}
+use Rattle.counts.specs.Calls.{SplitChoice, min_depth_call, min_mult_call, depth_call}
 use Rattle.counts.specs.Promises.{Chosen}
-use Rattle.counts.specs.declared.choice.SplitChoice.{SplitChoice}
 use Rattle.counts.specs.declared.choice.SplitStrategy.{SplitStrategy}
 use Rattle.counts.specs.declared.choice.SplitStrategy.TheVariants.{MinDepth, MinMult}
 use Rattle.lists.specs.TreeRule.{TreesByRule}
 use Rattle.lists.specs.Lists.{ListsInOrder}
-use Rattle.lists.specs.ListCall.{ListCall}
+use Rattle.lists.specs.ListCall.{Listed, ListCall}
 use Rattle.lists.specs.Promises.{ListsTo53, FoldedListsTo53, ListsSame, FoldedListsSame}
-use Rattle.lists.specs.declared.call.Listed.{Listed}
 use Rattle.walk.specs.declared.plan.Head.{Head}
 use Rattle.plan.specs.Reported.{transform_cost}
 use Rattle.plan.specs.PlanCall.{planned_parity, Accepted, planned, head_for, coefficients_for, boundaries_for}

@@ -19,8 +19,7 @@ use Rattle.walk.specs.declared.plan.Head.{Head}
 use Rattle.plan.specs.PlanSteps.{steps_at}
 use Rattle.plan.specs.PlanHead.{plan_counts}
 use Rattle.plan.specs.Reported.{transform_cost, reported}
-use Rattle.plan.specs.PlanCall.{PlanCall}
-use Rattle.plan.specs.declared.call.Planned.{Planned}
+use Rattle.plan.specs.PlanCall.{PlanCall, Planned}
 use Rattle.demands.specs.Accepts.{BringsPlan}
 use Rattle.demands.specs.Counted.{lengths_from}
 use Rattle.demands.specs.PlainStep.{lone_last}

@@ -7,8 +7,7 @@ use Rattle.algebra.specs.declared.Parity.{Parity}
 use Rattle.number.specs.Interval.{change_of_basis, Ordered}
 use Rattle.counts.specs.declared.choice.SplitStrategy.{SplitStrategy}
 use Rattle.walk.specs.IntervalUnread.{SameButInterval}
-use Rattle.plan.specs.PlanCall.{Accepted, PlanCall}
-use Rattle.plan.specs.declared.call.Planned.{Planned}
+use Rattle.plan.specs.PlanCall.{Accepted, PlanCall, Planned}
 use Rattle.demands.specs.Accepts.{BringsPlan}
 
 -- the head has the interval of the polynomial handed in with its change pair, as `change_of_basis` answers them for the plan's basis; folded or not

@@ -12,8 +12,7 @@ use Rattle.counts.specs.StrategyNumber.{strategy_number}
 use Rattle.counts.specs.declared.choice.SplitStrategy.{SplitStrategy}
 use Rattle.walk.specs.declared.plan.Head.{Head}
 use Rattle.plan.specs.Reported.{transform_cost}
-use Rattle.plan.specs.PlanCall.{planned_parity, planned_transform, planned, PlanCall}
-use Rattle.plan.specs.declared.call.Planned.{Planned}
+use Rattle.plan.specs.PlanCall.{planned_parity, planned_transform, planned, PlanCall, Planned}
 use Rattle.demands.specs.Accepts.{BringsPlan}
 use Rattle.demands.specs.FoldNumber.{fold_number}
 use Rattle.demands.specs.Right.{lists_for, steps_for}

@@ -12,8 +12,7 @@ use Rattle.walk.specs.Uses.{uses_of}
 use Rattle.walk.specs.Lent.{lent_lists, lent_steps, lent_walk}
 use Rattle.walk.specs.declared.plan.Head.{Head}
 use Rattle.walk.specs.declared.plan.Step.{Step}
-use Rattle.plan.specs.PlanCall.{PlanCall}
-use Rattle.plan.specs.declared.call.Planned.{Planned}
+use Rattle.plan.specs.PlanCall.{PlanCall, Planned}
 use Rattle.demands.specs.Accepts.{BringsPlan}
 
 -- power m can be used after the earlier steps: it is the constant 1; or x, when folded y; or one of them, of kind 1, made it

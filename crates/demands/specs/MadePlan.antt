@@ -3,8 +3,7 @@ use Rattle.std.specs.Prelude.{◌≡◌, Bool, List, ℕ, ◌*◌, Float, ℤ, t
 use Rattle.algebra.specs.declared.Basis.{Basis}
 use Rattle.algebra.specs.declared.Parity.{Parity}
 use Rattle.counts.specs.declared.choice.SplitStrategy.{SplitStrategy}
-use Rattle.plan.specs.PlanCall.{Accepted, PlanCall}
-use Rattle.plan.specs.declared.call.Planned.{Planned}
+use Rattle.plan.specs.PlanCall.{Accepted, PlanCall, Planned}
 use Rattle.demands.specs.Accepts.{BringsPlan}
 
 -- a call with these settings that accepted c: the interval and the buffers that it was lent, its answer, and what it left in the buffers

@@ -9,8 +9,7 @@ use Rattle.walk.specs.Lent.{lent_steps}
 use Rattle.walk.specs.declared.plan.Step.{Step}
 use Rattle.plan.specs.PlanSteps.{load_step, combine_step}
 use Rattle.plan.specs.Reported.{of_kind}
-use Rattle.plan.specs.PlanCall.{PlanCall}
-use Rattle.plan.specs.declared.call.Planned.{Planned}
+use Rattle.plan.specs.PlanCall.{PlanCall, Planned}
 use Rattle.demands.specs.Accepts.{BringsPlan}
 use Rattle.demands.specs.Counted.{lengths_from}
 

@@ -4,13 +4,11 @@ use Rattle.std.specs.Prelude.{◌≡◌, Bool, false, List, [], ◌∷◌, ◌++
 use Rattle.algebra.specs.declared.Basis.{Basis}
 use Rattle.algebra.specs.declared.Parity.{Parity}
 use Rattle.counts.specs.declared.choice.SplitStrategy.{SplitStrategy}
-use Rattle.lists.specs.declared.call.Listed.{Listed}
-use Rattle.rebuild.specs.RebuildCall.{rebuild_tests, RebuildCall}
+use Rattle.lists.specs.ListCall.{Listed}
+use Rattle.rebuild.specs.RebuildCall.{Rebuilt, rebuild_tests, RebuildCall}
 use Rattle.rebuild.specs.Promises.{GivesAgain, ListsAgain}
-use Rattle.rebuild.specs.declared.call.Rebuilt.{Rebuilt}
 use Rattle.walk.specs.declared.plan.Head.{Head}
-use Rattle.plan.specs.PlanCall.{planned_coefficients, Accepted, head_for, numbers_for, PlanCall}
-use Rattle.plan.specs.declared.call.Planned.{Planned}
+use Rattle.plan.specs.PlanCall.{planned_coefficients, Accepted, head_for, numbers_for, PlanCall, Planned}
 use Rattle.demands.specs.Right.{WalksRight}
 use Rattle.demands.specs.Total.{numbers_of}
 

@@ -21,9 +21,8 @@ use Rattle.walk.specs.WalksHeld.{numbered}
 use Rattle.walk.specs.declared.plan.Head.{Head}
 use Rattle.walk.specs.declared.plan.Step.{Step}
 use Rattle.plan.specs.PlanSteps.{plan_steps}
-use Rattle.plan.specs.PlanCall.{planned_parity, planned_transform, Accepted, planned, planned_degree, tree, head_for, coefficients_for, boundaries_for}
+use Rattle.plan.specs.PlanCall.{planned_parity, planned_transform, Accepted, planned, planned_degree, tree, head_for, coefficients_for, boundaries_for, Planned}
 use Rattle.plan.specs.PlanCall.{numbers_for, PlanCall}
-use Rattle.plan.specs.declared.call.Planned.{Planned}
 use Rattle.demands.specs.Accepts.{BringsPlan}
 
 -- a plan's lists and steps

@@ -6,9 +6,8 @@ use Rattle.plan.specs.PlanHead.{no_head}
 use Rattle.sets.specs.Members.{Curve}
 use Rattle.sets.specs.Own.{own_powers, with_steps, member_head}
 use Rattle.sets.specs.SetPlan.{member_limit, heads_of, set_powers, set_ct, set_pt}
-use Rattle.sets.specs.SetCall.{curves, SetCall}
+use Rattle.sets.specs.SetCall.{curves, SetCall, SetPlanned}
 use Rattle.sets.specs.declared.member.Members.{Members}
-use Rattle.sets.specs.declared.set.SetPlanned.{SetPlanned}
 use Rattle.demands.specs.Total.{ZeroHead}
 use Rattle.demands.specs.MadePlan.{MadePlan}
 use Rattle.demands.specs.SetAccepts.{BringsSet}

@@ -9,10 +9,9 @@ use Rattle.walk.specs.declared.plan.Step.{Step}
 use Rattle.plan.specs.Reported.{of_kind, allowed_in}
 use Rattle.sets.specs.Members.{total, Curve}
 use Rattle.sets.specs.SetPlan.{heads_of, set_coefficients, set_powers, set_steps, set_boundaries, set_cost, coefficient_count, list_count, set_step_count}
-use Rattle.sets.specs.SetCall.{curves, SetCall}
+use Rattle.sets.specs.SetCall.{curves, SetCall, SetPlanned}
 use Rattle.sets.specs.declared.member.Members.{Members}
 use Rattle.sets.specs.declared.set.CurveSet.{CurveSet}
-use Rattle.sets.specs.declared.set.SetPlanned.{SetPlanned}
 use Rattle.demands.specs.Counted.{lengths_from}
 use Rattle.demands.specs.SetAccepts.{GoodSet, BringsSet}
 

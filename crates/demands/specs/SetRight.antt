@@ -21,9 +21,8 @@ use Rattle.sets.specs.Members.{Curve}
 use Rattle.sets.specs.Own.{own_powers, own_steps, own_boundaries, with_steps, member_head}
 use Rattle.sets.specs.SetPlan.{heads_of, set_coefficients, common_steps, set_steps, set_boundaries, set_of, coefficient_count, list_count, own_step_count}
 use Rattle.sets.specs.SetPlan.{set_step_count}
-use Rattle.sets.specs.SetCall.{curves, SetCall}
+use Rattle.sets.specs.SetCall.{curves, SetCall, SetPlanned}
 use Rattle.sets.specs.declared.member.Members.{Members}
-use Rattle.sets.specs.declared.set.SetPlanned.{SetPlanned}
 use Rattle.demands.specs.Right.{lists_for, steps_for, WalksRight}
 use Rattle.demands.specs.MadeBefore.{MadeBefore}
 use Rattle.demands.specs.SetAccepts.{GoodSet, BringsSet}

@@ -6,17 +6,15 @@ use Rattle.number.specs.Interval.{Ordered}
 use Rattle.number.specs.Refusal.{first_refusal}
 use Rattle.lists.specs.Lists.{joined}
 use Rattle.plan.specs.PlanCall.{Accepted, buffer_tests}
-use Rattle.plan.specs.PlanSizes.{no_sizes, HasSizes}
-use Rattle.plan.specs.declared.sizes.PlanSizes.{PlanSizes}
+use Rattle.plan.specs.PlanSizes.{no_sizes, HasSizes, PlanSizes}
 use Rattle.sets.specs.Members.{members_in, Curve, handed_count}
 use Rattle.sets.specs.Own.{head_by}
 use Rattle.sets.specs.SetPlan.{coefficient_count, list_count, own_step_count}
-use Rattle.sets.specs.SetCall.{curves, ahead_tests, SetAccepted, SetCall}
+use Rattle.sets.specs.SetCall.{curves, ahead_tests, SetAccepted, SetCall, SetPlanned}
 use Rattle.sets.specs.SetSizes.{member_settings_tests, set_sizes_tests, set_sizes_of, set_sizes_call}
 use Rattle.sets.specs.declared.member.Member.{Member}
 use Rattle.sets.specs.declared.member.Members.{Members}
 use Rattle.sets.specs.declared.set.CurveSet.{CurveSet}
-use Rattle.sets.specs.declared.set.SetPlanned.{SetPlanned}
 use Rattle.demands.specs.Total.{Ends, numbers_of}
 
 -- the totals that a set's record tells; the zero heads beyond the members add nothing

@@ -8,15 +8,13 @@ use Rattle.number.specs.Refusal.{first_refusal}
 use Rattle.lists.specs.Lists.{joined}
 use Rattle.walk.specs.declared.plan.Head.{Head}
 use Rattle.plan.specs.PlanHead.{no_head}
-use Rattle.plan.specs.PlanCall.{Accepted, PlanCall}
-use Rattle.plan.specs.declared.call.Planned.{Planned}
+use Rattle.plan.specs.PlanCall.{Accepted, PlanCall, Planned}
 use Rattle.sets.specs.Members.{members_in, Curve, handed_count}
 use Rattle.sets.specs.SetPlan.{member_limit, heads_of}
-use Rattle.sets.specs.SetCall.{curves, own_tests, room_tests, set_tests, SetAccepted, SetCall}
+use Rattle.sets.specs.SetCall.{curves, own_tests, room_tests, set_tests, SetAccepted, SetCall, SetPlanned}
 use Rattle.sets.specs.declared.member.Member.{Member}
 use Rattle.sets.specs.declared.member.Members.{Members}
 use Rattle.sets.specs.declared.set.CurveSet.{CurveSet}
-use Rattle.sets.specs.declared.set.SetPlanned.{SetPlanned}
 use Rattle.demands.specs.Total.{Ends, numbers_of, ZeroHead}
 use Rattle.demands.specs.SetAccepts.{SameSettings, BringsSet}
 use Rattle.demands.specs.SetRight.{SetRight}

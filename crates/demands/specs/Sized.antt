@@ -7,10 +7,8 @@ use Rattle.number.specs.Interval.{Ordered}
 use Rattle.number.specs.Refusal.{first_refusal}
 use Rattle.number.specs.Tests.{degree_of}
 use Rattle.counts.specs.declared.choice.SplitStrategy.{SplitStrategy}
-use Rattle.plan.specs.PlanCall.{settings_tests, Accepted, early_tests, buffer_tests, PlanCall}
-use Rattle.plan.specs.PlanSizes.{sizes_in, HasSizes, sizes_call}
-use Rattle.plan.specs.declared.call.Planned.{Planned}
-use Rattle.plan.specs.declared.sizes.PlanSizes.{PlanSizes}
+use Rattle.plan.specs.PlanCall.{settings_tests, Accepted, early_tests, buffer_tests, PlanCall, Planned}
+use Rattle.plan.specs.PlanSizes.{sizes_in, HasSizes, sizes_call, PlanSizes}
 use Rattle.demands.specs.Total.{numbers_of}
 
 -- the sizes of a plan call's degree and settings, held against its buffers and its answer r

@@ -20,13 +20,11 @@ use Rattle.number.specs.Parity.{parity_of}
 use Rattle.number.specs.Refusal.{Test, NoneHolds, FirstHolds}
 use Rattle.number.specs.Split.{parts_of, no_parts, split_of}
 use Rattle.number.specs.Tests.{degree_of, no_degree, too_high, unordered, miscounted, out_of_range, too_wide, no_room}
-use Rattle.number.specs.declared.fold.Folded.{Folded}
+use Rattle.number.specs.FoldCall.{Folded}
 use Rattle.bases.specs.Promises.{SameAtWholes}
-use Rattle.conversion.specs.ConvertCall.{convert_tests, ConvertCall}
-use Rattle.conversion.specs.declared.call.Converted.{Converted}
+use Rattle.conversion.specs.ConvertCall.{Converted, convert_tests, ConvertCall}
 use Rattle.interpolation.specs.Interpolate.{coefficients_of}
-use Rattle.interpolation.specs.InterpolateCall.{InterpolateCall}
-use Rattle.interpolation.specs.declared.Interpolated.{Interpolated}
+use Rattle.interpolation.specs.InterpolateCall.{Interpolated, InterpolateCall}
 use Rattle.counts.specs.Calls.{min_depth_call, min_mult_call, no_counts, counts_call, depth_call, bits_call, largest_tests, largest_call}
 use Rattle.counts.specs.Choice.{split_for, counts_of}
 use Rattle.counts.specs.ConsumedBits.{bits_of}
@@ -38,18 +36,15 @@ use Rattle.counts.specs.declared.choice.SplitStrategy.TheVariants.{MinDepth, Min
 use Rattle.lists.specs.Tree.{plan_tree}
 use Rattle.lists.specs.Arrange.{arranged, ends_of}
 use Rattle.lists.specs.Lists.{lists_of}
-use Rattle.lists.specs.ListCall.{list_tests, ListCall}
-use Rattle.lists.specs.declared.call.Listed.{Listed}
-use Rattle.rebuild.specs.RebuildCall.{coefficients_from, rebuild_tests, RebuildCall}
-use Rattle.rebuild.specs.declared.call.Rebuilt.{Rebuilt}
+use Rattle.lists.specs.ListCall.{Listed, list_tests, ListCall}
+use Rattle.rebuild.specs.RebuildCall.{Rebuilt, coefficients_from, rebuild_tests, RebuildCall}
 use Rattle.walk.specs.Lent.{exact_walk}
 use Rattle.walk.specs.Trial.{trial_tests, trial_of}
 use Rattle.walk.specs.Chain.{chain_tests, chain_of}
 use Rattle.walk.specs.HeaviestChain.{GreatestOfAnswer}
 use Rattle.walk.specs.declared.plan.Head.{Head}
-use Rattle.plan.specs.PlanCall.{planned_parity, settings_tests, plan_tests, PlanCall}
+use Rattle.plan.specs.PlanCall.{planned_parity, settings_tests, plan_tests, PlanCall, Planned}
 use Rattle.plan.specs.PlanSizes.{degree_to_plan, sizes_of, no_sizes, sizes_call}
-use Rattle.plan.specs.declared.call.Planned.{Planned}
 use Rattle.demands.specs.Accepts.{BringsPlan}
 use Rattle.demands.specs.Detected.{Detected}
 use Rattle.demands.specs.FoldNumber.{fold_number}

@@ -14,9 +14,8 @@ use Rattle.walk.specs.Paths.{heaviest}
 use Rattle.walk.specs.MadeRules.{value_making, input_made, output_made, made_rules}
 use Rattle.walk.specs.Chain.{chain_tests, chain_of}
 use Rattle.walk.specs.declared.plan.Head.{Head}
-use Rattle.walk.specs.declared.chain.Chain.{Chain}
-use Rattle.plan.specs.PlanCall.{planned_parity, planned_transform, Accepted, head_for, PlanCall}
-use Rattle.plan.specs.declared.call.Planned.{Planned}
+use Rattle.walk.specs.Chain.{Chain}
+use Rattle.plan.specs.PlanCall.{planned_parity, planned_transform, Accepted, head_for, PlanCall, Planned}
 use Rattle.demands.specs.Accepts.{BringsPlan}
 use Rattle.demands.specs.Right.{lists_for, steps_for, Stored}
 use Rattle.demands.specs.Total.{numbers_of}

@@ -23,7 +23,7 @@ use Rattle.walk.specs.Paths.{heaviest}
 use Rattle.walk.specs.MadeRules.{place_made, input_made, output_made}
 use Rattle.walk.specs.Chain.{no_chain, answer_made, chain_refusal, chain_of}
 use Rattle.walk.specs.declared.plan.Step.{Step}
-use Rattle.walk.specs.declared.chain.Chain.{Chain}
+use Rattle.walk.specs.Chain.{Chain}
 use Rattle.examples.specs.Walk.{head, make, load, combine, five, powers, plan}
 
 abbrev weighs : ℕ → Chain

@@ -5,8 +5,7 @@ use Rattle.number.specs.Refusal.{unless_refused}
 use Rattle.counts.specs.Depth.{depth_of}
 use Rattle.counts.specs.ConsumedBits.{pure_chain, chain_before, bits_of}
 use Rattle.counts.specs.LargestDegree.{greatest_within}
-use Rattle.counts.specs.Calls.{no_largest, largest_call}
-use Rattle.counts.specs.declared.budget.LargestDegree.{LargestDegree}
+use Rattle.counts.specs.Calls.{LargestDegree, no_largest, largest_call}
 use Rattle.counts.specs.declared.choice.SplitStrategy.TheVariants.{MinDepth, MinMult}
 
 abbrev largest : ℕ → LargestDegree

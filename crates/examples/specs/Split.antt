@@ -2,8 +2,7 @@
 use Rattle.std.specs.Prelude.{◌≡◌, refl, [], ◌∷◌, ℕ}
 use Rattle.number.specs.Bits.{digits, bit_len, top_power, is_power_of_two, power_below}
 use Rattle.number.specs.Refusal.{unless_refused}
-use Rattle.number.specs.Split.{parts_of, no_parts, split_refusal, split_of}
-use Rattle.number.specs.declared.split.Parts.{Parts}
+use Rattle.number.specs.Split.{Parts, parts_of, no_parts, split_refusal, split_of}
 
 abbrev parts : (a b distance : ℕ) → Parts
 parts a b distance = record { refusal = 0; a = a; b = b; distance = distance }

@@ -25,7 +25,7 @@ use Rattle.walk.specs.WalksHeld.{flat}
 use Rattle.walk.specs.declared.plan.Step.{Step}
 use Rattle.number.specs.Interval.{no_interval}
 use Rattle.walk.specs.declared.plan.Head.{Head}
-use Rattle.walk.specs.declared.call.Trial.{Trial}
+use Rattle.walk.specs.Trial.{Trial}
 
 -- a head that says only what the walk reads
 abbrev pub head : Parity → Basis → PolynomialInputTransform → (coefficients lists steps : ℕ) → Head

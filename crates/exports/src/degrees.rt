@@ -1,47 +1,49 @@
 // The calls on bare numbers: the split of an index, the choice of the split, counts, depth, bits, the largest degree for a budget and the sizes of a plan.
 ghost use Rattle.std.specs.Prelude.{◌≡◌};
 ghost use Rattle.number.specs.Split.{split_of};
-ghost use Rattle.counts.specs.Calls.{min_depth_call};
-ghost use Rattle.flat.specs.Flat.{flat_parts, flat_split};
+ghost use Rattle.counts.specs.Calls.{min_depth_call, choice_in, counts_in, depth_in, bits_in, largest_in};
+ghost use Rattle.plan.specs.PlanSizes.{plan_sizes_in};
+ghost use Rattle.flat.specs.Flat.{flat_parts, flat_split, flat_counts, flat_depth, flat_bits, flat_degree, flat_sizes};
 ghost use Rattle.exports.specs.Degrees.{min_mult_flat, counts_flat, depth_flat, bits_flat, largest_flat, sizes_flat};
 
 use firrozun::{
-    bsgs_consumed_bits, bsgs_eval_depth, bsgs_op_counts, largest_degree, min_depth_split,
-    min_mult_split, plan_sizes, split_degree,
+    Basis, Pair, Parity, Refusal, Sizes, SplitStrategy, bsgs_consumed_bits, bsgs_eval_depth,
+    bsgs_op_counts, largest_degree, min_depth_split, min_mult_split, plan_sizes, split_degree,
 };
-use flat::flat::{
-    CBits, CCounts, CDegree, CDepth, CParts, CSizes, CSplit, flat_bits, flat_counts, flat_degree,
-    flat_depth, flat_parts, flat_sizes, flat_split,
-};
-use flat::kinds::{
-    basis_of, fold_of, is_strategy, knows_all, knows_pair, knows_settings, parity_of, strategy_of,
-};
+use flat::flat::{CBits, CCounts, CDegree, CDepth, CParts, CSizes, CSplit};
+use flat::kinds::{fold_of, settings_of};
 
 #[unsafe(no_mangle)]
 pub extern "C" fn firrozun_split_degree(n: usize) -> CParts
     ensures { result ≡ flat_parts (split_of n) }
 {
-    flat_parts(split_degree(n))
+    CParts::from(split_degree(n))
 }
 
 #[unsafe(no_mangle)]
 pub extern "C" fn firrozun_min_depth_split(degree: usize) -> CSplit
     ensures { result ≡ flat_split (min_depth_call degree) }
 {
-    flat_split(min_depth_split(degree))
+    CSplit::from(min_depth_split(degree))
+}
+
+fn min_mult(parity: u8, basis: u8, degree: usize) -> Result<usize, Refusal>
+    ensures { flat_split (choice_in result) ≡ min_mult_flat parity basis degree }
+{
+    min_mult_split(Parity::try_from(parity)?, Basis::try_from(basis)?, degree)
 }
 
 #[unsafe(no_mangle)]
 pub extern "C" fn firrozun_min_mult_split(parity: u8, basis: u8, degree: usize) -> CSplit
     ensures { result ≡ min_mult_flat parity basis degree }
 {
-    if !knows_pair(parity, basis) {
-        return CSplit {
-            refusal: 43,
-            split: 0,
-        };
-    }
-    flat_split(min_mult_split(parity_of(parity), basis_of(basis), degree))
+    CSplit::from(min_mult(parity, basis, degree))
+}
+
+fn op_counts(strategy: u8, parity: u8, basis: u8, degree: usize) -> Result<Pair, Refusal>
+    ensures { flat_counts (counts_in result) ≡ counts_flat strategy parity basis degree }
+{
+    bsgs_op_counts(settings_of(strategy, parity, basis)?, degree)
 }
 
 #[unsafe(no_mangle)]
@@ -53,32 +55,26 @@ pub extern "C" fn firrozun_bsgs_op_counts(
 ) -> CCounts
     ensures { result ≡ counts_flat strategy parity basis degree }
 {
-    if !knows_all(strategy, parity, basis) {
-        return CCounts {
-            refusal: 43,
-            ct: 0,
-            pt: 0,
-        };
-    }
-    flat_counts(bsgs_op_counts(
-        strategy_of(strategy),
-        parity_of(parity),
-        basis_of(basis),
-        degree,
-    ))
+    CCounts::from(op_counts(strategy, parity, basis, degree))
+}
+
+fn eval_depth(strategy: u8, degree: usize) -> Result<usize, Refusal>
+    ensures { flat_depth (depth_in result) ≡ depth_flat strategy degree }
+{
+    bsgs_eval_depth(SplitStrategy::try_from(strategy)?, degree)
 }
 
 #[unsafe(no_mangle)]
 pub extern "C" fn firrozun_bsgs_eval_depth(strategy: u8, degree: usize) -> CDepth
     ensures { result ≡ depth_flat strategy degree }
 {
-    if !is_strategy(strategy) {
-        return CDepth {
-            refusal: 43,
-            depth: 0,
-        };
-    }
-    flat_depth(bsgs_eval_depth(strategy_of(strategy), degree))
+    CDepth::from(eval_depth(strategy, degree))
+}
+
+fn consumed_bits(strategy: u8, degree: usize, input: usize, coeff: usize) -> Result<usize, Refusal>
+    ensures { flat_bits (bits_in result) ≡ bits_flat strategy degree input coeff }
+{
+    bsgs_consumed_bits(SplitStrategy::try_from(strategy)?, degree, input, coeff)
 }
 
 #[unsafe(no_mangle)]
@@ -90,13 +86,13 @@ pub extern "C" fn firrozun_bsgs_consumed_bits(
 ) -> CBits
     ensures { result ≡ bits_flat strategy degree input coeff }
 {
-    if !is_strategy(strategy) {
-        return CBits {
-            refusal: 43,
-            bits: 0,
-        };
-    }
-    flat_bits(bsgs_consumed_bits(strategy_of(strategy), degree, input, coeff))
+    CBits::from(consumed_bits(strategy, degree, input, coeff))
+}
+
+fn largest(strategy: u8, budget: u64, input: usize, coeff: usize) -> Result<usize, Refusal>
+    ensures { flat_degree (largest_in result) ≡ largest_flat strategy budget input coeff }
+{
+    largest_degree(SplitStrategy::try_from(strategy)?, budget, input, coeff)
 }
 
 #[unsafe(no_mangle)]
@@ -108,13 +104,14 @@ pub extern "C" fn firrozun_largest_degree(
 ) -> CDegree
     ensures { result ≡ largest_flat strategy budget input coeff }
 {
-    if !is_strategy(strategy) {
-        return CDegree {
-            refusal: 43,
-            degree: 0,
-        };
-    }
-    flat_degree(largest_degree(strategy_of(strategy), budget, input, coeff))
+    CDegree::from(largest(strategy, budget, input, coeff))
+}
+
+fn sizes(strategy: u8, parity: u8, basis: u8, fold: u8, degree: usize) -> Result<Sizes, Refusal>
+    ensures { flat_sizes (plan_sizes_in result) ≡ sizes_flat strategy parity basis fold degree }
+{
+    let fold = fold_of(fold)?;
+    plan_sizes(settings_of(strategy, parity, basis)?, fold, degree)
 }
 
 #[unsafe(no_mangle)]
@@ -127,19 +124,5 @@ pub extern "C" fn firrozun_plan_sizes(
 ) -> CSizes
     ensures { result ≡ sizes_flat strategy parity basis fold degree }
 {
-    if !knows_settings(strategy, parity, basis, fold) {
-        return CSizes {
-            refusal: 43,
-            coefficients: 0,
-            lists: 0,
-            steps: 0,
-        };
-    }
-    flat_sizes(plan_sizes(
-        strategy_of(strategy),
-        parity_of(parity),
-        basis_of(basis),
-        fold_of(fold),
-        degree,
-    ))
+    CSizes::from(sizes(strategy, parity, basis, fold, degree))
 }

@@ -1,11 +1,37 @@
 // The plan call, the trial walk and the heaviest chain.
 ghost use Rattle.std.specs.Prelude.{◌≡◌};
+ghost use Rattle.walk.specs.Trial.{trial_in};
+ghost use Rattle.walk.specs.Chain.{chain_in};
+ghost use Rattle.plan.specs.PlanCall.{planned_in};
+ghost use Rattle.flat.specs.Flat.{flat_trial, flat_chain};
+ghost use Rattle.flat.specs.Heads.{flat_planned};
 ghost use Rattle.exports.specs.Planning.{PlanFlat, trial_flat, chain_flat};
 
-use firrozun::{heaviest_chain, plan, trial_walk};
-use flat::flat::{CChain, CTrial, flat_chain, flat_trial};
-use flat::head::{CHead, CPlanned, flat_planned, head_of, knows_head, no_plan};
-use flat::kinds::{basis_of, fold_of, knows_settings, parity_of, strategy_of};
+use firrozun::{Head, Refusal, heaviest_chain, plan, trial_walk};
+use flat::flat::{CChain, CTrial};
+use flat::head::{CHead, CPlanned};
+use flat::kinds::{fold_of, settings_of};
+
+// Plans by numbers. The many arguments are those of the C call.
+fn planned(
+    strategy: u8,
+    parity: u8,
+    basis: u8,
+    fold: u8,
+    c: &[i64],
+    a: f64,
+    b: f64,
+    out: &mut [i64],
+    bounds: &mut [u16],
+    steps: &mut [u16],
+) -> Result<Head, Refusal>
+    ensures { PlanFlat strategy parity basis fold c.now a b out.old bounds.old steps.old
+        (flat_planned (planned_in result)) out.new bounds.new steps.new }
+{
+    let fold = fold_of(fold)?;
+    let settings = settings_of(strategy, parity, basis)?;
+    plan(settings, fold, c, a, b, out, bounds, steps)
+}
 
 #[unsafe(no_mangle)]
 pub extern "C" fn firrozun_plan(
@@ -23,21 +49,28 @@ pub extern "C" fn firrozun_plan(
     ensures { PlanFlat strategy parity basis fold c.now a b out.old bounds.old steps.old
         result out.new bounds.new steps.new }
 {
-    if !knows_settings(strategy, parity, basis, fold) {
-        return no_plan();
-    }
-    flat_planned(plan(
-        strategy_of(strategy),
-        parity_of(parity),
-        basis_of(basis),
-        fold_of(fold),
-        c,
-        a,
-        b,
-        out,
+    CPlanned::from(planned(strategy, parity, basis, fold, c, a, b, out, bounds, steps))
+}
+
+// Walks the plan of a head of numbers.
+fn walked(
+    head: CHead,
+    coefficients: &[i64],
+    bounds: &[u16],
+    steps: &[u16],
+    point: i64,
+    modulus: u64,
+) -> Result<u64, Refusal>
+    ensures { flat_trial (trial_in result) ≡ trial_flat head coefficients.now bounds.now steps.now point modulus }
+{
+    trial_walk(
+        Head::try_from(head)?,
+        coefficients,
         bounds,
         steps,
-    ))
+        point,
+        modulus,
+    )
 }
 
 #[unsafe(no_mangle)]
@@ -51,13 +84,28 @@ pub extern "C" fn firrozun_trial_walk(
 ) -> CTrial
     ensures { result ≡ trial_flat head coefficients.now bounds.now steps.now point modulus }
 {
-    if !knows_head(head) {
-        return CTrial {
-            refusal: 43,
-            remainder: 0,
-        };
-    }
-    flat_trial(trial_walk(head_of(head), coefficients, bounds, steps, point, modulus))
+    CTrial::from(walked(head, coefficients, bounds, steps, point, modulus))
+}
+
+// Returns the weight of the heaviest chain of a head of numbers.
+fn chain(
+    head: CHead,
+    coefficients: &[i64],
+    bounds: &[u16],
+    steps: &[u16],
+    input: usize,
+    coeff: usize,
+) -> Result<u64, Refusal>
+    ensures { flat_chain (chain_in result) ≡ chain_flat head coefficients.now bounds.now steps.now input coeff }
+{
+    heaviest_chain(
+        Head::try_from(head)?,
+        coefficients,
+        bounds,
+        steps,
+        input,
+        coeff,
+    )
 }
 
 #[unsafe(no_mangle)]
@@ -71,11 +119,5 @@ pub extern "C" fn firrozun_heaviest_chain(
 ) -> CChain
     ensures { result ≡ chain_flat head coefficients.now bounds.now steps.now input coeff }
 {
-    if !knows_head(head) {
-        return CChain {
-            refusal: 43,
-            weight: 0,
-        };
-    }
-    flat_chain(heaviest_chain(head_of(head), coefficients, bounds, steps, input, coeff))
+    CChain::from(chain(head, coefficients, bounds, steps, input, coeff))
 }

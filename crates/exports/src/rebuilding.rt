@@ -1,22 +1,28 @@
 // The rebuild call.
-ghost use Rattle.std.specs.Prelude.{◌≡◌};
-ghost use Rattle.rebuild.specs.RebuildCall.{no_rebuilt};
-ghost use Rattle.flat.specs.Unknown.{unknown_kind};
+ghost use Rattle.rebuild.specs.RebuildCall.{rebuilt_in};
 ghost use Rattle.flat.specs.Flat.{flat_rebuilt};
 ghost use Rattle.exports.specs.Rebuilding.{RebuildFlat};
 
-use firrozun::rebuild;
-use flat::flat::{CRebuilt, flat_rebuilt};
-use flat::kinds::{basis_of, knows_all, parity_of, strategy_of};
+use firrozun::{Refusal, rebuild};
+use flat::flat::CRebuilt;
+use flat::kinds::settings_of;
 
-// The answer to an unknown kind.
-fn no_rebuilt() -> CRebuilt
-    ensures { result ≡ flat_rebuilt (no_rebuilt unknown_kind) }
+// Rebuilds by numbers. The many arguments are those of the C call.
+fn rebuilt(
+    strategy: u8,
+    parity: u8,
+    basis: u8,
+    degree: usize,
+    base: usize,
+    lists: &[i64],
+    bounds: &[u16],
+    out: &mut [i64],
+) -> Result<usize, Refusal>
+    ensures { RebuildFlat strategy parity basis degree base lists.now bounds.now out.old
+        (flat_rebuilt (rebuilt_in result)) out.new }
 {
-    CRebuilt {
-        refusal: 43,
-        coefficients: 0,
-    }
+    let settings = settings_of(strategy, parity, basis)?;
+    rebuild(settings, degree, base, lists, bounds, out)
 }
 
 #[unsafe(no_mangle)]
@@ -33,17 +39,5 @@ pub extern "C" fn firrozun_rebuild(
     ensures { RebuildFlat strategy parity basis degree base lists.now bounds.now out.old
         result out.new }
 {
-    if !knows_all(strategy, parity, basis) {
-        return no_rebuilt();
-    }
-    flat_rebuilt(rebuild(
-        strategy_of(strategy),
-        parity_of(parity),
-        basis_of(basis),
-        degree,
-        base,
-        lists,
-        bounds,
-        out,
-    ))
+    CRebuilt::from(rebuilt(strategy, parity, basis, degree, base, lists, bounds, out))
 }

@@ -1,4 +1,6 @@
 pub mod KindNumbers
 pub mod HeadsShown
-pub mod Known
+pub mod Reading
+pub mod NoSet
+pub mod SameMembers
 mod PlaceByPlace

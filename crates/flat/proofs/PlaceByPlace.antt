@@ -4,10 +4,19 @@ use mathlib.Core.Bool.{true, false, ◌&&◌}
 use mathlib.Core.List.{List, [], ◌∷◌, ◌++◌, map}
 use Prim.Native.Nat.{ℕ, zero, suc, ◌+◌, ◌≤◌, ◌<◌}
 use native.Mathlib.Omega.{arith}
-use lib.ListN.{length, get_or, set, take, drop, replicate, length-map, length-set, length-replicate, drop_of_length-le, get_or-map}
+use lib.ListN.{length, get_or, set, take, drop, replicate, length-map, length-set, length-replicate, length-take, drop_of_length-le, get_or-map}
 use lib.Seq.{take-suc, take_all, take-suc-set}
 use Rattle.flat.specs.Sets.{knows_member, knows_each}
 use Rattle.flat.specs.declared.members.CMember.{CMember}
+
+-- ---- the first places of the first places
+
+take_swap : {A : Type 0} (i k : ℕ) (l : List A) → take i (take k l) ≡ take k (take i l)
+take_swap zero zero l = refl
+take_swap zero (suc k) l = refl
+take_swap (suc i) zero l = refl
+take_swap (suc i) (suc k) [] = refl
+take_swap (suc i) (suc k) (x ∷ l) = ap (λ (rest : List _). x ∷ rest) (take_swap i k l)
 
 -- ---- an array that is filled
 
@@ -25,12 +34,9 @@ module _ {A B : Type 0} (of : A → B) (from : List A) where
       take-suc (map of from) i (of other) (omega (arith, length-map from of))
       ∙ ap (λ (x : B). take i (map of from) ++ (x ∷ [])) (get_or-map of from i other)
 
-  -- all places begin as what the first means
-  pub filled_first : (n : ℕ) (other : A) {x : B} → length from ≡ suc n → x ≡ of (get_or from 0 other) → FilledUpto 1 (replicate (suc n) x)
-  filled_first n other {x} places is = record {
-    size = length-replicate (suc n) x ∙ sym places;
-    done = ap (λ (y : B). y ∷ []) is ∙ sym (meant_at 0 other (omega (arith, places)));
-  }
+  -- at first none is
+  pub filled_none : (n : ℕ) (x : B) → length from ≡ n → FilledUpto 0 (replicate n x)
+  filled_none n x places = record { size = length-replicate n x ∙ sym places; done = refl }
 
   pub filled_more : {i : ℕ} {to : List B} {x : B} (other : A) → FilledUpto i to → i < length from → x ≡ of (get_or from i other)
       → FilledUpto (i + 1) (set to i x)
@@ -45,6 +51,14 @@ module _ {A B : Type 0} (of : A → B) (from : List A) where
   pub filled_all : {i : ℕ} {to : List B} → FilledUpto i to → length from ≤ i → to ≡ map of from
   filled_all {i} {to} upto past =
       sym (take_all i to (omega (arith, upto.size))) ∙ upto.done ∙ take_all i (map of from) (omega (arith, length-map from of))
+
+  -- of the first k all are, if no more than the first i are there
+  pub filled_taken : {i : ℕ} {to : List B} (k : ℕ) → FilledUpto i to → length (take k from) ≤ i → take k to ≡ take k (map of from)
+  filled_taken {i} {to} k upto past =
+      let others : length (take k to) ≤ i = omega (arith, length-take k to, length-take k from, upto.size) in
+      let meant : length (take k (map of from)) ≤ i = omega (arith, length-take k (map of from), length-take k from, length-map from of) in
+      sym (take_all i (take k to) others) ∙ take_swap i k to ∙ ap (take k) upto.done ∙ sym (take_swap i k (map of from))
+      ∙ take_all i (take k (map of from)) meant
 
 -- ---- members one after another
 

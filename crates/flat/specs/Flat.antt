@@ -1,21 +1,22 @@
 -- Answers as structs of numbers: field by field, a kind by its number.
-use Rattle.std.specs.Prelude.{ℕ}
+use Rattle.std.specs.Prelude.{ℕ, Float, Result}
+use Rattle.number.specs.Numbers.{float_ops}
 use Rattle.algebra.specs.EnumNumbers.{parity_number, transform_number}
-use Rattle.number.specs.declared.split.Parts.{Parts}
-use Rattle.number.specs.declared.fold.Folded.{Folded}
+use Rattle.number.specs.Split.{Parts}
+use Rattle.number.specs.FoldCall.{Folded}
+use Rattle.number.specs.Interval.{no_interval}
+use Rattle.number.specs.Refused.{numbered}
 use Rattle.number.specs.declared.interval.Interval.{Interval}
-use Rattle.interpolation.specs.declared.Interpolated.{Interpolated}
-use Rattle.conversion.specs.declared.call.Converted.{Converted}
-use Rattle.counts.specs.declared.choice.SplitChoice.{SplitChoice}
-use Rattle.counts.specs.declared.choice.OpCounts.{OpCounts}
-use Rattle.counts.specs.declared.depth.EvalDepth.{EvalDepth}
-use Rattle.counts.specs.declared.consumed.ConsumedBits.{ConsumedBits}
-use Rattle.counts.specs.declared.budget.LargestDegree.{LargestDegree}
-use Rattle.lists.specs.declared.call.Listed.{Listed}
-use Rattle.walk.specs.declared.call.Trial.{Trial}
-use Rattle.walk.specs.declared.chain.Chain.{Chain}
-use Rattle.rebuild.specs.declared.call.Rebuilt.{Rebuilt}
-use Rattle.plan.specs.declared.sizes.PlanSizes.{PlanSizes}
+use Rattle.number.specs.declared.refusal.Refusal.{Refusal}
+use Rattle.interpolation.specs.InterpolateCall.{Interpolated}
+use Rattle.conversion.specs.ConvertCall.{Converted}
+use Rattle.counts.specs.Calls.{SplitChoice, OpCounts, EvalDepth, ConsumedBits, LargestDegree}
+use Rattle.lists.specs.ListCall.{Listed}
+use Rattle.walk.specs.Trial.{Trial}
+use Rattle.walk.specs.Chain.{Chain}
+use Rattle.rebuild.specs.RebuildCall.{Rebuilt}
+use Rattle.plan.specs.PlanSizes.{PlanSizes}
+use Rattle.flat.specs.declared.flat.CValue.{CValue}
 use Rattle.flat.specs.declared.flat.CParts.{CParts}
 use Rattle.flat.specs.declared.flat.CSplit.{CSplit}
 use Rattle.flat.specs.declared.flat.CCounts.{CCounts}
@@ -58,6 +59,20 @@ flat_converted r = record { refusal = r.refusal; count = r.count }
 
 abbrev pub flat_interval : (refusal : ℕ) → Interval → CInterval
 flat_interval refusal r = record { refusal = refusal; a = r.a; b = r.b; u = r.u; w = r.w }
+
+-- a value, or +0 after a refusal
+abbrev pub value_refused : (refusal : ℕ) → CValue
+value_refused refusal = record { refusal = refusal; value = float_ops.zero }
+
+abbrev pub value_in : Result Float Refusal → CValue
+value_in = numbered (λ (value : Float). record { refusal = 0; value = value }) value_refused
+
+-- an interval with its change pair, or +0 in every field after a refusal
+abbrev pub interval_refused : (refusal : ℕ) → CInterval
+interval_refused refusal = flat_interval refusal no_interval
+
+abbrev pub interval_in : Result Interval Refusal → CInterval
+interval_in = numbered (flat_interval 0) interval_refused
 
 abbrev pub flat_interpolated : Interpolated → CInterpolated
 flat_interpolated r = record {

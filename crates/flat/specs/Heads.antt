@@ -5,7 +5,7 @@ use Rattle.number.specs.declared.interval.Interval.{Interval}
 use Rattle.counts.specs.StrategyNumber.{strategy_number}
 use Rattle.walk.specs.declared.plan.Head.{Head}
 use Rattle.plan.specs.PlanHead.{no_head}
-use Rattle.plan.specs.declared.call.Planned.{Planned}
+use Rattle.plan.specs.PlanCall.{Planned}
 use Rattle.flat.specs.Kinds.{is_transform, transform_numbered, strategy_numbered, parity_numbered, basis_numbered, knows_all}
 use Rattle.flat.specs.Unknown.{unknown_kind}
 use Rattle.flat.specs.declared.head.CHeadInterval.{CHeadInterval}

@@ -5,3 +5,4 @@ pub mod Flat
 pub mod Heads
 pub mod HeadsShown
 pub mod Sets
+pub mod Reads

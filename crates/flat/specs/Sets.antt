@@ -5,7 +5,7 @@ use Rattle.sets.specs.SetPlan.{member_limit}
 use Rattle.sets.specs.declared.member.Member.{Member}
 use Rattle.sets.specs.declared.member.Members.{Members}
 use Rattle.sets.specs.declared.set.CurveSet.{CurveSet}
-use Rattle.sets.specs.declared.set.SetPlanned.{SetPlanned}
+use Rattle.sets.specs.SetCall.{SetPlanned}
 use Rattle.flat.specs.Kinds.{fold_numbered, strategy_numbered, parity_numbered, basis_numbered, knows_settings}
 use Rattle.flat.specs.Unknown.{unknown_kind}
 use Rattle.flat.specs.Heads.{flat_head}

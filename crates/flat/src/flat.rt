@@ -1,13 +1,19 @@
-// Answers as structs of numbers, for C.
+// Answers as structs of numbers, for C: 0 with what was accepted, or the number of a refusal with zeros.
 ghost use Rattle.std.specs.Prelude.{◌≡◌};
-ghost use Rattle.flat.specs.Flat.{flat_parts, flat_split, flat_counts, flat_depth, flat_bits, flat_degree, flat_folded, flat_converted, flat_interval};
+ghost use Rattle.number.specs.Split.{parts_in};
+ghost use Rattle.number.specs.FoldCall.{folded_in};
+ghost use Rattle.conversion.specs.ConvertCall.{converted_in};
+ghost use Rattle.interpolation.specs.InterpolateCall.{interpolated_in};
+ghost use Rattle.counts.specs.Calls.{choice_in, counts_in, depth_in, bits_in, largest_in};
+ghost use Rattle.lists.specs.ListCall.{listed_in};
+ghost use Rattle.rebuild.specs.RebuildCall.{rebuilt_in};
+ghost use Rattle.walk.specs.Trial.{trial_in};
+ghost use Rattle.walk.specs.Chain.{chain_in};
+ghost use Rattle.plan.specs.PlanSizes.{plan_sizes_in};
+ghost use Rattle.flat.specs.Flat.{flat_parts, flat_split, flat_counts, flat_depth, flat_bits, flat_degree, flat_folded, flat_converted, value_in, interval_in};
 ghost use Rattle.flat.specs.Flat.{flat_interpolated, flat_listed, flat_rebuilt, flat_sizes, flat_trial, flat_chain};
 
-use firrozun::{
-    Chain, ConsumedBits, Converted, EvalDepth, Folded, Interpolated, Interval, LargestDegree,
-    Listed, OpCounts, Parts, PlanSizes, Rebuilt, SplitChoice, Trial, parity_number,
-    transform_number,
-};
+use firrozun::{Fold, Interpolation, Interval, Listing, Pair, Refusal, Sizes, Split};
 
 #[repr(C)]
 #[derive(Clone, Copy)]
@@ -18,11 +24,46 @@ pub struct CParts {
     pub distance: usize,
 }
 
+impl From<Result<Split, Refusal>> for CParts {
+    ghost from_gives = { λ r c. c ≡ flat_parts (parts_in r) };
+
+    fn from(answer: Result<Split, Refusal>) -> Self {
+        match answer {
+            Ok(split) => CParts {
+                refusal: 0,
+                a: split.a,
+                b: split.b,
+                distance: split.distance,
+            },
+            Err(refusal) => CParts {
+                refusal: u8::from(refusal),
+                a: 0,
+                b: 0,
+                distance: 0,
+            },
+        }
+    }
+}
+
 #[repr(C)]
 #[derive(Clone, Copy)]
 pub struct CSplit {
     pub refusal: u8,
     pub split: usize,
+}
+
+impl From<Result<usize, Refusal>> for CSplit {
+    ghost from_gives = { λ r c. c ≡ flat_split (choice_in r) };
+
+    fn from(answer: Result<usize, Refusal>) -> Self {
+        match answer {
+            Ok(split) => CSplit { refusal: 0, split },
+            Err(refusal) => CSplit {
+                refusal: u8::from(refusal),
+                split: 0,
+            },
+        }
+    }
 }
 
 #[repr(C)]
@@ -33,11 +74,44 @@ pub struct CCounts {
     pub pt: usize,
 }
 
+impl From<Result<Pair, Refusal>> for CCounts {
+    ghost from_gives = { λ r c. c ≡ flat_counts (counts_in r) };
+
+    fn from(answer: Result<Pair, Refusal>) -> Self {
+        match answer {
+            Ok(pair) => CCounts {
+                refusal: 0,
+                ct: pair.ct,
+                pt: pair.pt,
+            },
+            Err(refusal) => CCounts {
+                refusal: u8::from(refusal),
+                ct: 0,
+                pt: 0,
+            },
+        }
+    }
+}
+
 #[repr(C)]
 #[derive(Clone, Copy)]
 pub struct CDepth {
     pub refusal: u8,
     pub depth: usize,
+}
+
+impl From<Result<usize, Refusal>> for CDepth {
+    ghost from_gives = { λ r c. c ≡ flat_depth (depth_in r) };
+
+    fn from(answer: Result<usize, Refusal>) -> Self {
+        match answer {
+            Ok(depth) => CDepth { refusal: 0, depth },
+            Err(refusal) => CDepth {
+                refusal: u8::from(refusal),
+                depth: 0,
+            },
+        }
+    }
 }
 
 #[repr(C)]
@@ -47,11 +121,39 @@ pub struct CBits {
     pub bits: usize,
 }
 
+impl From<Result<usize, Refusal>> for CBits {
+    ghost from_gives = { λ r c. c ≡ flat_bits (bits_in r) };
+
+    fn from(answer: Result<usize, Refusal>) -> Self {
+        match answer {
+            Ok(bits) => CBits { refusal: 0, bits },
+            Err(refusal) => CBits {
+                refusal: u8::from(refusal),
+                bits: 0,
+            },
+        }
+    }
+}
+
 #[repr(C)]
 #[derive(Clone, Copy)]
 pub struct CDegree {
     pub refusal: u8,
     pub degree: usize,
+}
+
+impl From<Result<usize, Refusal>> for CDegree {
+    ghost from_gives = { λ r c. c ≡ flat_degree (largest_in r) };
+
+    fn from(answer: Result<usize, Refusal>) -> Self {
+        match answer {
+            Ok(degree) => CDegree { refusal: 0, degree },
+            Err(refusal) => CDegree {
+                refusal: u8::from(refusal),
+                degree: 0,
+            },
+        }
+    }
 }
 
 #[repr(C)]
@@ -63,11 +165,46 @@ pub struct CFolded {
     pub count: usize,
 }
 
+impl From<Result<Fold, Refusal>> for CFolded {
+    ghost from_gives = { λ r c. c ≡ flat_folded (folded_in r) };
+
+    fn from(answer: Result<Fold, Refusal>) -> Self {
+        match answer {
+            Ok(fold) => CFolded {
+                refusal: 0,
+                transform: u8::from(fold.transform),
+                parity: u8::from(fold.parity),
+                count: fold.count,
+            },
+            Err(refusal) => CFolded {
+                refusal: u8::from(refusal),
+                transform: 0,
+                parity: 0,
+                count: 0,
+            },
+        }
+    }
+}
+
 #[repr(C)]
 #[derive(Clone, Copy)]
 pub struct CConverted {
     pub refusal: u8,
     pub count: usize,
+}
+
+impl From<Result<usize, Refusal>> for CConverted {
+    ghost from_gives = { λ r c. c ≡ flat_converted (converted_in r) };
+
+    fn from(answer: Result<usize, Refusal>) -> Self {
+        match answer {
+            Ok(count) => CConverted { refusal: 0, count },
+            Err(refusal) => CConverted {
+                refusal: u8::from(refusal),
+                count: 0,
+            },
+        }
+    }
 }
 
 // A value, or a refusal with +0.
@@ -76,6 +213,20 @@ pub struct CConverted {
 pub struct CValue {
     pub refusal: u8,
     pub value: f64,
+}
+
+impl From<Result<f64, Refusal>> for CValue {
+    ghost from_gives = { λ r c. c ≡ value_in r };
+
+    fn from(answer: Result<f64, Refusal>) -> Self {
+        match answer {
+            Ok(value) => CValue { refusal: 0, value },
+            Err(refusal) => CValue {
+                refusal: u8::from(refusal),
+                value: 0.0,
+            },
+        }
+    }
 }
 
 // An interval with its change pair, or a refusal with +0 in every field.
@@ -87,6 +238,29 @@ pub struct CInterval {
     pub b: f64,
     pub u: f64,
     pub w: f64,
+}
+
+impl From<Result<Interval, Refusal>> for CInterval {
+    ghost from_gives = { λ r c. c ≡ interval_in r };
+
+    fn from(answer: Result<Interval, Refusal>) -> Self {
+        match answer {
+            Ok(interval) => CInterval {
+                refusal: 0,
+                a: interval.a,
+                b: interval.b,
+                u: interval.u,
+                w: interval.w,
+            },
+            Err(refusal) => CInterval {
+                refusal: u8::from(refusal),
+                a: 0.0,
+                b: 0.0,
+                u: 0.0,
+                w: 0.0,
+            },
+        }
+    }
 }
 
 #[repr(C)]
@@ -101,6 +275,33 @@ pub struct CInterpolated {
     pub w: f64,
 }
 
+impl From<Result<Interpolation, Refusal>> for CInterpolated {
+    ghost from_gives = { λ r c. c ≡ flat_interpolated (interpolated_in r) };
+
+    fn from(answer: Result<Interpolation, Refusal>) -> Self {
+        match answer {
+            Ok(polynomial) => CInterpolated {
+                refusal: 0,
+                count: polynomial.count,
+                parity: u8::from(polynomial.parity),
+                a: polynomial.interval.a,
+                b: polynomial.interval.b,
+                u: polynomial.interval.u,
+                w: polynomial.interval.w,
+            },
+            Err(refusal) => CInterpolated {
+                refusal: u8::from(refusal),
+                count: 0,
+                parity: 0,
+                a: 0.0,
+                b: 0.0,
+                u: 0.0,
+                w: 0.0,
+            },
+        }
+    }
+}
+
 #[repr(C)]
 #[derive(Clone, Copy)]
 pub struct CListed {
@@ -111,11 +312,51 @@ pub struct CListed {
     pub lists: usize,
 }
 
+impl From<Result<Listing, Refusal>> for CListed {
+    ghost from_gives = { λ r c. c ≡ flat_listed (listed_in r) };
+
+    fn from(answer: Result<Listing, Refusal>) -> Self {
+        match answer {
+            Ok(listing) => CListed {
+                refusal: 0,
+                degree: listing.degree,
+                base: listing.base,
+                coefficients: listing.coefficients,
+                lists: listing.lists,
+            },
+            Err(refusal) => CListed {
+                refusal: u8::from(refusal),
+                degree: 0,
+                base: 0,
+                coefficients: 0,
+                lists: 0,
+            },
+        }
+    }
+}
+
 #[repr(C)]
 #[derive(Clone, Copy)]
 pub struct CRebuilt {
     pub refusal: u8,
     pub coefficients: usize,
+}
+
+impl From<Result<usize, Refusal>> for CRebuilt {
+    ghost from_gives = { λ r c. c ≡ flat_rebuilt (rebuilt_in r) };
+
+    fn from(answer: Result<usize, Refusal>) -> Self {
+        match answer {
+            Ok(coefficients) => CRebuilt {
+                refusal: 0,
+                coefficients,
+            },
+            Err(refusal) => CRebuilt {
+                refusal: u8::from(refusal),
+                coefficients: 0,
+            },
+        }
+    }
 }
 
 #[repr(C)]
@@ -127,11 +368,49 @@ pub struct CSizes {
     pub steps: usize,
 }
 
+impl From<Result<Sizes, Refusal>> for CSizes {
+    ghost from_gives = { λ r c. c ≡ flat_sizes (plan_sizes_in r) };
+
+    fn from(answer: Result<Sizes, Refusal>) -> Self {
+        match answer {
+            Ok(sizes) => CSizes {
+                refusal: 0,
+                coefficients: sizes.coefficients,
+                lists: sizes.lists,
+                steps: sizes.steps,
+            },
+            Err(refusal) => CSizes {
+                refusal: u8::from(refusal),
+                coefficients: 0,
+                lists: 0,
+                steps: 0,
+            },
+        }
+    }
+}
+
 #[repr(C)]
 #[derive(Clone, Copy)]
 pub struct CTrial {
     pub refusal: u8,
     pub remainder: u64,
+}
+
+impl From<Result<u64, Refusal>> for CTrial {
+    ghost from_gives = { λ r c. c ≡ flat_trial (trial_in r) };
+
+    fn from(answer: Result<u64, Refusal>) -> Self {
+        match answer {
+            Ok(remainder) => CTrial {
+                refusal: 0,
+                remainder,
+            },
+            Err(refusal) => CTrial {
+                refusal: u8::from(refusal),
+                remainder: 0,
+            },
+        }
+    }
 }
 
 #[repr(C)]
@@ -141,159 +420,16 @@ pub struct CChain {
     pub weight: u64,
 }
 
-pub fn flat_parts(parts: Parts) -> CParts
-    ensures { result ≡ flat_parts parts }
-{
-    CParts {
-        refusal: parts.refusal,
-        a: parts.a,
-        b: parts.b,
-        distance: parts.distance,
-    }
-}
+impl From<Result<u64, Refusal>> for CChain {
+    ghost from_gives = { λ r c. c ≡ flat_chain (chain_in r) };
 
-pub fn flat_split(choice: SplitChoice) -> CSplit
-    ensures { result ≡ flat_split choice }
-{
-    CSplit {
-        refusal: choice.refusal,
-        split: choice.split,
-    }
-}
-
-pub fn flat_counts(counts: OpCounts) -> CCounts
-    ensures { result ≡ flat_counts counts }
-{
-    CCounts {
-        refusal: counts.refusal,
-        ct: counts.ct,
-        pt: counts.pt,
-    }
-}
-
-pub fn flat_depth(answer: EvalDepth) -> CDepth
-    ensures { result ≡ flat_depth answer }
-{
-    CDepth {
-        refusal: answer.refusal,
-        depth: answer.depth,
-    }
-}
-
-pub fn flat_bits(answer: ConsumedBits) -> CBits
-    ensures { result ≡ flat_bits answer }
-{
-    CBits {
-        refusal: answer.refusal,
-        bits: answer.bits,
-    }
-}
-
-pub fn flat_degree(answer: LargestDegree) -> CDegree
-    ensures { result ≡ flat_degree answer }
-{
-    CDegree {
-        refusal: answer.refusal,
-        degree: answer.degree,
-    }
-}
-
-pub fn flat_folded(answer: Folded) -> CFolded
-    ensures { result ≡ flat_folded answer }
-{
-    let transform = answer.transform;
-    let parity = answer.parity;
-    CFolded {
-        refusal: answer.refusal,
-        transform: transform_number(transform),
-        parity: parity_number(parity),
-        count: answer.count,
-    }
-}
-
-pub fn flat_converted(answer: Converted) -> CConverted
-    ensures { result ≡ flat_converted answer }
-{
-    CConverted {
-        refusal: answer.refusal,
-        count: answer.count,
-    }
-}
-
-pub fn flat_interval(refusal: u8, interval: Interval) -> CInterval
-    ensures { result ≡ flat_interval refusal interval }
-{
-    CInterval {
-        refusal,
-        a: interval.a,
-        b: interval.b,
-        u: interval.u,
-        w: interval.w,
-    }
-}
-
-pub fn flat_interpolated(answer: Interpolated) -> CInterpolated
-    ensures { result ≡ flat_interpolated answer }
-{
-    let parity = answer.parity;
-    let interval = answer.interval;
-    CInterpolated {
-        refusal: answer.refusal,
-        count: answer.count,
-        parity: parity_number(parity),
-        a: interval.a,
-        b: interval.b,
-        u: interval.u,
-        w: interval.w,
-    }
-}
-
-pub fn flat_listed(answer: Listed) -> CListed
-    ensures { result ≡ flat_listed answer }
-{
-    CListed {
-        refusal: answer.refusal,
-        degree: answer.degree,
-        base: answer.base,
-        coefficients: answer.coefficients,
-        lists: answer.lists,
-    }
-}
-
-pub fn flat_rebuilt(rebuilt: Rebuilt) -> CRebuilt
-    ensures { result ≡ flat_rebuilt rebuilt }
-{
-    CRebuilt {
-        refusal: rebuilt.refusal,
-        coefficients: rebuilt.coefficients,
-    }
-}
-
-pub fn flat_sizes(sizes: PlanSizes) -> CSizes
-    ensures { result ≡ flat_sizes sizes }
-{
-    CSizes {
-        refusal: sizes.refusal,
-        coefficients: sizes.coefficients,
-        lists: sizes.lists,
-        steps: sizes.steps,
-    }
-}
-
-pub fn flat_trial(answer: Trial) -> CTrial
-    ensures { result ≡ flat_trial answer }
-{
-    CTrial {
-        refusal: answer.refusal,
-        remainder: answer.remainder,
-    }
-}
-
-pub fn flat_chain(answer: Chain) -> CChain
-    ensures { result ≡ flat_chain answer }
-{
-    CChain {
-        refusal: answer.refusal,
-        weight: answer.weight,
+    fn from(answer: Result<u64, Refusal>) -> Self {
+        match answer {
+            Ok(weight) => CChain { refusal: 0, weight },
+            Err(refusal) => CChain {
+                refusal: u8::from(refusal),
+                weight: 0,
+            },
+        }
     }
 }

@@ -1,11 +1,12 @@
 // The head of a plan as a struct of numbers, and back.
 ghost use Rattle.std.specs.Prelude.{◌≡◌};
-ghost use Rattle.flat.specs.Heads.{flat_head_interval, interval_meant, flat_head, head_meant, knows_head, flat_planned, no_plan};
+ghost use Rattle.plan.specs.PlanHead.{no_head};
+ghost use Rattle.plan.specs.PlanCall.{planned_in};
+ghost use Rattle.flat.specs.Heads.{flat_head_interval, interval_meant, flat_head, head_meant, knows_head, flat_planned};
+ghost use Rattle.flat.specs.Reads.{Reads};
 
-use super::kinds::{basis_of, is_transform, knows_all, parity_of, strategy_of, transform_of};
-use firrozun::{
-    Head, Interval, Planned, basis_number, parity_number, strategy_number, transform_number,
-};
+use super::kinds::settings_of;
+use firrozun::{Head, Interval, PolynomialInputTransform, Refusal};
 
 // The interval with its change pair.
 #[repr(C)]
@@ -43,120 +44,119 @@ pub struct CPlanned {
     pub head: CHead,
 }
 
-fn flat_head_interval(interval: Interval) -> CHeadInterval
-    ensures { result ≡ flat_head_interval interval }
-{
-    CHeadInterval {
-        a: interval.a,
-        b: interval.b,
-        u: interval.u,
-        w: interval.w,
+impl From<Interval> for CHeadInterval {
+    ghost from_gives = { λ interval c. c ≡ flat_head_interval interval };
+
+    fn from(interval: Interval) -> Self {
+        CHeadInterval {
+            a: interval.a,
+            b: interval.b,
+            u: interval.u,
+            w: interval.w,
+        }
     }
 }
 
-fn interval_of(flat: CHeadInterval) -> Interval
-    ensures { result ≡ interval_meant flat }
-{
-    Interval {
-        a: flat.a,
-        b: flat.b,
-        u: flat.u,
-        w: flat.w,
+impl From<CHeadInterval> for Interval {
+    ghost from_gives = { λ c interval. interval ≡ interval_meant c };
+
+    fn from(flat: CHeadInterval) -> Self {
+        Interval {
+            a: flat.a,
+            b: flat.b,
+            u: flat.u,
+            w: flat.w,
+        }
     }
 }
 
-pub fn flat_head(head: Head) -> CHead
-    ensures { result ≡ flat_head head }
+impl From<Head> for CHead {
+    ghost from_gives = { λ head c. c ≡ flat_head head };
+
+    fn from(head: Head) -> Self {
+        CHead {
+            basis: u8::from(head.basis),
+            parity: u8::from(head.parity),
+            strategy: u8::from(head.strategy),
+            transform: u8::from(head.transform),
+            degree: head.degree,
+            base: head.base,
+            ct: head.ct,
+            pt: head.pt,
+            depth: head.depth,
+            coefficients: head.coefficients,
+            lists: head.lists,
+            steps: head.steps,
+            interval: CHeadInterval::from(head.interval),
+        }
+    }
+}
+
+impl TryFrom<CHead> for Head {
+    type Error = Refusal;
+
+    ghost try_from_gives = { λ c r. Reads (knows_head c) (head_meant c) r };
+
+    fn try_from(flat: CHead) -> Result<Self, Refusal> {
+        let transform = PolynomialInputTransform::try_from(flat.transform)?;
+        let settings = settings_of(flat.strategy, flat.parity, flat.basis)?;
+        Ok(Head {
+            basis: settings.basis,
+            parity: settings.parity,
+            strategy: settings.strategy,
+            transform,
+            degree: flat.degree,
+            base: flat.base,
+            ct: flat.ct,
+            pt: flat.pt,
+            depth: flat.depth,
+            coefficients: flat.coefficients,
+            lists: flat.lists,
+            steps: flat.steps,
+            interval: Interval::from(flat.interval),
+        })
+    }
+}
+
+// Returns the head that a refused plan has for C: zero in every field.
+pub fn no_head() -> CHead
+    ensures { result ≡ flat_head no_head }
 {
-    let basis = head.basis;
-    let parity = head.parity;
-    let strategy = head.strategy;
-    let transform = head.transform;
-    let interval = head.interval;
     CHead {
-        basis: basis_number(basis),
-        parity: parity_number(parity),
-        strategy: strategy_number(strategy),
-        transform: transform_number(transform),
-        degree: head.degree,
-        base: head.base,
-        ct: head.ct,
-        pt: head.pt,
-        depth: head.depth,
-        coefficients: head.coefficients,
-        lists: head.lists,
-        steps: head.steps,
-        interval: flat_head_interval(interval),
-    }
-}
-
-// The head that is meant.
-pub fn head_of(head: CHead) -> Head
-    ensures { result ≡ head_meant head }
-{
-    let interval = head.interval;
-    Head {
-        basis: basis_of(head.basis),
-        parity: parity_of(head.parity),
-        strategy: strategy_of(head.strategy),
-        transform: transform_of(head.transform),
-        degree: head.degree,
-        base: head.base,
-        ct: head.ct,
-        pt: head.pt,
-        depth: head.depth,
-        coefficients: head.coefficients,
-        lists: head.lists,
-        steps: head.steps,
-        interval: interval_of(interval),
-    }
-}
-
-// Whether all four kinds are known.
-pub fn knows_head(head: CHead) -> bool
-    ensures { result ≡ knows_head head }
-{
-    if !is_transform(head.transform) {
-        return false;
-    }
-    knows_all(head.strategy, head.parity, head.basis)
-}
-
-pub fn flat_planned(answer: Planned) -> CPlanned
-    ensures { result ≡ flat_planned answer }
-{
-    let head = answer.head;
-    CPlanned {
-        refusal: answer.refusal,
-        head: flat_head(head),
-    }
-}
-
-// The answer to an unknown kind.
-pub fn no_plan() -> CPlanned
-    ensures { result ≡ no_plan }
-{
-    CPlanned {
-        refusal: 43,
-        head: CHead {
-            basis: 0,
-            parity: 0,
-            strategy: 0,
-            transform: 0,
-            degree: 0,
-            base: 0,
-            ct: 0,
-            pt: 0,
-            depth: 0,
-            coefficients: 0,
-            lists: 0,
-            steps: 0,
-            interval: CHeadInterval {
-                a: 0.0,
-                b: 0.0,
-                u: 0.0,
-                w: 0.0,
-            },
+        basis: 0,
+        parity: 0,
+        strategy: 0,
+        transform: 0,
+        degree: 0,
+        base: 0,
+        ct: 0,
+        pt: 0,
+        depth: 0,
+        coefficients: 0,
+        lists: 0,
+        steps: 0,
+        interval: CHeadInterval {
+            a: 0.0,
+            b: 0.0,
+            u: 0.0,
+            w: 0.0,
         },
+    }
+}
+
+impl From<Result<Head, Refusal>> for CPlanned {
+    ghost from_gives = { λ r c. c ≡ flat_planned (planned_in r) };
+
+    fn from(answer: Result<Head, Refusal>) -> Self {
+        match answer {
+            Ok(head) => CPlanned {
+                refusal: 0,
+                head: CHead::from(head),
+            },
+            Err(refusal) => CPlanned {
+                refusal: u8::from(refusal),
+                head: no_head(),
+            },
+        }
     }
 }

@@ -1,9 +1,9 @@
 // The members of a set as structs of numbers, and the members that they mean.
-ghost use Rattle.std.specs.Prelude.{◌≡◌};
-ghost use Rattle.flat.specs.Sets.{member_meant, members_meant, knows_member, knows_members};
+ghost use Rattle.flat.specs.Sets.{member_meant, knows_member};
+ghost use Rattle.flat.specs.Reads.{Reads, ReadsMembers};
 
-use super::kinds::{basis_of, fold_of, knows_settings, parity_of, strategy_of};
-use firrozun::{MEMBERS, Member, Members};
+use super::kinds::{fold_of, settings_of};
+use firrozun::{Basis, MEMBERS, Member, Members, Parity, Refusal, SplitStrategy};
 
 // A curve's settings by their numbers, the bounds of its interval, and how many coefficients it has.
 #[repr(C)]
@@ -26,62 +26,54 @@ pub struct CMembers {
     pub members: [CMember; MEMBERS],
 }
 
-// Whether a member's kinds are known.
-fn knows_member(member: CMember) -> bool
-    ensures { result ≡ knows_member member }
-{
-    knows_settings(member.strategy, member.parity, member.basis, member.fold)
-}
+impl TryFrom<CMember> for Member {
+    type Error = Refusal;
 
-// Whether those of every member are: of the first `count`, or of all 16 if the count is above 16.
-pub fn knows_members(handed: CMembers) -> bool
-    ensures { result ≡ knows_members handed }
-{
-    let mut i = 0;
-    while i < MEMBERS {
-        if handed.count <= i {
-            return true;
-        }
-        let member = handed.members[i];
-        if !knows_member(member) {
-            return false;
-        }
-        i += 1;
+    ghost try_from_gives = { λ c r. Reads (knows_member c) (member_meant c) r };
+
+    fn try_from(flat: CMember) -> Result<Self, Refusal> {
+        let fold = fold_of(flat.fold)?;
+        let settings = settings_of(flat.strategy, flat.parity, flat.basis)?;
+        Ok(Member {
+            strategy: settings.strategy,
+            parity: settings.parity,
+            basis: settings.basis,
+            fold,
+            a: flat.a,
+            b: flat.b,
+            count: flat.count,
+        })
     }
-    true
 }
 
-// The member that is meant.
-fn member_of(member: CMember) -> Member
-    ensures { result ≡ member_meant member }
-{
+// Returns what stands in the places beyond the members: the last of each kind. No call uses it.
+fn no_member() -> Member {
     Member {
-        strategy: strategy_of(member.strategy),
-        parity: parity_of(member.parity),
-        basis: basis_of(member.basis),
-        fold: fold_of(member.fold),
-        a: member.a,
-        b: member.b,
-        count: member.count,
+        strategy: SplitStrategy::MinMult,
+        parity: Parity::Odd,
+        basis: Basis::Chebyshev,
+        fold: true,
+        a: 0.0,
+        b: 0.0,
+        count: 0,
     }
 }
 
-// The members that are meant, with what the places beyond them would mean.
-pub fn members_of(handed: CMembers) -> Members
-    ensures { result ≡ members_meant handed }
-{
-    let first = handed.members[0];
-    let meant = member_of(first);
-    let mut members = [meant; MEMBERS];
-    let mut i = 1;
-    while i < MEMBERS {
-        let member = handed.members[i];
-        let next = member_of(member);
-        members[i] = next;
-        i += 1;
-    }
-    Members {
-        count: handed.count,
-        members,
+// The kinds of the members are read: of the first `count`, or of all 16 if the count is above 16.
+impl TryFrom<CMembers> for Members {
+    type Error = Refusal;
+
+    ghost try_from_gives = { ReadsMembers };
+
+    fn try_from(handed: CMembers) -> Result<Self, Refusal> {
+        let mut members = [no_member(); MEMBERS];
+        // By index, since a proof does not know what is written through an `iter_mut`.
+        for i in 0..MEMBERS.min(handed.count) {
+            members[i] = Member::try_from(handed.members[i])?;
+        }
+        Ok(Members {
+            count: handed.count,
+            members,
+        })
     }
 }

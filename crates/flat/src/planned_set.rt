@@ -1,9 +1,10 @@
 // A planned set as a struct of numbers.
 ghost use Rattle.std.specs.Prelude.{◌≡◌};
-ghost use Rattle.flat.specs.Sets.{flat_set, flat_set_planned, no_set_planned};
+ghost use Rattle.sets.specs.SetCall.{set_in};
+ghost use Rattle.flat.specs.Sets.{flat_set, flat_set_planned};
 
-use super::head::{CHead, flat_head, no_plan};
-use firrozun::{CurveSet, MEMBERS, SetPlanned};
+use super::head::{CHead, no_head};
+use firrozun::{CurveSet, MEMBERS, Refusal};
 
 // The counts of the set, the number of its power steps, and the members' heads, whose steps are counted without power steps. Heads beyond the
 // members are zero.
@@ -24,49 +25,42 @@ pub struct CSetPlanned {
     pub set: CCurveSet,
 }
 
-fn flat_set(set: CurveSet) -> CCurveSet
-    ensures { result ≡ flat_set set }
-{
-    let first = set.heads[0];
-    let shown = flat_head(first);
-    let mut heads = [shown; MEMBERS];
-    let mut i = 1;
-    while i < MEMBERS {
-        let head = set.heads[i];
-        let next = flat_head(head);
-        heads[i] = next;
-        i += 1;
-    }
-    CCurveSet {
-        ct: set.ct,
-        pt: set.pt,
-        powers: set.powers,
-        heads,
+impl From<CurveSet> for CCurveSet {
+    ghost from_gives = { λ set c. c ≡ flat_set set };
+
+    fn from(set: CurveSet) -> Self {
+        let mut heads = [no_head(); MEMBERS];
+        // By index, since a proof does not know what is written through an `iter_mut`.
+        for i in 0..MEMBERS {
+            heads[i] = CHead::from(set.heads[i]);
+        }
+        CCurveSet {
+            ct: set.ct,
+            pt: set.pt,
+            powers: set.powers,
+            heads,
+        }
     }
 }
 
-pub fn flat_set_planned(answer: SetPlanned) -> CSetPlanned
-    ensures { result ≡ flat_set_planned answer }
-{
-    let set = answer.set;
-    CSetPlanned {
-        refusal: answer.refusal,
-        set: flat_set(set),
-    }
-}
+impl From<Result<CurveSet, Refusal>> for CSetPlanned {
+    ghost from_gives = { λ r c. c ≡ flat_set_planned (set_in r) };
 
-// The answer to an unknown kind.
-pub fn no_set() -> CSetPlanned
-    ensures { result ≡ no_set_planned }
-{
-    let plan = no_plan();
-    let none = plan.head;
-    let heads = [none; MEMBERS];
-    let set = CCurveSet {
-        ct: 0,
-        pt: 0,
-        powers: 0,
-        heads,
-    };
-    CSetPlanned { refusal: 43, set }
+    fn from(answer: Result<CurveSet, Refusal>) -> Self {
+        match answer {
+            Ok(set) => CSetPlanned {
+                refusal: 0,
+                set: CCurveSet::from(set),
+            },
+            Err(refusal) => CSetPlanned {
+                refusal: u8::from(refusal),
+                set: CCurveSet {
+                    ct: 0,
+                    pt: 0,
+                    powers: 0,
+                    heads: [no_head(); MEMBERS],
+                },
+            },
+        }
+    }
 }

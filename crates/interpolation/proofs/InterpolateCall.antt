@@ -19,7 +19,7 @@ use Rattle.number.specs.Parity.{parity_of}
 use Rattle.number.specs.Refusal.{Test, Numbered}
 use Rattle.number.specs.Tests.{miscounted, unordered, no_room}
 use Rattle.number.specs.declared.interval.Interval.{Interval}
-use Rattle.number.proofs.Refusal.{none_holds, when_refused, when_accepted}
+use Rattle.number.proofs.FirstRefusal.{none_holds, when_refused, when_accepted}
 use Rattle.interpolation.specs.Interpolate.{coefficients_of}
 use Rattle.interpolation.specs.InterpolateCall.{no_interpolation, interpolate_refusal, interpolate_answer, interpolate_buffer, InterpolateCall}
 use Rattle.interpolation.specs.inside.Filling.{Fillable}

@@ -1,21 +1,21 @@
 -- What the loops of the interpolation make, a node and a place at a time.
 use mathlib.Core.Path.{◌≡◌, refl, sym, ap}
 use mathlib.Core.List.{List, [], ◌∷◌, append-nil}
-use Prim.Native.Nat.{ℕ, ◌+◌, ◌-◌, ◌^◌, ◌<◌, ◌≤◌}
-use native.Mathlib.Nat.{le_trans}
+use mathlib.Core.Logic.{◌⊎◌, inl, inr}
+use Prim.Native.Nat.{ℕ, ◌+◌, ◌-◌, ◌<◌, ◌≤◌}
 use native.Mathlib.Numerals.{add-one}
 use native.Mathlib.Omega.{arith}
-use lib.Dec.{T, le→leb, lit≤}
-use lib.IntN.{pos}
 use lib.ListN.{length, get_or, take, drop, set, drop_of_length-le}
-use lib.Seq.{drop-cons, take_all}
-use lib.Ieee.{binary64, in_float}
+use lib.Seq.{take_all}
 use borrow.Rule.Slice.PartMut.{mid_of, put_mid}
 use Rattle.algebra.specs.Operations.{Operations, double}
 use Rattle.algebra.specs.Power.{cheb}
 use Rattle.algebra.proofs.Chebyshev.{cheb_step}
-use Rattle.number.specs.Limits.{count_limit}
 use Rattle.interpolation.specs.Interpolate.{add_node, add_nodes, scaled_by, scaled}
+
+-- a list that starts with an item is not empty
+no_cons : {A : Type 0} {x : A} {xs : List A} → x ∷ xs ≡ [] → ⊥
+no_cons e = (let same = ap length e in omega arith)
 
 module _ {A : Type 0} (𝓞 : Operations A) where
   -- T_(i+2), with the index as the code counts
@@ -32,17 +32,18 @@ module _ {A : Type 0} (𝓞 : Operations A) where
   unfolding add_node
   node_cons j node value s sums = rw add-one
 
-  module _ (nodes values sums : List A) (k : ℕ) where
-    -- one node more, and past the last
-    pub nodes_more : (d : A) → k < length nodes → k < length values
-        → add_nodes 𝓞 (drop (k + 1) nodes) (drop (k + 1) values) (add_node 𝓞 0 (get_or nodes k d) (get_or values k d) sums)
-        ≡ add_nodes 𝓞 (drop k nodes) (drop k values) sums
-    unfolding add_nodes
-    nodes_more d g h = rw (drop-cons nodes k d g, drop-cons values k d h, add-one)
+  -- one node more, and past the last
+  pub node_more : (node value : A) (sums : List A) {nodes values nodes_left values_left : List A} → nodes ≡ node ∷ nodes_left → values ≡ value ∷ values_left
+      → add_nodes 𝓞 nodes_left values_left (add_node 𝓞 0 node value sums) ≡ add_nodes 𝓞 nodes values sums
+  unfolding add_nodes
+  node_more node value sums e f = rw (e, f)
 
-    pub nodes_end : length nodes ≤ k → add_nodes 𝓞 (drop k nodes) (drop k values) sums ≡ sums
-    unfolding add_nodes
-    nodes_end h = rw (drop_of_length-le nodes h)
+  pub nodes_end : (nodes values sums : List A) → (nodes ≡ []) ⊎ (values ≡ []) → add_nodes 𝓞 nodes values sums ≡ sums
+  unfolding add_nodes
+  nodes_end [] values sums end = refl
+  nodes_end (node ∷ nodes) [] sums end = refl
+  nodes_end (node ∷ nodes) (value ∷ values) sums (inl e) = absurd (no_cons e)
+  nodes_end (node ∷ nodes) (value ∷ values) sums (inr e) = absurd (no_cons e)
 
   -- the first element, and the part after it
   pub scaled_parts : (inverse d : A) (sums : List A) → 0 < length sums
@@ -59,8 +60,3 @@ head_part F (x ∷ xs) v ys h e =
     let all : length xs ≤ length (v ∷ xs) - 1 = omega arith in
     let whole_part : F (take (length (v ∷ xs) - 1) xs) ≡ F xs = ap F (take_all (length (v ∷ xs) - 1) xs all) in
     rw (e, drop_of_length-le xs all, append-nil, whole_part)
-
--- up to the limit a number is exact as a float
-pub count_fits : (n : ℕ) → n ≤ count_limit → T (in_float binary64 (pos n))
-unfolding in_float
-count_fits n h = le→leb n (2 ^ 53) (le_trans h (lit≤ tt))

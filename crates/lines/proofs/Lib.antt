@@ -1,7 +1,6 @@
 mod FieldLaws
-mod WholeLaws
-mod FormLaws
 mod LineLaws
+mod WholeLaws
 pub mod FieldsJoined
 pub mod LettersSay
 pub mod SpelledSame

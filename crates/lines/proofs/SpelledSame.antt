@@ -63,9 +63,9 @@ module _ (n : ℕ) (bs : List ℕ) (ok : is_number bs ≡ true) where
     negative_value = ap (with_sign true) (number_same n bs);
   }
 
-minus_zero_lem : (n : ℕ) → value_of (minus ∷ zeros n []) ≡ pos 0
+minus_zero : (n : ℕ) → value_of (minus ∷ zeros n []) ≡ pos 0
 unfolding value_of number_from
-minus_zero_lem n = ap (with_sign true) (number_same n [])
+minus_zero n = ap (with_sign true) (number_same n [])
 
 pub spellings : Spellings
-spellings = record { zeros_first = spelled; minus_zero_lem = minus_zero_lem }
+spellings = record { zeros_first = spelled; minus_zero = minus_zero }

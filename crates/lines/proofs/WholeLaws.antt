@@ -1,6 +1,6 @@
 -- Laws of the number that digits say: place by place, its bound, and its sign.
-use mathlib.Core.Path.{◌≡◌, refl, sym, ◌∙◌}
-use mathlib.Core.Bool.{Bool, true, false, cond, ◌&&◌}
+use mathlib.Core.Path.{◌≡◌, refl, ap, sym, ◌∙◌}
+use mathlib.Core.Bool.{Bool, true, false, ◌&&◌}
 use mathlib.Core.List.{List, [], ◌∷◌}
 use Prim.Native.Nat.{ℕ, suc, ◌+◌, ◌-◌, ◌*◌, ◌<◌, ◌≤◌, ◌^◌}
 use native.Mathlib.Nat.{pow-suc, pow-le-pow_right, add-zero}
@@ -8,12 +8,13 @@ use native.Mathlib.Numerals.{add-one}
 use native.Mathlib.Omega.{arith}
 use borrow.Author.Tests.{leb-true}
 use lib.Dec.{leb, ltb, lit<}
-use lib.IntN.{ℤ}
 use lib.ListN.{length, get_or, drop, drop_of_length-le}
 use lib.Seq.{drop-cons}
+use Rattle.std.specs.Char.{is_ascii_digit}
+use Rattle.std.specs.List.{list_all}
 use Rattle.lines.specs.Bytes.{digit0, digit9}
 use Rattle.lines.specs.Limits.{digit_limit}
-use Rattle.lines.specs.Whole.{is_digit, are_digits, may_have, is_number, number_from, number_of, is_minus, with_sign, is_whole, value_of}
+use Rattle.lines.specs.Whole.{is_digit, are_digits, may_have, is_number, number_from, number_of}
 use Rattle.number.proofs.BothHold.{and_left, and_right}
 
 -- ---- digits and their number from a place on
@@ -56,14 +57,20 @@ module _ (bs : List ℕ) (ok : is_number bs ≡ true) where
   pub at_most : length bs ≤ digit_limit
   at_most = leb-true (length bs) digit_limit (and_right (ltb 0 (length bs)) (leb (length bs) digit_limit) length_ok)
 
-module _ (bs : List ℕ) (n : ℕ) (counted : length bs ≡ n) where
-  pub wrong_length : may_have n ≡ false → false ≡ is_number bs
+module _ (bs : List ℕ) where
+  pub wrong_length : may_have (length bs) ≡ false → false ≡ is_number bs
   unfolding is_number
-  wrong_length t = rw (counted, t)
+  wrong_length t = rw t
 
-  pub right_length : may_have n ≡ true → are_digits bs ≡ is_number bs
+  pub right_length : may_have (length bs) ≡ true → are_digits bs ≡ is_number bs
   unfolding is_number
-  right_length t = rw (counted, t)
+  right_length t = rw t
+
+-- std's test of a digit, at every byte
+pub digits_all : (bs : List ℕ) → list_all is_ascii_digit bs ≡ are_digits bs
+unfolding are_digits
+digits_all [] = refl
+digits_all (b ∷ bs) = ap (λ (t : Bool). is_digit b && t) (digits_all bs)
 
 -- ---- bounds
 
@@ -75,8 +82,11 @@ digit_bounds b e = (leb-true digit0 b (and_left (leb digit0 b) (leb b digit9) e)
 pub grown : (k n d : ℕ) → n < 10 ^ k → d ≤ 9 → n * 10 + d < 10 ^ suc k
 grown k n d h g = rw (pow-suc 10 k) (omega arith)
 
-pub fewer : (k n : ℕ) → k ≤ 17 → n < 10 ^ k → n < 10 ^ 17
+fewer : (k n : ℕ) → k ≤ 17 → n < 10 ^ k → n < 10 ^ 17
 fewer k n h g = let m : 10 ^ k ≤ 10 ^ 17 = pow-le-pow_right (lit< tt) h in omega arith
+
+pub room_for_digit : (bs : List ℕ) (k n : ℕ) → is_number bs ≡ true → k < length bs → n < 10 ^ k → n < 10 ^ 17
+room_for_digit bs k n ok more small = fewer k n (omega (arith, at_most bs ok)) small
 
 pub some_power : (n : ℕ) → 0 < 10 ^ n
 some_power n =
@@ -101,28 +111,3 @@ number_small bs ok =
     let few : 0 + length bs ≤ 18 = omega (arith, at_most bs ok) in
     let m : 10 ^ (0 + length bs) ≤ 10 ^ 18 = pow-le-pow_right (lit< tt) few in
     omega arith
-
--- ---- the sign
-
--- an empty field has none
-pub no_minus : (f : List ℕ) → length f ≡ 0 → false ≡ is_minus f
-no_minus [] e = refl
-no_minus (b ∷ bs) e = absurd (omega arith)
-
--- the digits begin at k, behind the minus if there is one
-module _ (f : List ℕ) {m : Bool} {k : ℕ} (sign : m ≡ is_minus f) (start : k ≡ cond m 1 0) where
-  pub sign_within : k ≤ length f
-  sign_within = by_field f m sign start
-    where
-      by_field : (f : List ℕ) (m : Bool) → m ≡ is_minus f → k ≡ cond m 1 0 → k ≤ length f
-      by_field [] m e g = let z : k ≡ 0 = g ∙ rw e in omega arith
-      by_field (b ∷ bs) true e g = omega arith
-      by_field (b ∷ bs) false e g = omega arith
-
-  pub whole_is : is_number (drop k f) ≡ is_whole f
-  unfolding is_whole
-  whole_is = rw (start, sign)
-
-  pub value_is : {n : ℕ} {z : ℤ} → n ≡ number_of (drop k f) → z ≡ with_sign m n → z ≡ value_of f
-  unfolding value_of
-  value_is number signed = rw (signed, number, start, sign)

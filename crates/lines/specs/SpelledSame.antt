@@ -19,4 +19,4 @@ pub record SpelledSame (n : ℕ) (digits : List ℕ) : Type 0 where
 -- so it is for all digits, and a minus before zeros alone is 0
 pub record Spellings : Type 0 where
   pub zeros_first : (n : ℕ) (digits : List ℕ) → is_number digits ≡ true → SpelledSame n digits
-  pub minus_zero_lem : (n : ℕ) → value_of (minus ∷ zeros n []) ≡ pos 0
+  pub minus_zero : (n : ℕ) → value_of (minus ∷ zeros n []) ≡ pos 0

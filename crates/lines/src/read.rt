@@ -1,187 +1,102 @@
 // Reading a line.
-ghost use Rattle.std.specs.Prelude.{◌≡◌, ◌≤◌, length, set};
-ghost use Rattle.lines.specs.Limits.{line_limit};
-ghost use Rattle.lines.specs.Line.{are_settings, are_whole};
-ghost use Rattle.lines.specs.ReadLine.{no_line, ReadLine};
-ghost use Rattle.lines.specs.inside.FieldsFrom.{fields_from};
-ghost use Rattle.lines.specs.inside.Reading.{Taken, Opened, Fillable, Filled, line_by};
+ghost use Rattle.std.specs.Prelude.{◌≡◌, ◌≤◌, true, IfSome, map, length, drop};
+ghost use Rattle.std.proofs.lemmas.List.Edits.{sets};
+ghost use Rattle.lines.specs.Line.{are_whole};
+ghost use Rattle.lines.specs.Whole.{value_of};
+ghost use Rattle.lines.specs.ReadLine.{line_in, ReadLine};
+ghost use Rattle.lines.specs.inside.FieldsLeft.{fields_left};
+ghost use Rattle.lines.specs.inside.Reading.{opening_of, ReadForm, counted};
 
-use crate::field::{field_end, only_byte};
-use crate::letter::{
-    basis_of, fold_of, is_basis, is_fold, is_parity, is_strategy, parity_of, strategy_of,
-};
+use crate::buffer::store;
+use crate::field::Fields;
+use crate::letter::{basis_of, fold_of, parity_of, strategy_of};
 use crate::limits::LINE_LIMIT;
 use crate::whole::{is_whole, value_of};
-use algebra::{Basis, Parity};
-use counts::SplitStrategy;
+use counts::Settings;
+use number::Refusal;
 
-// The letter of a field, or 0, and where the next field begins.
-#[derive(Clone, Copy)]
-pub struct Letter {
-    pub byte: u8,
-    pub next: usize,
-}
-
-// The letters of the first four fields, and where the next field begins.
+// What a line's letters say: the settings, and whether to fold.
 #[derive(Clone, Copy)]
 pub struct Opening {
-    pub basis: u8,
-    pub parity: u8,
-    pub strategy: u8,
-    pub fold: u8,
-    pub next: usize,
+    pub settings: Settings,
+    pub fold: bool,
 }
 
-// What a line says: 0 or the refusal, the settings, and the number of coefficients.
+// What a line says: the settings, whether to fold, and how many coefficients there are.
 #[derive(Clone, Copy)]
 pub struct Line {
-    pub refusal: u8,
-    pub basis: Basis,
-    pub parity: Parity,
-    pub strategy: SplitStrategy,
+    pub settings: Settings,
     pub fold: bool,
     pub count: usize,
 }
 
-// The letter of the field at a place.
-fn take_letter(line: &[u8], at: usize) -> Letter
-    requires { length line.now ≤ line_limit }
-    ensures { Taken line.now at result }
+// Reads the letters of the first four fields, and returns what they say, if they are settings.
+fn take_opening(fields: &mut Fields) -> Option<Opening>
+    ensures opening { result ≡ opening_of (fields_left fields.old) }
+    ensures rest { IfSome result (λ _. fields_left fields.new ≡ drop 4 (fields_left fields.old)) }
 {
-    if line.len() < at {
-        return Letter { byte: 0, next: at };
-    }
-    let end = field_end(line, at);
-    Letter {
-        byte: only_byte(&line[at..end]),
-        next: end + 1,
-    }
+    let basis = basis_of(fields.letter()?)?;
+    let parity = parity_of(fields.letter()?)?;
+    let strategy = strategy_of(fields.letter()?)?;
+    let fold = fold_of(fields.letter()?)?;
+    let settings = Settings {
+        strategy,
+        parity,
+        basis,
+    };
+    Some(Opening { settings, fold })
 }
 
-// The letters of the first four fields.
-fn take_opening(line: &[u8]) -> Opening
-    requires { length line.now ≤ line_limit }
-    ensures { Opened line.now result }
+// How many fields there are, if every one of them is a whole number.
+fn count_whole(fields: Fields) -> Option<usize>
+    requires { length (fields_left fields) ≤ 65536 }
+    ensures { result ≡ counted (fields_left fields.entry) }
 {
-    let basis = take_letter(line, 0);
-    let parity = take_letter(line, basis.next);
-    let strategy = take_letter(line, parity.next);
-    let fold = take_letter(line, strategy.next);
-    Opening {
-        basis: basis.byte,
-        parity: parity.byte,
-        strategy: strategy.byte,
-        fold: fold.byte,
-        next: fold.next,
-    }
-}
-
-// Whether four letters are settings.
-fn are_settings(basis: u8, parity: u8, strategy: u8, fold: u8) -> bool
-    ensures { result ≡ are_settings basis parity strategy fold }
-{
-    if !is_basis(basis) {
-        return false;
-    }
-    if !is_parity(parity) {
-        return false;
-    }
-    if !is_strategy(strategy) {
-        return false;
-    }
-    is_fold(fold)
-}
-
-// Whether every field from a place on is a whole number.
-fn are_whole(line: &[u8], from: usize) -> bool
-    requires { length line.now ≤ line_limit }
-    ensures { result ≡ are_whole (fields_from from line.now) }
-{
-    let mut at = from;
-    while at <= line.len() {
-        let end = field_end(line, at);
-        if !is_whole(&line[at..end]) {
-            return false;
+    let mut count = 0;
+    for field in fields {
+        if !is_whole(field) {
+            return None;
         }
-        at = end + 1;
+        count += 1;
     }
-    true
+    Some(count)
 }
 
-// A number at a place of the buffer, if it has the place.
-fn put_value(buffer: &mut [i64], i: usize, value: i64)
-    ensures { buffer.new ≡ set buffer.old i value }
+// Writes the values of the fields into the buffer's first places, as many as it has. (Over `buffer.iter_mut().zip(fields)` a proof doesn't see what the
+// buffer holds in the end.)
+fn fill_values(fields: Fields, buffer: &mut [i64])
+    requires few { length (fields_left fields) ≤ 65536 }
+    requires whole { are_whole (fields_left fields) ≡ true }
+    ensures { buffer.new ≡ sets buffer.old 0 (map value_of (fields_left fields.entry)) }
 {
-    if i < buffer.len() {
-        buffer[i] = value;
+    for (i, field) in fields.enumerate() {
+        store(buffer, i, value_of(field));
     }
 }
 
-// The values of the fields from a place on, as many as the buffer holds, and how many fields there are.
-fn fill_values(line: &[u8], from: usize, buffer: &mut [i64]) -> usize
-    requires { Fillable line.now from }
-    ensures { Filled (fields_from from line.now) buffer.old buffer.new result }
-{
-    let mut at = from;
-    let mut i = 0;
-    while at <= line.len() {
-        let end = field_end(line, at);
-        let value = value_of(&line[at..end]);
-        put_value(buffer, i, value);
-        i += 1;
-        at = end + 1;
-    }
-    i
-}
-
-// The answer to a line that doesn't have the form.
-fn no_line() -> Line
-    ensures { result ≡ no_line 12 }
-{
-    Line {
-        refusal: 12,
-        basis: Basis::Monomial,
-        parity: Parity::Full,
-        strategy: SplitStrategy::MinDepth,
-        fold: false,
-        count: 0,
-    }
-}
-
-// The answer to a line with these letters and count coefficients.
-fn line_by(opening: Opening, count: usize) -> Line
-    ensures { result ≡ line_by opening count }
-{
-    Line {
-        refusal: 0,
-        basis: basis_of(opening.basis),
-        parity: parity_of(opening.parity),
-        strategy: strategy_of(opening.strategy),
-        fold: fold_of(opening.fold),
-        count,
-    }
-}
-
-// Reads a line: its settings, how many coefficients it has, and the coefficients, as many as the buffer holds; or refusal 12.
-pub fn read_line(line: &[u8], coefficients: &mut [i64]) -> Line
-    ensures { ReadLine line.now coefficients.old result coefficients.new }
+// Reads a line in the form: its settings, how many coefficients it has, and the coefficients, as many as the buffer holds. Any other line is none, and
+// leaves the buffer as it was.
+fn read_form(line: &[u8], coefficients: &mut [i64]) -> Option<Line>
+    ensures { ReadForm line.now coefficients.old result coefficients.new }
 {
     if LINE_LIMIT < line.len() {
-        return no_line();
+        return None;
     }
-    let opening = take_opening(line);
-    let next = opening.next;
-    if !are_settings(
-        opening.basis,
-        opening.parity,
-        opening.strategy,
-        opening.fold,
-    ) {
-        return no_line();
-    }
-    if !are_whole(line, next) {
-        return no_line();
-    }
-    let count = fill_values(line, next, coefficients);
-    line_by(opening, count)
+    let mut fields = Fields::of(line);
+    let opening = take_opening(&mut fields)?;
+    let count = count_whole(fields)?;
+    fill_values(fields, coefficients);
+    Some(Line {
+        settings: opening.settings,
+        fold: opening.fold,
+        count,
+    })
+}
+
+// Reads a line: its settings, how many coefficients it has, and the coefficients, as many as the buffer holds. A line that doesn't have the form is refused,
+// and leaves the buffer as it was.
+pub fn read_line(line: &[u8], coefficients: &mut [i64]) -> Result<Line, Refusal>
+    ensures { ReadLine line.now coefficients.old (line_in result) coefficients.new }
+{
+    read_form(line, coefficients).ok_or(Refusal::LineMalformed)
 }

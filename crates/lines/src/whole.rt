@@ -1,31 +1,8 @@
 // A field as a whole number.
-ghost use Rattle.std.specs.Prelude.{◌≡◌, true, cond, ◌+◌, ◌-◌, ◌*◌, ◌≤◌, ◌<◌, ◌^◌, length, drop};
-ghost use Rattle.lines.specs.Bytes.{digit0};
-ghost use Rattle.lines.specs.Whole.{is_digit, are_digits, may_have, is_number, number_of, is_minus, with_sign, is_whole, value_of};
+ghost use Rattle.std.specs.Prelude.{◌≡◌, true, ◌<◌, ◌^◌};
+ghost use Rattle.lines.specs.Whole.{may_have, is_number, number_of, is_minus, with_sign, unsigned, is_whole, value_of};
 
 use crate::limits::DIGIT_LIMIT;
-
-// `0` to `9`.
-fn is_digit(b: u8) -> bool
-    ensures { result ≡ is_digit b }
-{
-    b'0' <= b && b <= b'9'
-}
-
-// Whether the field has digits alone from a place on.
-fn are_digits(field: &[u8], from: usize) -> bool
-    ensures { result ≡ are_digits (drop from field.now) }
-{
-    let mut i = from;
-    while i < field.len() {
-        let b = field[i];
-        if !is_digit(b) {
-            return false;
-        }
-        i += 1;
-    }
-    true
-}
 
 // Whether a number may have n digits.
 fn may_have(n: usize) -> bool
@@ -34,37 +11,21 @@ fn may_have(n: usize) -> bool
     0 < n && n <= DIGIT_LIMIT
 }
 
-// Whether the field has 1 to 18 digits from a place on.
-fn is_number(field: &[u8], from: usize) -> bool
-    requires { from ≤ length field.now }
-    ensures { result ≡ is_number (drop from field.now) }
+// Whether the bytes are 1 to 18 digits.
+fn is_number(bytes: &[u8]) -> bool
+    ensures { result ≡ is_number bytes.now }
 {
-    let n = field.len() - from;
-    if !may_have(n) {
-        return false;
-    }
-    are_digits(field, from)
+    may_have(bytes.len()) && bytes.iter().all(|b| b.is_ascii_digit())
 }
 
-// The number with one digit more.
-fn with_digit(number: u64, b: u8) -> u64
-    requires { (number < 10 ^ 17) × (is_digit b ≡ true) }
-    ensures { result ≡ number * 10 + (b - digit0) }
+// The number that 1 to 18 digits say.
+fn number_of(digits: &[u8]) -> u64
+    requires { is_number digits.now ≡ true }
+    ensures { result ≡ number_of digits.now }
 {
-    number * 10 + (b - b'0') as u64
-}
-
-// The number that the field's digits say from a place on.
-fn number_of(field: &[u8], from: usize) -> u64
-    requires { (from ≤ length field.now) × (is_number (drop from field.now) ≡ true) }
-    ensures { result ≡ number_of (drop from field.now) }
-{
-    let mut number: u64 = 0;
-    let mut i = from;
-    while i < field.len() {
-        let b = field[i];
-        number = with_digit(number, b);
-        i += 1;
+    let mut number = 0;
+    for digit in digits {
+        number = number * 10 + u64::from(*digit - b'0');
     }
     number
 }
@@ -73,17 +34,17 @@ fn number_of(field: &[u8], from: usize) -> u64
 fn is_minus(field: &[u8]) -> bool
     ensures { result ≡ is_minus field.now }
 {
-    if field.len() == 0 {
-        return false;
-    }
-    field[0] == b'-'
+    field.first() == Some(&b'-')
 }
 
-// How many bytes the sign takes.
-fn sign_length(minus: bool) -> usize
-    ensures { result ≡ cond minus 1 0 }
+// What stands behind the minus; the whole field where there is none.
+fn unsigned(field: &[u8]) -> &[u8]
+    ensures { result.now ≡ unsigned field.now }
 {
-    if minus { 1 } else { 0 }
+    match field {
+        [b'-', digits @ ..] => digits,
+        digits => digits,
+    }
 }
 
 // A number below 10^18 with a sign.
@@ -91,19 +52,15 @@ fn with_sign(minus: bool, number: u64) -> i64
     requires { number < 10 ^ 18 }
     ensures { result ≡ with_sign minus number }
 {
-    if minus {
-        0 - (number as i64)
-    } else {
-        number as i64
-    }
+    let magnitude = number as i64;
+    if minus { -magnitude } else { magnitude }
 }
 
 // Whether the field is a whole number.
 pub fn is_whole(field: &[u8]) -> bool
     ensures { result ≡ is_whole field.now }
 {
-    let from = sign_length(is_minus(field));
-    is_number(field, from)
+    is_number(unsigned(field))
 }
 
 // The whole number that the field says.
@@ -112,6 +69,6 @@ pub fn value_of(field: &[u8]) -> i64
     ensures { result ≡ value_of field.now }
 {
     let minus = is_minus(field);
-    let number = number_of(field, sign_length(minus));
+    let number = number_of(unsigned(field));
     with_sign(minus, number)
 }

@@ -30,7 +30,8 @@ use Rattle.lists.specs.TreeFacts.{Sound}
 use Rattle.lists.specs.Promises.{listed_as}
 use Rattle.lists.proofs.ArrangedKept.{each_arranged}
 use Rattle.lists.proofs.Arranging.{low_size, high_size}
-use Rattle.lists.proofs.SumByLength.{sum_by_length_start, sum_by_length_sum, sum_by_length_low, sum_by_length_high}
+use Rattle.number.specs.inside.Laws.{lists_low, lists_high}
+use Rattle.lists.proofs.SumByLength.{sum_by_length_start, sum_by_length_sum}
 use Rattle.lists.proofs.TreeFacts.{trees_sound}
 
 -- ---- through the cuts
@@ -44,9 +45,9 @@ made_to_53 basis base (cut p low high) c sound room =
     let under : p < length c = sound.under in
     record {
       given = within_sum (2 ^ 53) c (sum_by_length_sum c room);
-      low = made_to_53 basis base low (take p c₁) (rw (low_size whole_ops basis p c under) sound.low) (sum_by_length_low basis p c (omega arith) room);
+      low = made_to_53 basis base low (take p c₁) (rw (low_size whole_ops basis p c under) sound.low) (lists_low basis p c (omega arith) room);
       high = made_to_53 basis base high (drop p c₁) (rw (high_size whole_ops basis p c under) sound.high)
-          (sum_by_length_high basis p c (omega arith) sound.half room);
+          (lists_high basis p c (omega arith) sound.half room);
     }
 
 -- every plan tree is sound for the coefficients that it lists

@@ -5,7 +5,7 @@ pub mod Arranging
 pub mod FullTrees
 mod Counting
 mod ListedAgain
-pub mod Shape
+pub mod ListTests
 pub mod ListerCuts
 pub mod ListCall
 pub mod Lists

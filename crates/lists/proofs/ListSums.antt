@@ -17,7 +17,7 @@ use Rattle.counts.specs.declared.choice.SplitStrategy.{SplitStrategy}
 use Rattle.lists.specs.Tree.{plan_tree}
 use Rattle.lists.specs.Arrange.{leaves_of}
 use Rattle.lists.specs.ListSums.{MadeLists, lists_left, boundaries_left, SameListing, ListsAdd, ListsMultiply}
-use Rattle.lists.specs.declared.call.Listed.{Listed}
+use Rattle.lists.specs.ListCall.{Listed}
 use Rattle.lists.proofs.Standing.{Stands, listing_answer, listing_stands, ends_same, stands_add, stands_multiply}
 
 -- the answer of an accepted call, by the length

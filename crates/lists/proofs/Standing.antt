@@ -17,15 +17,14 @@ use Rattle.number.specs.Numbers.{whole_numbers}
 use Rattle.number.specs.Tests.{degree_of}
 use Rattle.number.specs.inside.Between.{Between}
 use Rattle.number.specs.inside.Room.{SumByLengthTo53}
-use Rattle.number.proofs.Refusal.{refusal_of, when_accepted}
+use Rattle.number.proofs.FirstRefusal.{refusal_of, when_accepted}
 use Rattle.counts.specs.Choice.{split_for}
 use Rattle.counts.specs.declared.choice.SplitStrategy.{SplitStrategy}
 use Rattle.counts.proofs.ChoiceLaws.{split_range}
 use Rattle.lists.specs.Tree.{Tree, relists, plan_tree}
 use Rattle.lists.specs.Arrange.{arranged, leaves_of, ends_of}
-use Rattle.lists.specs.ListCall.{list_refusal, list_answer, list_coefficients, list_boundaries, ListCall}
+use Rattle.lists.specs.ListCall.{Listed, list_refusal, list_answer, list_coefficients, list_boundaries, ListCall}
 use Rattle.lists.specs.TreeFacts.{Sound}
-use Rattle.lists.specs.declared.call.Listed.{Listed}
 use Rattle.lists.proofs.ArrangedSums.{listed_sum, listed_multiple}
 use Rattle.lists.proofs.Arranging.{length_ends}
 use Rattle.lists.proofs.ListCall.{list_passed, front_take}

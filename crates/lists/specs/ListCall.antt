@@ -1,21 +1,41 @@
 -- The list calls (docs/RULES.md, "Factorising and listing" and "Refusals"): their tests in order, their answer, and what they leave in the buffers.
-use Rattle.std.specs.Prelude.{◌≡◌, List, [], ◌∷◌, ℕ, ◌^◌, length}
+use Rattle.std.specs.Prelude.{◌≡◌, List, [], ◌∷◌, ℕ, ◌^◌, Result, length}
 use Rattle.std.proofs.lemmas.List.Edits.{sets}
 use Rattle.algebra.specs.declared.Basis.{Basis}
 use Rattle.algebra.specs.declared.Parity.{Parity}
 use Rattle.number.specs.Limits.{plan_limit}
 use Rattle.number.specs.Numbers.{Numbers}
 use Rattle.number.specs.Refusal.{Test, first_refusal, unless_refused}
+use Rattle.number.specs.Refused.{numbered}
 use Rattle.number.specs.Tests.{degree_of, too_high, no_degree, too_large, no_room, no_boundaries}
+use Rattle.number.specs.declared.refusal.Refusal.{Refusal}
 use Rattle.counts.specs.Choice.{split_for}
 use Rattle.counts.specs.declared.choice.SplitStrategy.{SplitStrategy}
 use Rattle.lists.specs.Tree.{Tree, plan_tree}
 use Rattle.lists.specs.Arrange.{arranged, leaves_of, ends_of}
-use Rattle.lists.specs.declared.call.Listed.{Listed}
+use Rattle.lists.specs.declared.call.Listing.{Listing}
+
+-- an answer in numbers: its refusal, or 0 with the degree, the base and the numbers of coefficients and lists
+pub record Listed : Type 0 where
+  pub refusal : ℕ
+  pub degree : ℕ
+  pub base : ℕ
+  pub coefficients : ℕ
+  pub lists : ℕ
 
 -- after a refusal zero in every other field
 abbrev pub no_lists : (refusal : ℕ) → Listed
 no_lists refusal = record { refusal = refusal; degree = 0; base = 0; coefficients = 0; lists = 0 }
+
+-- what a result says of it
+abbrev pub listed_in : Result Listing Refusal → Listed
+listed_in = numbered (λ (listing : Listing). record {
+  refusal = 0;
+  degree = listing.degree;
+  base = listing.base;
+  coefficients = listing.coefficients;
+  lists = listing.lists;
+}) no_lists
 
 module _ {A : Type 0} (numbers : Numbers A) (strategy : SplitStrategy) (parity : Parity) (basis : Basis) (c out : List A) (bounds : List ℕ) where
   -- how the coefficients are cut into lists

@@ -6,8 +6,7 @@ use Rattle.algebra.specs.declared.Basis.{Basis}
 use Rattle.algebra.specs.declared.Parity.{Parity}
 use Rattle.number.specs.Numbers.{whole_numbers}
 use Rattle.counts.specs.declared.choice.SplitStrategy.{SplitStrategy}
-use Rattle.lists.specs.ListCall.{ListCall}
-use Rattle.lists.specs.declared.call.Listed.{Listed}
+use Rattle.lists.specs.ListCall.{Listed, ListCall}
 
 -- ---- a call that listed a polynomial
 

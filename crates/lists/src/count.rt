@@ -9,29 +9,25 @@ ghost use Rattle.lists.specs.Tree as tree;
 ghost use Rattle.lists.specs.Arrange.{leaves_of};
 ghost use Rattle.lists.specs.inside.Listing.{Ranges};
 
-use counts::{SplitStrategy, min_depth_split};
+use counts::{SplitStrategy, min_depth_of};
 use number::{bit_len, power_of_two, top_power};
 
-// Whether the strategy lists a leading slice again.
+// Returns whether the strategy lists a leading slice again.
 pub fn relists(strategy: SplitStrategy) -> bool
     ensures { result ≡ tree.relists strategy }
 {
-    match strategy {
-        SplitStrategy::MinDepth => true,
-        SplitStrategy::MinMult => false,
-    }
+    matches!(strategy, SplitStrategy::MinDepth)
 }
 
-// The split at which a slice is listed again.
+// Returns the split at which a slice is listed again.
 pub fn smaller_split(degree: usize) -> usize
     requires { Between 1 degree plan_limit }
     ensures { result ≡ min_depth (bit_len degree) }
 {
-    let choice = min_depth_split(degree);
-    choice.split
+    min_depth_of(degree)
 }
 
-// Whether a slice is listed again at a smaller split: the leading one, near the end of the whole degree's power of two.
+// Returns whether a slice is listed again at a smaller split: the leading one is, near the end of the whole degree's power of two.
 pub fn listed_again(leading: bool, whole: usize, degree: usize, split: usize) -> bool
     requires { Ranges whole degree split }
     ensures { result ≡ (leading && listed_again whole degree split) }
@@ -45,7 +41,7 @@ pub fn listed_again(leading: bool, whole: usize, degree: usize, split: usize) ->
     power_of_two(bit_len(whole)) < whole + power_of_two(split - 1)
 }
 
-// The number of lists of the low part of a degree from the base on: each is as long as the base.
+// Returns the number of lists of the low part of a degree from the base on: each is as long as the base.
 pub fn low_lists(degree: usize, split: usize) -> usize
     requires { (2 ^ split ≤ degree) × (degree ≤ plan_limit) }
     ensures { result ≡ 2 ^ (bit_len degree - 1 - split) }
@@ -53,7 +49,7 @@ pub fn low_lists(degree: usize, split: usize) -> usize
     power_of_two(bit_len(degree) - 1 - split)
 }
 
-// The number of lists of a part of a degree, at a split.
+// Returns the number of lists of a part of a degree, at a split.
 #[cycle(count_lists_count_slice)]
 pub fn count_lists(leading: bool, whole: usize, degree: usize, split: usize) -> usize
     requires { Ranges whole degree split }
@@ -69,7 +65,7 @@ pub fn count_lists(leading: bool, whole: usize, degree: usize, split: usize) -> 
     low + high
 }
 
-// The number of lists of a slice: one, or those at the smaller split.
+// Returns the number of lists of a slice: one, or those at the smaller split.
 #[cycle(count_lists_count_slice)]
 fn count_slice(leading: bool, whole: usize, degree: usize, split: usize) -> usize
     requires { Ranges whole degree split × (degree < 2 ^ split) }

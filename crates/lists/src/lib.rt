@@ -3,14 +3,12 @@
 
 pub mod call;
 pub mod count;
-pub mod float;
-pub mod whole;
+pub mod list;
 
-pub use call::Listed;
-pub use counts::SplitStrategy;
-pub use float::decompose_bsgs_f64;
-pub use number::{Basis, Parity};
-pub use whole::decompose_bsgs;
+pub use call::Listing;
+pub use counts::{Settings, SplitStrategy};
+pub use list::decompose_bsgs;
+pub use number::{Basis, Coefficient, Parity, Refusal};
 // What serves planning, which calls it within its ranges.
 pub use count::{count_lists, listed_again, low_lists, relists, smaller_split};
-pub use whole::{copy_coeffs, list_coeffs};
+pub use list::list_coeffs;

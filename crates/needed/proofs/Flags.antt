@@ -1,8 +1,7 @@
--- Laws of truth values: cases by a test, and what the tests joined by `&&` and `||` say.
+-- Cases by a test, which std has for the value of a `cond` alone; and a test counts for one or none.
 use mathlib.Core.Path.{◌≡◌, refl}
-use mathlib.Core.Bool.{Bool, true, false, cond, ◌&&◌, ◌||◌}
-use mathlib.Core.Logic.{◌⊎◌, inl, inr}
-use Prim.Native.Nat.{ℕ, ◌≤◌}
+use mathlib.Core.Bool.{Bool, true, false, cond}
+use Prim.Native.Nat.{◌≤◌}
 use native.Mathlib.Omega.{arith}
 
 -- by whether a test holds
@@ -14,22 +13,3 @@ by_test P false holds fails = fails refl
 pub at_most_one : (test : Bool) → cond test 1 0 ≤ 1
 at_most_one true = omega arith
 at_most_one false = omega arith
-
-no_way : {X : Type 0} → false ≡ true → X
-no_way is = let clash : ◌≡◌ {A = ℕ} 0 1 = cc in absurd (omega arith)
-
--- the two sides of a test
-pub both : (x y : Bool) → (x && y) ≡ true → (x ≡ true) × (y ≡ true)
-both true y is = (refl, is)
-both false y is = no_way is
-
-pub either : (x y : Bool) → (x || y) ≡ true → (x ≡ true) ⊎ (y ≡ true)
-either true y is = inl refl
-either false y is = inr is
-
-pub left_or : (x y : Bool) → x ≡ true → (x || y) ≡ true
-left_or x y is = rw is
-
-pub right_or : (x y : Bool) → y ≡ true → (x || y) ≡ true
-right_or true y is = refl
-right_or false y is = is

@@ -8,6 +8,8 @@ use native.Mathlib.Numerals.{add-one}
 use native.Mathlib.Omega.{arith}
 use lib.Dec.{ltb}
 use lib.ListN.{length, get_or, set, replicate, take, get_or-append, get_or-eq_default}
+use Rattle.std.specs.List.{count_by}
+use Rattle.std.proofs.lemmas.List.Recursion.{is_sum_by}
 use lib.Seq.{set-append_left, set_at, take_at, take-nil}
 use Rattle.algebra.specs.declared.Basis.{Basis}
 use Rattle.algebra.specs.declared.Basis.TheVariants.{Monomial, Chebyshev}
@@ -177,3 +179,8 @@ count_marked marks n marked = count_place marks n ∙ ap (λ (b : Bool). count_m
 
 pub count_step : (marks : List Bool) (n : ℕ) → count_marks (take (n + 1) marks) ≡ count_marks (take n marks) + cond (get_or marks n false) 1 0
 count_step marks n = rw add-one (count_place marks n)
+
+-- the count is std's count of the marks that are true
+pub count_true : (marks : List Bool) → count_by (λ (mark : Bool). mark) marks ≡ count_marks marks
+unfolding count_marks
+count_true marks = sym (is_sum_by count_marks (λ (mark : Bool). cond mark 1 0) refl (λ mark rest. refl) marks)

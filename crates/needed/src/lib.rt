@@ -2,5 +2,7 @@
 #![tactic(auto)]
 
 pub mod marks;
+pub mod slicing;
 
-pub use marks::{MARKS, baby_limit, count_marks, count_needed, needed_marks};
+pub use marks::{MARKS, count_marks};
+pub use slicing::Slicing;

@@ -2,19 +2,17 @@
 -- partners below p have lost them. Over any operations, so i64 and f64 share it.
 use mathlib.Core.Path.{◌≡◌, refl, ap, sym, ◌∙◌}
 use mathlib.Core.List.{List, [], ◌∷◌, ◌++◌, map, reverse, reverse-cons, reverse-reverse, append-nil}
-use Prim.Native.Nat.{ℕ, zero, suc, ◌+◌, ◌-◌, ◌≤◌, ◌<◌, ◌^◌}
+use Prim.Native.Nat.{ℕ, zero, suc, ◌+◌, ◌-◌, ◌%◌, ◌≤◌, ◌<◌}
 use native.Mathlib.Omega.{arith}
 use lib.ListN.{length, take, drop, get_or, set, length-reverse, length-drop, drop_of_length-le, get_or-append, take-append-drop}
 use lib.Seq.{set_at, set-append_left, take_all, drop-cons, length-take-le, get_or-drop, get_or-take}
-use lib.IntN.{ℤ, pos}
-use Rattle.algebra.specs.Operations.{Operations, whole_ops, double}
+use Rattle.algebra.specs.Each.{Each}
+use Rattle.algebra.specs.Operations.{Operations, double}
 use Rattle.algebra.specs.Cut.{differences, doubled, lowered, cut_at}
 use Rattle.algebra.specs.declared.Basis.TheVariants.{Chebyshev}
 use Rattle.algebra.proofs.CutPlaces.{length_differences}
 use Rattle.algebra.proofs.Lists.{get_d_reverse, get_d_right}
-use Rattle.number.specs.Exact.{AllTo52}
-use Rattle.number.specs.inside.Pair.{cut_one, cut_two, PairTo52}
-use Rattle.number.proofs.Within.{within_at}
+use Rattle.number.specs.inside.Pair.{cut_one, cut_two, EachOfPair}
 
 module _ {A : Type 0} where
   -- place k from the front is place m from the back
@@ -184,10 +182,56 @@ module _ {A : Type 0} (𝓞 : Operations A) (d : A) (p j : ℕ) (c₀ c : List A
       rw (turn_one (omega arith))
       (cut_more 𝓞 p c₀ d inside j (p - j - 1) (p + j + 1) (omega arith) (omega arith) (omega arith) ∙ ap (cut_to 𝓞 p c₀ d) next)
 
--- over whole numbers such a pair is as small as it came
-pub pair_small : (p j : ℕ) (c₀ c : List ℤ) → p < length c₀ → length c₀ ≤ p + p → 0 < j → c ≡ cut_to whole_ops p c₀ (pos 0) (j - 1) → AllTo52 c₀
-    → (n k i : ℕ) → j ≤ n → n < length c₀ - p → k + n ≡ p → i ≡ p + n → PairTo52 c k i
-pair_small p j c₀ c inside half started before small n k i later test low high = record {
-  at_low = rw (pair_low whole_ops (pos 0) p j c₀ c inside half started before n k later test low) (within_at (2 ^ 52) c₀ small k);
-  at_high = rw (pair_high whole_ops (pos 0) p j c₀ c inside half started before n i later test high) (within_at (2 ^ 52) c₀ small i);
+-- after the turns two at a time: the next turn is the last one, or past it
+pub record Turned {A : Type 0} (𝓞 : Operations A) (d : A) (p : ℕ) (c₀ c : List A) : Type 0 where
+  pub next : ℕ
+  pub odd : next % 2 ≡ 1
+  pub from : length c₀ - p ≤ next + 1
+  pub to : next + p ≤ length c₀
+  pub before : c ≡ cut_to 𝓞 p c₀ d (next - 1)
+
+module _ {A : Type 0} (𝓞 : Operations A) (d : A) (p j : ℕ) (c₀ c : List A)
+    (inside : p < length c₀) (half : length c₀ ≤ p + p) (odd : j % 2 ≡ 1) (before : c ≡ cut_to 𝓞 p c₀ d (j - 1)) where
+  -- the loop may end at its test, or behind two turns
+  pub turned_at_test : {c' : List A} → length c₀ - p ≤ j + 1 → j + p ≤ length c₀ → c' ≡ c → Turned 𝓞 d p c₀ c'
+  turned_at_test from to is = record { next = j; odd = odd; from = from; to = to; before = is ∙ before }
+
+  pub turned_by_two : {c' : List A} → length c₀ - p ≤ j + 3 → j + 1 < length c₀ - p → c' ≡ cut_two 𝓞 d c (p - j) (p + j) → Turned 𝓞 d p c₀ c'
+  turned_by_two from to is = record {
+    next = j + 2;
+    odd = omega arith;
+    from = omega arith;
+    to = omega arith;
+    before = is ∙ turn_two 𝓞 d p j c₀ c inside half (omega arith) before to;
+  }
+
+-- where P holds of each coefficient at the start, it holds of such a pair
+each_at : {A : Type 0} (P : A → Type 0) (d : A) (c : List A) (i : ℕ) → i < length c → Each P c → P (get_or c i d)
+each_at P d [] i inside each = absurd (omega arith)
+each_at P d (x ∷ c) zero inside each = each.0
+each_at P d (x ∷ c) (suc i) inside each = each_at P d c i (omega arith) each.1
+
+pub pair_each : {A : Type 0} (𝓞 : Operations A) (P : A → Type 0) (d : A) (p j : ℕ) (c₀ c : List A) → p < length c₀ → length c₀ ≤ p + p → 0 < j
+    → c ≡ cut_to 𝓞 p c₀ d (j - 1) → Each P c₀ → (n k i : ℕ) → j ≤ n → n < length c₀ - p → k + n ≡ p → i ≡ p + n → EachOfPair P d c k i
+pair_each 𝓞 P d p j c₀ c inside half started before each n k i later test low high = record {
+  at_low = rw (pair_low 𝓞 d p j c₀ c inside half started before n k later test low) (each_at P d c₀ k (omega arith) each);
+  at_high = rw (pair_high 𝓞 d p j c₀ c inside half started before n i later test high) (each_at P d c₀ i (omega arith) each);
 }
+
+-- the last turn of an even number, and none of an odd one
+module _ {A : Type 0} (𝓞 : Operations A) (d : A) (p : ℕ) (c₀ c : List A) (inside : p < length c₀) (half : length c₀ ≤ p + p) (t : Turned 𝓞 d p c₀ c) where
+  pub turned_pair : (length c₀ - p) % 2 ≡ 0 → (P : A → Type 0) → Each P c₀ → EachOfPair P d c (p + 1 - (length c₀ - p)) (p + (length c₀ - p) - 1)
+  turned_pair even P each =
+      pair_each 𝓞 P d p t.next c₀ c inside half (omega (arith, t.odd)) t.before each (length c₀ - p - 1) (p + 1 - (length c₀ - p)) (p + (length c₀ - p) - 1)
+      (omega (arith, t.odd, t.to)) (omega arith) (omega arith) (omega arith)
+
+  pub turned_last : (length c₀ - p) % 2 ≡ 0 → cut_one 𝓞 d c (p + 1 - (length c₀ - p)) (p + (length c₀ - p) - 1) ≡ cut_at 𝓞 Chebyshev p c₀
+  turned_last even =
+      let n : length c₀ - p ≡ t.next + 1 = omega (arith, t.odd, t.from, t.to) in
+      let low : p + 1 - (length c₀ - p) ≡ p - t.next = omega (arith, n) in
+      let high : p + (length c₀ - p) - 1 ≡ p + t.next = omega (arith, n) in
+      rw (low, high) (turn_one 𝓞 d p t.next c₀ c inside half (omega (arith, t.odd)) t.before (omega (arith, n))
+      ∙ cut_all 𝓞 p c₀ d inside t.next (omega (arith, n)))
+
+  pub turned_all : ((length c₀ - p) % 2 ≡ 0 → ⊥) → c ≡ cut_at 𝓞 Chebyshev p c₀
+  turned_all uneven = t.before ∙ cut_all 𝓞 p c₀ d inside (t.next - 1) (omega (arith, t.odd, t.from, t.to))

@@ -3,26 +3,26 @@
 use mathlib.Core.Path.{◌≡◌, sym, ◌∙◌}
 use mathlib.Core.Bool.{Bool, true, false, not}
 use mathlib.Core.List.{List, [], ◌∷◌}
-use Prim.Native.Nat.{ℕ, zero, suc, ◌-◌, ◌≤◌, ◌<◌}
+use Prim.Native.Nat.{ℕ, zero, suc, ◌-◌, ◌/◌, ◌≤◌, ◌<◌}
 use native.Mathlib.Omega.{arith}
 use borrow.Author.Tests.{ltb-false, not-false}
 use lib.Dec.{ltb}
 use lib.ListN.{length, drop}
 use lib.Seq.{sets}
+use Rattle.algebra.specs.Transform.{transform_of}
 use Rattle.algebra.specs.Fold.{every_second, folded_length, fold}
 use Rattle.algebra.specs.declared.Basis.{Basis}
 use Rattle.algebra.specs.declared.Parity.{Parity}
-use Rattle.algebra.specs.declared.Parity.TheVariants.{Even, Odd}
+use Rattle.algebra.specs.declared.Parity.TheVariants.{Full, Even, Odd}
 use Rattle.algebra.proofs.FoldPlaces.{length_every_second, fold_length}
 use Rattle.number.specs.Limits.{plan_limit}
 use Rattle.number.specs.Numbers.{Numbers}
 use Rattle.number.specs.Refusal.{Test, Numbered, unless_refused}
 use Rattle.number.specs.Parity.{has_parity}
 use Rattle.number.specs.Tests.{too_high, is_full, full_parity, too_low}
-use Rattle.number.specs.FoldCall.{fold_refusal, fold_answer, fold_buffer, FoldCall}
-use Rattle.number.specs.inside.Folding.{Foldable, refusal_by, answer_by}
-use Rattle.number.specs.declared.fold.Folded.{Folded}
-use Rattle.number.proofs.Refusal.{none_holds}
+use Rattle.number.specs.FoldCall.{no_fold, fold_refusal, fold_answer, fold_buffer, FoldCall}
+use Rattle.number.specs.inside.Folding.{Foldable, refusal_by}
+use Rattle.number.proofs.FirstRefusal.{none_holds}
 use Rattle.number.proofs.EverySecond.{length_odd_places}
 
 -- room for the fold is room for the coefficients that are copied
@@ -33,6 +33,11 @@ even_room {c = c} f = omega (arith, length_every_second c, f.room)
 pub odd_room : {A : Type 0} {c out : List A} → Foldable Odd c out → length (every_second (drop 1 c)) ≤ length out
 unfolding folded_length
 odd_room {c = c} f = omega (arith, length_odd_places c, f.room)
+
+-- and of an odd Chebyshev fold, half as many places as coefficients
+pub odd_places : {A : Type 0} {c out : List A} → Foldable Odd c out → length c / 2 ≤ length out
+unfolding folded_length
+odd_places f = f.room
 
 -- ---- a call that every test passes
 
@@ -69,18 +74,17 @@ module _ {A : Type 0} (numbers : Numbers A) (parity : Parity) (basis : Basis) (c
   pub small_enough : refusal ≡ 0 → numbers.small c ≡ true
   small_enough none = sym small_is ∙ (accepted parity (length c) fits small (ltb (length out) count) (sym refusal_is ∙ none)).is_small
 
-  pub fold_refused : {r : Folded} → 0 < refusal → r ≡ answer_by refusal parity basis count → FoldCall numbers parity basis c out r out
-  unfolding fold_answer fold_buffer answer_by unless_refused
-  fold_refused {r} some r_is = by_refusal refusal call_refusal some r_is
+  pub fold_refused : 0 < refusal → FoldCall numbers parity basis c out (no_fold refusal) out
+  unfolding fold_answer fold_buffer unless_refused
+  fold_refused some = by_refusal refusal call_refusal some
     where
-      by_refusal : (k : ℕ) → fold_refusal numbers parity basis c out ≡ k → 0 < k → r ≡ answer_by k parity basis count
-          → FoldCall numbers parity basis c out r out
-      by_refusal zero is some r_is = absurd (omega arith)
-      by_refusal (suc k) is some r_is = record { answer = rw is r_is; transform = rw (is, r_is); buffer = rw is }
+      by_refusal : (k : ℕ) → fold_refusal numbers parity basis c out ≡ k → 0 < k → FoldCall numbers parity basis c out (no_fold k) out
+      by_refusal zero is some = absurd (omega arith)
+      by_refusal (suc k) is some = record { answer = rw is; transform = rw is; buffer = rw is }
 
-  pub fold_done : {r : Folded} {left : List A} → refusal ≡ 0 → r ≡ answer_by 0 parity basis count
-      → left ≡ sets out 0 (fold numbers.ops parity basis c) → FoldCall numbers parity basis c out r left
-  unfolding fold_answer fold_buffer answer_by unless_refused
-  fold_done none r_is left_is =
+  pub fold_done : {left : List A} → refusal ≡ 0 → left ≡ sets out 0 (fold numbers.ops parity basis c)
+      → FoldCall numbers parity basis c out (record { refusal = 0; transform = transform_of parity basis; parity = Full; count = count }) left
+  unfolding fold_answer fold_buffer unless_refused
+  fold_done none left_is =
       let is = call_refusal ∙ none in
-      record { answer = rw (is, written) r_is; transform = rw (is, r_is); buffer = rw is left_is }
+      record { answer = rw (is, written); transform = rw is; buffer = rw is left_is }

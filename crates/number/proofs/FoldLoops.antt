@@ -1,12 +1,17 @@
 -- The turns of the folds' loops, over plain lists: copying every second coefficient, the two odd Chebyshev folds, and the sum of a place.
 use mathlib.Core.Path.{◌≡◌, refl, ap, ap₂, sym, ◌∙◌}
 use mathlib.Core.List.{List}
-use Prim.Native.Nat.{ℕ, suc, ◌+◌, ◌*◌, ◌/◌, ◌≤◌, ◌<◌}
+use Prim.Native.Nat.{ℕ, suc, ◌+◌, ◌-◌, ◌*◌, ◌/◌, ◌%◌, ◌≤◌, ◌<◌}
 use native.Mathlib.Omega.{arith}
 use lib.ListN.{length, get_or, drop, set, length-drop}
 use lib.Seq.{sets}
 use lib.IntN.{ℤ, pos, nat_abs, ◌-ℤ◌, ◌*ℤ◌}
 use lib.Ieee.{Float, nan, neg}
+use mir.Syntax.{w64}
+use mir.Val.{SFits, to_z, of_z}
+use mir.Facts.{to_z-of_z}
+use Rattle.std.specs.Int.{div_ceil}
+use Rattle.std.proofs.lemmas.Grind.{div_ceil_times}
 use Rattle.algebra.specs.Operations.{Operations, whole_ops}
 use Rattle.algebra.specs.Fold.{every_second, folded_length, coeff_r, add_r, fold}
 use Rattle.algebra.specs.Magnitude.{sum_abs}
@@ -15,51 +20,40 @@ use Rattle.algebra.specs.declared.Parity.TheVariants.{Odd}
 use Rattle.algebra.proofs.Filling as filling
 use Rattle.algebra.proofs.FoldPlaces.{length_every_second, fold_length, get_d_sum_rFrom}
 use Rattle.algebra.proofs.FoldMagnitudes.{sum_abs_every_second}
-use Rattle.algebra.proofs.Magnitudes.{sum_abs_drop}
+use Rattle.algebra.proofs.Fits.{fits_abs}
+use Rattle.algebra.proofs.Magnitudes.{abs_get_d, sum_abs_drop}
+use Rattle.number.specs.Limits.{sum_limit}
 use Rattle.number.specs.Numbers.{float_ops}
 use Rattle.number.specs.inside.Folding.{odd_place}
 use Rattle.number.proofs.EverySecond.{every_second_step, every_second_end, length_odd_places, get_d_every_second_from, drop_every_second_from}
-use Rattle.number.proofs.FillFromEnd.{filled_from, filled_length, filled_none, filled_step}
+use Rattle.number.proofs.FillFromEnd.{filled_from, filled_none, filled_step}
 use Rattle.number.proofs.Rows.{next_coeff, add_more, add_end, alternating, alternating_end, alternating_more, alternating_small, column_is}
 
 -- ---- copying every second coefficient, from place `from` on
 
--- i of them are written, and j is the place of the next
-pub record Copying {A : Type 0} (c : List A) (from : ℕ) (start out : List A) (i j : ℕ) : Type 0 where
-  pub next : j ≡ 2 * i + from
+-- i of them are written
+pub record Copying {A : Type 0} (c : List A) (from : ℕ) (start out : List A) (i : ℕ) : Type 0 where
   pub within : i ≤ length (every_second (drop from c))
   pub so_far : out ≡ filling.copied (every_second (drop from c)) start i
 
-pub copy_start : {A : Type 0} (c : List A) (from : ℕ) (start : List A) → Copying c from start start 0 from
-copy_start c from start = record { next = omega arith; within = omega arith; so_far = refl }
+-- how many there are
+pub count_is : {A : Type 0} (c : List A) (from : ℕ) → div_ceil (length c - from) 2 ≡ length (every_second (drop from c))
+count_is c from = omega (arith, length_every_second (drop from c), length-drop from c, div_ceil_times (length c - from) 2 (omega arith))
 
-module _ {A : Type 0} {c : List A} {from : ℕ} {start out : List A} {i j : ℕ} (room : length (every_second (drop from c)) ≤ length start)
-    (t : Copying c from start out i j) where
-  pub copy_length : length out ≡ length start
-  copy_length = ap length t.so_far ∙ filling.copy_length (every_second (drop from c)) start i t.within room
-
-  copy_more : j < length c → i < length (every_second (drop from c))
-  copy_more h = omega (arith, length_every_second (drop from c), length-drop from c, t.next)
-
-  pub copy_inside : j < length c → i < length out
-  copy_inside h = omega (arith, copy_length, copy_more h)
-
-  pub copy_step : (d v : A) → j < length c → v ≡ get_or c j d → Copying c from start (set out i v) (i + 1) (j + 2)
-  copy_step d v h e =
-      let more = copy_more h in
+module _ {A : Type 0} {c : List A} {from : ℕ} {start out : List A} {i : ℕ} (room : length (every_second (drop from c)) ≤ length start)
+    (t : Copying c from start out i) where
+  pub copy_step : {v : A} → 2 * i + from < length c → v ≡ get_or c (2 * i + from) v → Copying c from start (set out i v) (i + 1)
+  copy_step {v} h e =
       let F = every_second (drop from c) in
-      let v_is : v ≡ get_or F i d = e ∙ ap (λ (k : ℕ). get_or c k d) t.next ∙ sym (get_d_every_second_from from i c d) in
+      let more : i < length F = omega (arith, length_every_second (drop from c), length-drop from c) in
       record {
-        next = omega (arith, t.next);
         within = omega arith;
-        so_far = ap (λ (l : List A). set l i v) t.so_far ∙ filling.copy_step F start i d v more room v_is;
+        so_far = ap (λ (l : List A). set l i v) t.so_far
+            ∙ filling.copy_step F start i v v more room (e ∙ sym (get_d_every_second_from from i c v));
       }
 
-  pub copy_end : length c ≤ j → out ≡ sets start 0 (every_second (drop from c))
-  copy_end h =
-      let F = every_second (drop from c) in
-      let all : i ≡ length F = omega (arith, length_every_second (drop from c), length-drop from c, t.next, t.within) in
-      t.so_far ∙ filling.copy_end F start i all room
+  pub copy_end : length (every_second (drop from c)) ≤ i → out ≡ sets start 0 (every_second (drop from c))
+  copy_end h = t.so_far ∙ filling.copy_end (every_second (drop from c)) start i (omega (arith, t.within)) room
 
 -- ---- the odd Chebyshev fold, over any numbers
 
@@ -99,9 +93,6 @@ module _ (c start : List ℤ) (room : length c / 2 ≤ length start) where
       }
 
   module _ {out : List ℤ} {s : ℤ} {left : ℕ} (t : Summing c start out s left) where
-    pub sum_length : length out ≡ length start
-    sum_length = ap length t.so_far ∙ filled_length (fold whole_ops Odd Chebyshev c) start room_odd left (omega (arith, t.within))
-
     pub sum_abs_lem : nat_abs s ≤ sum_abs c
     sum_abs_lem = omega (arith, ap nat_abs t.sum, abs_alternating c (2 * left + 1))
 
@@ -118,6 +109,19 @@ module _ (c start : List ℤ) (room : length c / 2 ≤ length start) where
       pub sum_abs_next : {s' : ℤ} → s' ≡ get_or c (2 * i + 1) (pos 0) -ℤ s → nat_abs s' ≤ sum_abs c
       sum_abs_next e = omega (arith, ap nat_abs (sum_is e), abs_alternating c (2 * i + 1))
 
+      -- as the machine makes it
+      pub read_is : sum_abs c ≤ sum_limit → to_z w64 (of_z w64 (get_or c (2 * i + 1) (pos 0))) ≡ get_or c (2 * i + 1) (pos 0)
+      read_is small = to_z-of_z (fits_abs (get_or c (2 * i + 1) (pos 0)) (omega (arith, abs_get_d c (2 * i + 1))))
+
+      pub less_fits : sum_abs c ≤ sum_limit → SFits w64 (to_z w64 (of_z w64 (get_or c (2 * i + 1) (pos 0))) -ℤ s)
+      less_fits small =
+          let less = get_or c (2 * i + 1) (pos 0) -ℤ s in
+          rw (read_is small) (fits_abs less (omega (arith, sum_abs_next {s' = less} refl)))
+
+      pub less_is : sum_abs c ≤ sum_limit
+          → to_z w64 (of_z w64 (to_z w64 (of_z w64 (get_or c (2 * i + 1) (pos 0))) -ℤ s)) ≡ get_or c (2 * i + 1) (pos 0) -ℤ s
+      less_is small = to_z-of_z (less_fits small) ∙ ap (◌-ℤ s) (read_is small)
+
       pub sum_step : {s' v : ℤ} → s' ≡ get_or c (2 * i + 1) (pos 0) -ℤ s → v ≡ s' *ℤ coeff_r whole_ops i i → Summing c start (set out i v) s' i
       sum_step {s'} {v} e ev =
           let F = fold whole_ops Odd Chebyshev c in
@@ -132,9 +136,6 @@ module _ (c start : List ℤ) (room : length c / 2 ≤ length start) where
             sum = sum_is e;
             so_far = ap (λ (l : List ℤ). set l i v) t.so_far ∙ filled_step F start room_odd left i (pos 0) v next place v_is;
           }
-
-    pub sum_end : left ≡ 0 → out ≡ sets start 0 (fold whole_ops Odd Chebyshev c)
-    sum_end e = t.so_far ∙ ap (filled_from (fold whole_ops Odd Chebyshev c) start) e
 
 -- ---- f64, place by place: the sum of a place from +0, in the source's order
 
@@ -185,9 +186,6 @@ module _ {A : Type 0} {𝓞 : Operations A} {c start out : List A} {i : ℕ} (ro
   long : length (fold 𝓞 Odd Chebyshev c) ≤ length start
   long = omega (arith, length_odd 𝓞 c)
 
-  pub placing_length : length out ≡ length start
-  placing_length = ap length t.so_far ∙ filling.copy_length (fold 𝓞 Odd Chebyshev c) start i (omega (arith, length_odd 𝓞 c, t.within)) long
-
   pub placing_step : {v : A} (d : A) → i < length c / 2 → v ≡ odd_place 𝓞 c i → Placing 𝓞 c start (set out i v) (i + 1)
   placing_step {v} d h e =
       let F = fold 𝓞 Odd Chebyshev c in
@@ -208,3 +206,21 @@ placing_two {c = c} {i = i} room t d h e₁ e₂ =
     let after : i + 2 ≡ i + 1 + 1 = omega arith in
     let more : i < length c / 2 = omega arith in
     rw after (placing_step room (placing_step room t d more e₁) d h e₂)
+
+-- after the turns of two: all places are written, or all but the last
+pub record Placed {A : Type 0} (𝓞 : Operations A) (c start out : List A) : Type 0 where
+  pub next : ℕ
+  pub even : next % 2 ≡ 0
+  pub near : length c / 2 ≤ next + 1
+  pub placing : Placing 𝓞 c start out next
+
+module _ {A : Type 0} {𝓞 : Operations A} {c start out : List A} (room : length c / 2 ≤ length start) (t : Placed 𝓞 c start out) where
+  pub placed_last : {v : A} (d : A) → length c / 2 % 2 ≡ 1 → v ≡ odd_place 𝓞 c (length c / 2 - 1)
+      → set out (length c / 2 - 1) v ≡ sets start 0 (fold 𝓞 Odd Chebyshev c)
+  placed_last {v} d odd e =
+      let last : length c / 2 - 1 ≡ t.next = omega (arith, t.even, t.near, t.placing.within) in
+      let inside : t.next < length c / 2 = omega (arith, last) in
+      rw last (placing_end room (placing_step room t.placing d inside (e ∙ ap (odd_place 𝓞 c) last)) (omega (arith, last)))
+
+  pub placed_all : (length c / 2 % 2 ≡ 1 → ⊥) → out ≡ sets start 0 (fold 𝓞 Odd Chebyshev c)
+  placed_all even = placing_end room t.placing (omega (arith, t.even, t.near, t.placing.within))

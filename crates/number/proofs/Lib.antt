@@ -1,8 +1,8 @@
 pub mod Options
 pub mod Literals
 pub mod Signed
-mod SignLaws
-pub mod Refusal
+pub mod FirstRefusal
+pub mod Refused
 pub mod Within
 mod WholeFloats
 pub mod Exact
@@ -19,7 +19,7 @@ mod Rows
 mod FoldLoops
 pub mod FoldCall
 pub mod FoldSame
-mod EvaluateLoops
+mod EvaluateFolds
 pub mod EvaluateLaw
 pub mod ParityTold
 pub mod BothHold

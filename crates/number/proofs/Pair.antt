@@ -1,20 +1,13 @@
 -- The stores of one turn of the Chebyshev cut and of two turns at once, over any operations. The four places of two turns differ, so each
 -- number is still as it came when it is read, and the stores can be exchanged.
-use mathlib.Core.Path.{◌≡◌, refl, ap, ap₂, sym, ◌∙◌}
+use mathlib.Core.Path.{◌≡◌, ap, ap₂, sym, ◌∙◌}
 use mathlib.Core.List.{List}
-use Prim.Native.Nat.{ℕ, ◌+◌, ◌-◌, ◌≤◌, ◌<◌, ◌^◌}
+use Prim.Native.Nat.{ℕ, ◌+◌, ◌-◌, ◌<◌}
 use native.Mathlib.Omega.{arith}
 use lib.ListN.{get_or, set}
 use lib.Seq.{set_comm, get_or-set_other}
-use lib.IntN.{ℤ, pos, nat_abs, ◌-ℤ◌}
-use lib.Signed.{mag}
-use mir.Syntax.{w64}
-use mir.Val.{to_z, of_z}
-use mir.Facts.{to_z-of_z}
-use Rattle.algebra.specs.Operations.{Operations, whole_ops, double}
-use Rattle.algebra.proofs.Fits.{fits_abs}
-use Rattle.number.specs.inside.Pair.{cut_one, cut_two, PairTo52}
-use Rattle.number.proofs.Signed.{back}
+use Rattle.algebra.specs.Operations.{Operations, double}
+use Rattle.number.specs.inside.Pair.{cut_one, cut_two}
 
 -- what is above low is still there after the low stores, and the place after high also after the first high one
 module _ {A : Type 0} (d : A) (c : List A) (low : ℕ) (y next_y : A) where
@@ -51,22 +44,3 @@ module _ {A : Type 0} (𝓞 : Operations A) (d : A) where
       ap (λ (l : List A). set l (high + 1) next_x) (set_comm (set c low y) (low - 1) high next_y x (omega arith))
       ∙ one_stored first (low - 1) (high + 1) next_y next_x (next_less ∙ sym (ap₂ 𝓞.sub kept_low kept_high)) next_doubled
       ∙ ap (λ (l : List A). cut_one 𝓞 d l (low - 1) (high + 1)) (one_stored c low high y x less doubled_now)
-
--- what the machine makes of a small pair, each number read out of its bits: z is the high one, which may be read again
-module _ {c : List ℤ} {low high : ℕ} (small : PairTo52 c low high) where
-  low_read : to_z w64 (of_z w64 (get_or c low (pos 0))) ≡ get_or c low (pos 0)
-  low_read = to_z-of_z (fits_abs _ (omega (arith, small.at_low)))
-
-  high_read : {z : ℤ} → z ≡ get_or c high (pos 0) → to_z w64 (of_z w64 z) ≡ z
-  high_read same = rw same (to_z-of_z (fits_abs _ (omega (arith, small.at_high))))
-
-  pub less_made : {r : ℤ} → mag r < 2 ^ 63 → r ≡ to_z w64 (of_z w64 (get_or c low (pos 0))) -ℤ to_z w64 (of_z w64 (get_or c high (pos 0)))
-      → to_z w64 (of_z w64 r) ≡ get_or c low (pos 0) -ℤ get_or c high (pos 0)
-  less_made fits e = back fits (e ∙ ap₂ ◌-ℤ◌ low_read (high_read refl))
-
-  pub high_small : {z : ℤ} → z ≡ get_or c high (pos 0) → nat_abs (to_z w64 (of_z w64 z)) ≤ 2 ^ 52
-  high_small same = rw (high_read same, same) small.at_high
-
-  pub double_made : {z r : ℤ} → z ≡ get_or c high (pos 0) → mag r < 2 ^ 63 → r ≡ double whole_ops (to_z w64 (of_z w64 z))
-      → to_z w64 (of_z w64 r) ≡ double whole_ops z
-  double_made same fits e = back fits (e ∙ ap (double whole_ops) (high_read same))

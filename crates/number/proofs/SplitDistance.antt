@@ -8,9 +8,8 @@ use Rattle.algebra.specs.Power.{power}
 use Rattle.algebra.specs.ProductLaw.{product_of}
 use Rattle.algebra.proofs.ProductLaw.{product_law}
 use Rattle.number.specs.Limits.{degree_limit}
-use Rattle.number.specs.Split.{split_of, no_parts}
+use Rattle.number.specs.Split.{Parts, split_of, no_parts}
 use Rattle.number.specs.SplitDistance.{Taken, ThirdIsDistance, PartsDiffer, RefusedZero, SplitProduct}
-use Rattle.number.specs.declared.split.Parts.{Parts}
 use Rattle.number.proofs.SplitParts.{Parted, split_accepted, split_below, split_above, parted}
 
 -- an index is either taken, and has two parts, or refused with zeros

@@ -10,8 +10,7 @@ use Rattle.algebra.specs.Distance.{distance_of}
 use Rattle.number.specs.Bits.{is_power_of_two, power_below}
 use Rattle.number.specs.Limits.{degree_limit}
 use Rattle.number.specs.Refusal.{unless_refused}
-use Rattle.number.specs.Split.{parts_by, parts_of, no_parts, split_refusal, split_of}
-use Rattle.number.specs.declared.split.Parts.{Parts}
+use Rattle.number.specs.Split.{Parts, parts_by, parts_of, no_parts, split_refusal, split_of}
 use Rattle.number.proofs.Bits.{power_below_lem, doubled_is_power, power_is_doubled}
 
 -- an index from 2 to 4,294,967,295 is not refused

@@ -1,5 +1,5 @@
 -- The fold calls (docs/RULES.md, "Folding" and "Refusals"): their tests in order, their answer, and what they leave in the buffer.
-use Rattle.std.specs.Prelude.{◌≡◌, List, [], ◌∷◌, ◌++◌, ℕ, length}
+use Rattle.std.specs.Prelude.{◌≡◌, List, [], ◌∷◌, ◌++◌, ℕ, Result, length}
 use Rattle.std.proofs.lemmas.List.Edits.{sets}
 use Rattle.algebra.specs.EnumNumbers.{transform_number}
 use Rattle.algebra.specs.Fold.{fold}
@@ -7,16 +7,30 @@ use Rattle.algebra.specs.Transform.{transform_of}
 use Rattle.algebra.specs.declared.Basis.{Basis}
 use Rattle.algebra.specs.declared.Parity.{Parity}
 use Rattle.algebra.specs.declared.Parity.TheVariants.{Full}
+use Rattle.algebra.specs.declared.PolynomialInputTransform.{PolynomialInputTransform}
 use Rattle.algebra.specs.declared.PolynomialInputTransform.TheVariants.{Identity}
 use Rattle.number.specs.Limits.{plan_limit}
 use Rattle.number.specs.Numbers.{Numbers}
 use Rattle.number.specs.Refusal.{Test, first_refusal, unless_refused}
 use Rattle.number.specs.Tests.{degree_of, too_high, folding_tests, too_large, no_room}
-use Rattle.number.specs.declared.fold.Folded.{Folded}
+use Rattle.number.specs.Refused.{numbered}
+use Rattle.number.specs.declared.fold.Fold.{Fold}
+use Rattle.number.specs.declared.refusal.Refusal.{Refusal}
+
+-- the call's answer in numbers: its refusal, or 0 with the transform, the result's parity and the number of coefficients written
+pub record Folded : Type 0 where
+  pub refusal : ℕ
+  pub transform : PolynomialInputTransform
+  pub parity : Parity
+  pub count : ℕ
 
 -- after a refusal zero in every other field, and the first transform and parity
 abbrev pub no_fold : (refusal : ℕ) → Folded
 no_fold refusal = record { refusal = refusal; transform = Identity; parity = Full; count = 0 }
+
+-- what a result says of the answer
+abbrev pub folded_in : Result Fold Refusal → Folded
+folded_in = numbered (λ (f : Fold). record { refusal = 0; transform = f.transform; parity = f.parity; count = f.count }) no_fold
 
 module _ {A : Type 0} (numbers : Numbers A) (parity : Parity) (basis : Basis) (c out : List A) where
   -- the folded coefficients

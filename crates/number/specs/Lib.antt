@@ -3,6 +3,7 @@ pub mod Limits
 pub mod Numbers
 pub mod Exact
 pub mod Refusal
+pub mod Refused
 pub mod Bits
 pub mod Parity
 pub mod ParityTold

@@ -1,10 +1,19 @@
 -- Splitting an index (docs/RULES.md, "Splitting an index"; Lee et al. 2020), with the distance of the parts (request Q-6).
-use Rattle.std.specs.Prelude.{Bool, true, false, [], ◌∷◌, ℕ, ◌+◌, ◌-◌, ◌/◌}
+use Rattle.std.specs.Prelude.{Bool, true, false, [], ◌∷◌, ℕ, ◌+◌, ◌-◌, ◌/◌, Result}
 use Rattle.algebra.specs.Distance.{distance_of}
 use Rattle.number.specs.Bits.{is_power_of_two, power_below}
 use Rattle.number.specs.Refusal.{first_refusal, unless_refused}
+use Rattle.number.specs.Refused.{numbered}
 use Rattle.number.specs.Tests.{out_of_range}
-use Rattle.number.specs.declared.split.Parts.{Parts}
+use Rattle.number.specs.declared.refusal.Refusal.{Refusal}
+use Rattle.number.specs.declared.split.Split.{Split}
+
+-- the call's answer in numbers: its refusal, or 0 with the two parts and their distance
+pub record Parts : Type 0 where
+  pub refusal : ℕ
+  pub a : ℕ
+  pub b : ℕ
+  pub distance : ℕ
 
 -- two parts and their distance
 abbrev pub with_distance : (a b : ℕ) → Parts
@@ -30,3 +39,7 @@ split_refusal n = first_refusal (out_of_range n ∷ [])
 -- the call's answer
 unfoldable pub split_of : (n : ℕ) → Parts
 split_of n = unless_refused (split_refusal n) (parts_of n) (no_parts (split_refusal n))
+
+-- what a result says of the answer
+abbrev pub parts_in : Result Split Refusal → Parts
+parts_in = numbered (λ (s : Split). record { refusal = 0; a = s.a; b = s.b; distance = s.distance }) no_parts

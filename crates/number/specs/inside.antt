@@ -3,3 +3,4 @@ pub mod Between
 pub mod Folding
 pub mod Pair
 pub mod Room
+pub mod Laws

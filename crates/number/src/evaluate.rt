@@ -5,44 +5,32 @@ ghost use Rattle.number.specs.Evaluate.{horner, clenshaw, evaluate};
 
 use algebra::Basis;
 
-// y·x + c from the last coefficient to the first.
+// Horner's rule: takes y to y·x + c, from the last coefficient to the first.
 fn horner(coeffs: &[f64], x: f64) -> f64
     ensures { result ≡ horner float_ops x coeffs.now }
 {
-    let mut y = 0.0f64;
-    let mut i = coeffs.len();
-    while 0 < i {
-        i -= 1;
-        y = y * x + coeffs[i];
-    }
-    y
+    coeffs.iter().rev().fold(0.0, |y, c| y * x + *c)
 }
 
-// 2x·b1 - b2 + c from the last coefficient to the second, then the first.
+// Clenshaw's rule: takes b1 to 2x·b1 - b2 + c and b2 to b1, from the last coefficient to the second, and ends with the first.
 fn clenshaw(coeffs: &[f64], x: f64) -> f64
     ensures { result ≡ clenshaw float_ops x coeffs.now }
 {
-    let n = coeffs.len();
-    if n == 0 {
-        return 0.0;
+    match coeffs {
+        [] => 0.0,
+        // A constant is returned as it is: c + x·0 - 0 would lose the sign of -0.
+        [constant] => *constant,
+        [first, rest @ ..] => {
+            let (b1, b2) = rest
+                .iter()
+                .rev()
+                .fold((0.0, 0.0), |(b1, b2), c| (2.0 * x * b1 - b2 + *c, b1));
+            *first + x * b1 - b2
+        }
     }
-    if n == 1 {
-        return coeffs[0];
-    }
-    let two = 1.0f64 + 1.0f64;
-    let mut b2 = 0.0f64;
-    let mut b1 = 0.0f64;
-    let mut i = n;
-    while 1 < i {
-        i -= 1;
-        let next = two * x * b1 - b2 + coeffs[i];
-        b2 = b1;
-        b1 = next;
-    }
-    coeffs[0] + x * b1 - b2
 }
 
-// The value at x of the polynomial with these coefficients.
+// Evaluates the polynomial with these coefficients at x.
 pub fn evaluate_coeffs(basis: Basis, coeffs: &[f64], x: f64) -> f64
     ensures { result ≡ evaluate float_ops basis coeffs.now x }
 {

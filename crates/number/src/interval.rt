@@ -1,11 +1,11 @@
 // The interval of a polynomial, with the pair that takes it to the variable of the coefficients.
 ghost use Rattle.std.specs.Prelude.{◌≡◌};
-ghost use Rattle.number.specs.Interval.{change_of_basis, no_interval};
+ghost use Rattle.number.specs.Interval.{change_of_basis};
 
 use algebra::Basis;
 
-// From a to b, with y = u·x + w.
-#[derive(Clone, Copy)]
+// From a to b, with y = u·x + w. The default has +0 in every field, as a refusal has it.
+#[derive(Clone, Copy, Debug, PartialEq, Default)]
 pub struct Interval {
     pub a: f64,
     pub b: f64,
@@ -13,38 +13,25 @@ pub struct Interval {
     pub w: f64,
 }
 
-// The interval from a to b with its change pair.
+// Returns the interval from a to b with its change pair.
 pub fn change_of_basis(basis: Basis, a: f64, b: f64) -> Interval
     ensures { result ≡ change_of_basis basis a b }
 {
     match basis {
         Basis::Monomial => Interval {
-            a: a,
-            b: b,
+            a,
+            b,
             u: 1.0,
             w: 0.0,
         },
         Basis::Chebyshev => {
-            let two = 1.0f64 + 1.0f64;
             let span = b - a;
             Interval {
-                a: a,
-                b: b,
-                u: two / span,
+                a,
+                b,
+                u: 2.0 / span,
                 w: -(a + b) / span,
             }
         }
-    }
-}
-
-// The interval of a refusal: +0 in every field.
-pub fn no_interval() -> Interval
-    ensures { result ≡ no_interval }
-{
-    Interval {
-        a: 0.0,
-        b: 0.0,
-        u: 0.0,
-        w: 0.0,
     }
 }

@@ -2,14 +2,14 @@
 ghost use Rattle.std.specs.Prelude.{◌≡◌, ◌^◌, ◌≤◌, ◌<◌};
 ghost use Rattle.number.specs.Bits.{bit_len, top_power, power_below};
 
-// The number of binary digits of n.
+// Returns the number of binary digits of n.
 pub fn bit_len(n: usize) -> usize
     ensures { result ≡ bit_len n }
 {
-    (64 - usize::leading_zeros(n)) as usize
+    (usize::BITS - n.leading_zeros()) as usize
 }
 
-// 2^k.
+// Returns 2^k.
 pub fn power_of_two(k: usize) -> usize
     requires { k < 64 }
     ensures { result ≡ 2 ^ k }
@@ -17,7 +17,7 @@ pub fn power_of_two(k: usize) -> usize
     1 << k
 }
 
-// The greatest power of two at most n.
+// Returns the greatest power of two at most n.
 pub fn top_power(n: usize) -> usize
     requires { 0 < n }
     ensures { result ≡ top_power n }
@@ -25,7 +25,7 @@ pub fn top_power(n: usize) -> usize
     power_of_two(bit_len(n) - 1)
 }
 
-// The greatest power of two below n.
+// Returns the greatest power of two below n.
 pub fn power_below(n: usize) -> usize
     requires { 2 ≤ n }
     ensures { result ≡ power_below n }

@@ -17,16 +17,17 @@ use Rattle.number.specs.Refusal.{first_refusal}
 use Rattle.number.specs.Tests.{degree_of}
 use Rattle.number.specs.declared.interval.Interval.{Interval}
 use Rattle.number.specs.inside.Between.{Between}
-use Rattle.number.proofs.Refusal.{first_kept, first_of_more, when_refused, when_accepted}
+use Rattle.number.proofs.FirstRefusal.{first_kept, first_of_more, when_refused, when_accepted}
 use Rattle.counts.specs.declared.choice.SplitStrategy.{SplitStrategy}
 use Rattle.walk.specs.declared.plan.Head.{Head}
 use Rattle.plan.specs.PlanHead.{head_of, no_head}
-use Rattle.plan.specs.PlanCall.{planned_parity, planned_transform, input_tests, Accepted, early_tests, buffer_tests, head_for, plan_refusal}
+use Rattle.plan.specs.PlanCall.{planned_parity, planned_transform, input_tests, Accepted, early_tests, buffer_tests, head_for, plan_refusal, Planned}
 use Rattle.plan.specs.PlanCall.{plan_answer, plan_coefficients, plan_boundaries, plan_numbers, PlanCall}
-use Rattle.plan.specs.PlanSizes.{degree_to_plan, sizes_in}
+use Rattle.plan.specs.PlanSizes.{degree_to_plan, sizes_in, PlanSizes, plan_sizes_in}
+use Rattle.plan.specs.declared.sizes.Sizes.{Sizes}
+use Rattle.std.specs.Prelude.{Ok}
 use Rattle.plan.specs.inside.Outlines.{outline_for}
 use Rattle.plan.specs.inside.Filling.{planned_count, buffer_refusal, PlanFits, PlanPut}
-use Rattle.plan.specs.declared.call.Planned.{Planned}
 use Rattle.plan.specs.declared.outline.Outline.{Outline}
 use Rattle.plan.proofs.PlanTests.{passed, planned_length, degree_range, degree_planned, count_planned, early_numbered, early_kept}
 use Rattle.plan.proofs.PlanTests.{early_unordered, early_passed, buffers_fit}
@@ -109,12 +110,17 @@ module _ (strategy : SplitStrategy) (parity : Parity) (basis : Basis) (folded : 
       head_same : h ≡ head
       head_same = h_is ∙ rw (interval_is, count_is ∙ sym (planned_length folded parity basis c))
 
-      module _ {k : ℕ} (k_is : k ≡ buffer_refusal h.coefficients h.lists h.steps (length out) (length bounds) (length steps)) where
+      module _ {sizes : Sizes} (sizes_are : plan_sizes_in (Ok sizes) ≡ sizes_in h) {k : ℕ}
+          (k_is : k ≡ buffer_refusal sizes.coefficients sizes.lists sizes.steps (length out) (length bounds) (length steps)) where
+        room_is : k ≡ buffer_refusal h.coefficients h.lists h.steps (length out) (length bounds) (length steps)
+        room_is =
+            k_is ∙ ap (λ (s : PlanSizes). buffer_refusal s.coefficients s.lists s.steps (length out) (length bounds) (length steps)) sizes_are
+
         refusal_is : refusal ≡ k
         refusal_is =
             late
             ∙ ap (λ (x : Head). buffer_refusal x.coefficients x.lists x.steps (length out) (length bounds) (length steps)) (sym head_same)
-            ∙ sym k_is
+            ∙ sym room_is
 
         -- a test of the buffers holds
         pub refused_buffers : {r : Planned} → 0 < k → r ≡ record { refusal = k; head = no_head }
@@ -130,7 +136,7 @@ module _ (strategy : SplitStrategy) (parity : Parity) (basis : Basis) (folded : 
               let tests = passed folded parity c accepted in
               let planned = degree_range folded parity (degree_of c) tests.settings in
               let degrees : Between 1 (count - 1) plan_limit = rw (count_is, degree_planned folded parity (length c)) planned in
-              let fit = buffers_fit (sizes_in h) (length out) (length bounds) (length steps) (sym k_is ∙ none) in
+              let fit = buffers_fit (sizes_in h) (length out) (length bounds) (length steps) (sym room_is ∙ none) in
               let places : suc (count - 1) ≤ length out = subst (λ (x : Head). x.coefficients ≤ length out) h_is fit.coefficients in
               let enough : count ≤ length out = omega arith in
               record {

@@ -29,7 +29,8 @@ use Rattle.plan.specs.PlanSteps.{last_plain, steps_at, plan_steps}
 use Rattle.plan.specs.Reported.{allowed_in, of_kind, transform_cost, reported}
 use Rattle.plan.specs.PlanHead.{head_of}
 use Rattle.plan.specs.PlanSizes.{step_count, sizes_of, sizes_in}
-use Rattle.plan.specs.inside.Outlines.{totals_of, outline_for}
+use Rattle.plan.specs.inside.Outlines.{totals_of, outline_for, costs_of, cost_for}
+use Rattle.plan.specs.declared.head.Costs.{Costs}
 use Rattle.plan.specs.declared.outline.Totals.{Totals}
 use Rattle.plan.specs.declared.outline.Outline.{Outline}
 use Rattle.plan.proofs.ListTotals.{totals_range}
@@ -111,6 +112,14 @@ step_count_lem strategy parity basis degree =
     let one = some_leaves (plan_tree strategy parity basis degree) in
     omega (arith, counted.steps)
 
+-- those of a degree are in its outline
+pub outline_sizes : (strategy : SplitStrategy) (parity : Parity) (basis : Basis) (degree : ℕ) {outline : Outline}
+    → outline ≡ outline_for strategy parity basis degree
+    → record { refusal = 0; coefficients = outline.coefficients; lists = outline.lists; steps = outline.steps } ≡ sizes_of strategy parity basis degree
+unfolding sizes_of
+outline_sizes strategy parity basis degree is =
+    ap (λ (o : Outline). record { refusal = 0; coefficients = o.coefficients; lists = o.lists; steps = o.steps }) is
+
 -- those of a degree are in its head
 pub head_sizes : (strategy : SplitStrategy) (parity : Parity) (basis : Basis) (transform : PolynomialInputTransform) (interval : Interval) (degree : ℕ)
     → sizes_in (head_of strategy parity basis transform interval degree) ≡ sizes_of strategy parity basis degree
@@ -131,6 +140,14 @@ four_most true lists positive = by_count (dec_lt lists 2)
     by_count (yes one) = rw (lt-leb 2 lists one) (omega arith)
     by_count (no more) = most (leb 2 lists) (omega arith)
 
+-- for one curve they are those of its plan
+pub cost_once : (transform : PolynomialInputTransform) → cost_for transform 1 ≡ transform_cost transform
+cost_once Identity = refl
+cost_once Square = refl
+cost_once SquareTimesInput = refl
+cost_once ChebyshevT2 = refl
+cost_once ChebyshevT2TimesInput = refl
+
 pub cost_most : (transform : PolynomialInputTransform) → transform_cost transform ≤ 2
 cost_most Identity = omega arith
 cost_most Square = omega arith
@@ -139,8 +156,9 @@ cost_most ChebyshevT2 = omega arith
 cost_most ChebyshevT2TimesInput = omega arith
 
 module _ (strategy : SplitStrategy) (parity : Parity) (basis : Basis) (transform : PolynomialInputTransform) (interval : Interval) (degree : ℕ)
-    {outline : Outline} {four cost depth base : ℕ} (range : Between 1 degree plan_limit) (outline_for_lem : outline ≡ outline_for strategy parity basis degree)
-    (four_is : four ≡ cond (outline.plain && leb 2 outline.lists) 1 0) (cost_is : cost ≡ transform_cost transform)
+    {outline : Outline} {costs : Costs} {cost depth base : ℕ} (range : Between 1 degree plan_limit)
+    (outline_for_lem : outline ≡ outline_for strategy parity basis degree)
+    (costs_are : costs ≡ costs_of outline.plain outline.lists outline.pt) (cost_is : cost ≡ cost_for transform 1)
     (depth_is : depth ≡ depth_of strategy degree) (base_is : base ≡ 2 ^ outline.split) where
   pub head_is : record {
     basis = basis;
@@ -149,8 +167,8 @@ module _ (strategy : SplitStrategy) (parity : Parity) (basis : Basis) (transform
     transform = transform;
     degree = degree;
     base = base;
-    ct = outline.powers + (outline.lists - 1) - four + cost;
-    pt = outline.pt + four;
+    ct = outline.powers + costs.threes + cost;
+    pt = costs.plains;
     depth = depth + cost;
     coefficients = outline.coefficients;
     lists = outline.lists;
@@ -168,15 +186,18 @@ module _ (strategy : SplitStrategy) (parity : Parity) (basis : Basis) (transform
       let lists_are : outline.lists ≡ leaves_of (tree_of (relists strategy) degree degree split) = ap (λ (o : Outline). o.lists) outline_for_lem in
       let pt_is : outline.pt ≡ allowed_in parity (lengths_of (tree_of (relists strategy) degree degree split) (suc degree)) =
       ap (λ (o : Outline). o.pt) outline_for_lem in
+      let four : ℕ = cond (outline.plain && leb 2 outline.lists) 1 0 in
       let same_four : four ≡ of_kind 4 steps =
-      four_is ∙ ap (λ (o : Outline). cond (o.plain && leb 2 o.lists) 1 0) outline_for_lem ∙ sym counted.plain_ones in
+      ap (λ (o : Outline). cond (o.plain && leb 2 o.lists) 1 0) outline_for_lem ∙ sym counted.plain_ones in
       let most = four_most outline.plain outline.lists known.nonempty in
-      let ct : outline.powers + (outline.lists - 1) - four + cost ≡ of_kind 1 steps + of_kind 3 steps + transform_cost transform =
+      let threes : costs.threes ≡ outline.lists - 1 - four = ap (λ (c : Costs). c.threes) costs_are in
+      let once : cost ≡ transform_cost transform = cost_is ∙ cost_once transform in
+      let ct : outline.powers + costs.threes + cost ≡ of_kind 1 steps + of_kind 3 steps + transform_cost transform =
       omega (arith, counted.encrypted, known.nonempty) in
-      let pt : outline.pt + four ≡ allowed_in parity (lengths_of (tree_of (relists strategy) degree degree split) (suc degree)) + of_kind 4 steps =
-      ap₂ ◌+◌ pt_is same_four in
+      let pt : costs.plains ≡ allowed_in parity (lengths_of (tree_of (relists strategy) degree degree split) (suc degree)) + of_kind 4 steps =
+      ap (λ (c : Costs). c.plains) costs_are ∙ ap₂ ◌+◌ pt_is same_four in
       let all : outline.steps ≡ length steps = ap (λ (o : Outline). o.steps) outline_for_lem ∙ step_count_lem strategy parity basis degree in
-      let deep : depth + cost ≡ depth_of strategy degree + transform_cost transform = ap₂ ◌+◌ depth_is cost_is in
+      let deep : depth + cost ≡ depth_of strategy degree + transform_cost transform = ap₂ ◌+◌ depth_is once in
       let low : base ≡ 2 ^ split = base_is ∙ ap (λ (o : Outline). 2 ^ o.split) outline_for_lem in
       let more : outline.coefficients ≡ suc degree = ap (λ (o : Outline). o.coefficients) outline_for_lem in
       rw (ct, pt, all, deep, low, more, lists_are)

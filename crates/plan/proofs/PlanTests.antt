@@ -24,13 +24,12 @@ use Rattle.number.specs.Refusal.{Test, Numbered, first_refusal}
 use Rattle.number.specs.Tests.{degree_of, is_full, least_folded, unordered}
 use Rattle.number.specs.inside.Between.{Between}
 use Rattle.number.specs.inside.Room.{SumByLengthTo53}
-use Rattle.number.proofs.Refusal.{NumbersTo, numbers_append, first_most, none_holds, numbered_append, first_kept, first_of_more, first_passed}
+use Rattle.number.proofs.FirstRefusal.{NumbersTo, numbers_append, first_most, none_holds, numbered_append, first_kept, first_of_more, first_passed}
 use Rattle.lists.proofs.SumByLength.{sum_by_length_start}
 use Rattle.lists.proofs.Bounds.{fold_sum_by_length}
 use Rattle.plan.specs.PlanCall.{planned_coefficients, settings_tests, coefficient_tests, input_tests, Accepted, early_tests, buffer_tests}
-use Rattle.plan.specs.PlanSizes.{degree_to_plan, HasSizes}
+use Rattle.plan.specs.PlanSizes.{degree_to_plan, HasSizes, PlanSizes}
 use Rattle.plan.specs.inside.Filling.{planned_count}
-use Rattle.plan.specs.declared.sizes.PlanSizes.{PlanSizes}
 
 -- ---- degree and settings
 

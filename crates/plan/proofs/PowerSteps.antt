@@ -1,14 +1,17 @@
 -- The power steps of the marks passed, mark by mark; behind the last needed power no mark follows.
 use mathlib.Core.Path.{◌≡◌, refl, ap, sym, ◌∙◌}
-use mathlib.Core.Bool.{Bool, true, false, cond}
+use mathlib.Core.Bool.{Bool, true, false, cond, false≢true}
 use mathlib.Core.List.{List, [], ◌∷◌, ◌++◌, map, map-append, append-nil}
 use Prim.Native.Nat.{ℕ, zero, suc, ◌+◌, ◌-◌, ◌*◌, ◌≤◌, ◌<◌}
+use native.Mathlib.Decide.{dec_lt}
 use native.Mathlib.Omega.{arith}
 use lib.ListN.{length, take, get_or, replicate, length-append, length-map, length-replicate}
-use lib.Seq.{sets, take-suc, length-take-le}
+use lib.Seq.{sets, take-suc, take_all, length-take-le}
 use Rattle.algebra.specs.declared.Basis.{Basis}
 use Rattle.algebra.specs.declared.Parity.{Parity}
-use Rattle.number.specs.Limits.{plan_limit}
+use Rattle.std.proofs.lemmas.List.{get_or-take}
+use Rattle.algebra.proofs.Lists.{get_d_take_past}
+use Rattle.number.specs.Limits.{count_limit}
 use Rattle.needed.specs.NeededList.{needed_list, needed_count}
 use Rattle.needed.specs.inside.Marks.{Marked, marked_from, count_marks, padded, needed_marks}
 use Rattle.needed.specs.inside.Planned.{Planned}
@@ -20,7 +23,7 @@ use Rattle.lists.proofs.Arranging.{sets_append}
 use Rattle.walk.specs.WalksHeld.{flat}
 use Rattle.walk.proofs.FlatSteps.{flat_append, flat_length}
 use Rattle.plan.specs.PlanSteps.{make_step, power_steps}
-use Rattle.plan.specs.inside.Writing.{PowerFits, PowerPut, PowersPut, mark_numbers}
+use Rattle.plan.specs.inside.Writing.{PowerFits, PowerPut, MarksFit, MarksPut, PowersPut, mark_numbers}
 
 -- ---- the marked places of joined marks
 
@@ -135,6 +138,30 @@ upto_more {marks} {n} {step} {step'} {b₀} {b} {b'} upto inside put = record {
         ∙ flat_append (map make_step (marked_from 0 (take n marks))) (map make_step (cond (get_or marks n false) (n ∷ []) []))
         ∙ ap (flat (map make_step (marked_from 0 (take n marks))) ++◌) (one_step (get_or marks n false) n)
 
+-- the next mark has its places
+pub mark_fits : {marks : List Bool} {n step : ℕ} {b₀ b : List ℕ} → MarksFit marks b₀ → Upto marks n step b₀ b → n < length marks
+    → length b ≡ length b₀ → PowerFits (get_or marks n false) n step b
+mark_fits {marks} {n} fits upto inside same =
+    let step = count_step marks n in
+    let most = count_take (n + 1) marks in
+    record { limit = omega (arith, fits.size); from_two = fits.from_two n; places = omega (arith, upto.count, fits.places) }
+
+-- past the last mark all steps stand in the buffer
+pub marks_put : {marks : List Bool} {n step : ℕ} {b₀ b : List ℕ} → Upto marks n step b₀ b → length marks ≤ n → MarksPut marks b₀ step b
+marks_put {marks} {n} upto past =
+    let all = take_all n marks past in
+    record { numbers = rw all at upto.numbers; next = rw all at upto.count }
+
+-- ---- the first marks
+
+-- a mark among the first is a mark of all
+pub marked_taken : (k : ℕ) (marks : List Bool) (n : ℕ) → Marked (take k marks) n → Marked marks n
+marked_taken k marks n marked = by (dec_lt n k)
+  where
+    by : Dec (n < k) → Marked marks n
+    by (yes below) = sym (get_or-take k marks n false below) ∙ marked
+    by (no past) = absurd (false≢true (sym (get_d_take_past k marks n false (omega arith)) ∙ marked))
+
 -- ---- the marks of the needed powers, among as many places as an array has
 
 module _ (parity : Parity) (basis : Basis) (degree split size : ℕ) {marks : List Bool}
@@ -162,14 +189,13 @@ module _ (parity : Parity) (basis : Basis) (degree split size : ℕ) {marks : Li
       ∙ length-append known (replicate (size - length known) false)
       ∙ omega (arith, length-replicate (size - length known) false)
 
-  -- the next mark has its places
-  pub next_fits : {n step : ℕ} {b₀ b : List ℕ} → Upto marks n step b₀ b → n ≤ plan_limit → 4 * needed_count parity basis degree split ≤ length b
-      → PowerFits (get_or marks n false) n step b
-  next_fits {n} upto within room =
-      let step = count_step marks n in
-      let most = count_take (n + 1) marks in
+  -- the steps of the first marks have their places
+  pub marks_fit : (k : ℕ) {b : List ℕ} → length (take k marks) ≤ count_limit → 4 * needed_count parity basis degree split ≤ length b
+      → MarksFit (take k marks) b
+  marks_fit k size room =
+      let most = count_take k marks in
       let counted = marks_count in
-      record { limit = within; from_two = marked_from_two n; places = omega (arith, upto.count) }
+      record { size = size; from_two = λ n marked. marked_from_two n (marked_taken k marks n marked); places = omega arith }
 
   -- past the degree all marks are passed
   all_passed : {n : ℕ} → 0 < degree → degree < n → marked_from 0 (take n marks) ≡ needed_list parity basis degree split
@@ -182,11 +208,11 @@ module _ (parity : Parity) (basis : Basis) (degree split size : ℕ) {marks : Li
       ∙ marked_past 0 n known (size - length known) (omega arith)
       ∙ marked_list parity basis degree split
 
-  pub upto_all : {n step : ℕ} {b₀ b : List ℕ} → Upto marks n step b₀ b → 0 < degree → degree < n → PowersPut parity basis degree split b₀ step b
+  pub powers_put : (k : ℕ) {r : ℕ} {b₀ b : List ℕ} → MarksPut (take k marks) b₀ r b → 0 < degree → degree < k → PowersPut parity basis degree split b₀ r b
   unfolding power_steps needed_count
-  upto_all {n} {step} {b₀} {b} upto positive past =
+  powers_put k {r} {b₀} {b} put positive past =
       let all = all_passed positive past in
       record {
-        numbers = upto.numbers ∙ ap (λ (l : List ℕ). sets b₀ 0 (flat (map make_step l))) all;
-        next = upto.count ∙ marked_count 0 (take n marks) ∙ ap length all;
+        numbers = put.numbers ∙ ap (λ (l : List ℕ). sets b₀ 0 (flat (map make_step l))) all;
+        next = put.next ∙ marked_count 0 (take k marks) ∙ ap length all;
       }

@@ -2,24 +2,17 @@
 use mathlib.Core.Path.{◌≡◌, refl, ap, sym, ◌∙◌}
 use mathlib.Core.Bool.{Bool, true, false, true≢false}
 use mathlib.Core.List.{List, [], ◌∷◌}
-use Prim.Native.Nat.{ℕ, suc, ◌+◌, ◌*◌}
+use Prim.Native.Nat.{ℕ, ◌+◌, ◌*◌, ◌≤◌}
 use native.Mathlib.Omega.{arith}
-use lib.ListN.{set}
 use lib.Seq.{sets}
-use Rattle.number.specs.Split.{split_of}
-use Rattle.number.specs.declared.split.Parts.{Parts}
+use Rattle.std.specs.Prelude.{Ok}
+use Rattle.number.specs.Split.{Parts, split_of, parts_in}
+use Rattle.number.specs.Limits.{degree_limit}
+use Rattle.number.specs.declared.split.Split.{Split}
 use Rattle.number.proofs.SplitParts.{parted, split_accepted}
 use Rattle.walk.specs.WalksHeld.{flat}
+use Rattle.walk.specs.declared.plan.Instruction.TheVariants.{Make}
 use Rattle.plan.specs.inside.Writing.{StepFits, PowerFits, PowerPut}
-
--- four stores
-pub put_four : (b : List ℕ) (at : ℕ) {k x y z : ℕ} (k' x' y' z' : ℕ) → k ≡ k' → x ≡ x' → y ≡ y' → z ≡ z'
-    → set (set (set (set b at k) (at + 1) x) (at + 2) y) (at + 3) z ≡ sets b at (k' ∷ x' ∷ y' ∷ z' ∷ [])
-put_four b at k' x' y' z' k_is x-is y_is z_is =
-    let one : at + 1 ≡ suc at = omega arith in
-    let two : at + 2 ≡ suc (suc at) = omega arith in
-    let three : at + 3 ≡ suc (suc (suc at)) = omega arith in
-    rw (k_is, x-is, y_is, z_is, one, two, three)
 
 -- ---- the step of a power
 
@@ -27,24 +20,23 @@ pub power_unmarked : (marked : Bool) (n step : ℕ) (b : List ℕ) → marked �
 power_unmarked true n step b none = absurd (true≢false none)
 power_unmarked false n step b none = record { numbers = refl; next = omega arith }
 
-module _ (marked : Bool) {n step : ℕ} {b : List ℕ} {parts : Parts} (fits : PowerFits marked n step b) (is_marked : marked ≡ true)
-    (parts_are : parts ≡ split_of n) where
-  pub power_fits : StepFits step 1 n parts.a parts.b b
+pub parts_asked : {marked : Bool} {n step : ℕ} {b : List ℕ} → PowerFits marked n step b → marked ≡ true → (2 ≤ n) × (n ≤ degree_limit)
+parts_asked fits is_marked = (fits.from_two is_marked, omega (arith, fits.limit))
+
+module _ (marked : Bool) {n step : ℕ} {b : List ℕ} {parts : Split} (fits : PowerFits marked n step b) (is_marked : marked ≡ true)
+    (parts_are : parts_in (Ok parts) ≡ split_of n) where
+  pub power_fits : StepFits step (Make n parts.a parts.b) b
   power_fits = by_mark marked fits is_marked
     where
-      by_mark : (t : Bool) → PowerFits t n step b → t ≡ true → StepFits step 1 n parts.a parts.b b
+      by_mark : (t : Bool) → PowerFits t n step b → t ≡ true → StepFits step (Make n parts.a parts.b) b
       by_mark true known is =
           let from = known.from_two refl in
           let within = known.limit in
           let accepted = parts_are ∙ split_accepted n from (omega arith) in
           let two = parted n from in
-          rw accepted (record {
-            places = omega (arith, known.places);
-            kind_limit = omega arith;
-            x_limit = omega arith;
-            y_limit = omega arith;
-            z_limit = omega arith;
-          })
+          let first = ap (λ (p : Parts). p.a) accepted in
+          let second = ap (λ (p : Parts). p.b) accepted in
+          record { places = omega (arith, known.places); narrow = (omega arith, omega arith, omega arith) }
       by_mark false known is = absurd (true≢false (sym is))
 
   pub power_marked : {b' : List ℕ} → b' ≡ sets b (4 * step) (1 ∷ n ∷ parts.a ∷ parts.b ∷ []) → PowerPut marked n step b (step + 1) b'

@@ -18,11 +18,13 @@ use Rattle.lists.proofs.Arranging.{some_leaves, sets_append}
 use Rattle.walk.specs.WalksHeld.{flat}
 use Rattle.walk.proofs.FlatSteps.{flat_append, flat_length}
 use Rattle.plan.specs.PlanSteps.{combine_step, combine_kind, tree_steps}
-use Rattle.plan.specs.inside.Writing.{StepFits, TreeFits, TreePut}
+use Rattle.plan.specs.inside.Writing.{numbers_of, StepFits, TreeFits, TreePut}
+use Rattle.walk.specs.declared.plan.Instruction.{Instruction}
+use Rattle.walk.specs.declared.plan.Instruction.TheVariants.{Load, Combine}
 use Rattle.plan.specs.declared.tree.Place.{Place}
 use Rattle.plan.proofs.StepCounts.{steps_length}
 
-put_leaf : {plain : Bool} {list step : ℕ} {b b' : List ℕ} → b' ≡ sets b (4 * step) (2 ∷ list ∷ 0 ∷ 0 ∷ [])
+put_leaf : {plain : Bool} {list step : ℕ} {b b' : List ℕ} → b' ≡ sets b (4 * step) (numbers_of (Load list))
     → TreePut plain leaf list step b (record { list = list + 1; step = step + 1 }) b'
 unfolding tree_steps leaves_of flat
 put_leaf put = record { numbers = put; next_list = refl; next_step = omega arith }
@@ -35,12 +37,12 @@ ends_at plain tree list step next is =
     let count = steps_length plain tree list in
     omega arith
 
-put_cut : {plain : Bool} {low high : Tree} {list step : ℕ} {b b₁ b₂ b₃ : List ℕ} {l h : Place} {kind : ℕ} (p : ℕ)
+put_cut : {plain : Bool} {low high : Tree} {list step : ℕ} {b b₁ b₂ b₃ : List ℕ} {l h : Place} (p : ℕ)
     → TreePut false low list step b l b₁ → TreePut plain high l.list l.step b₁ h b₂
-    → kind ≡ cond (plain && eqb (h.list - l.list) 1) 4 3 → b₃ ≡ sets b₂ (4 * h.step) (kind ∷ p ∷ 0 ∷ 0 ∷ [])
+    → b₃ ≡ sets b₂ (4 * h.step) (numbers_of (Combine (plain && eqb (h.list - l.list) 1) p))
     → TreePut plain (cut p low high) list step b (record { list = h.list; step = h.step + 1 }) b₃
 unfolding tree_steps leaves_of flat combine_kind
-put_cut {plain} {low} {high} {list} {step} {b} {b₁} {b₂} {b₃} {l} {h} {kind} p first then kind_is put = record {
+put_cut {plain} {low} {high} {list} {step} {b} {b₁} {b₂} {b₃} {l} {h} p first then put = record {
   numbers =
       put
       ∙ ap₂ (λ (x : List ℕ) (k : ℕ). sets x (4 * h.step) (k ∷ p ∷ 0 ∷ 0 ∷ []))
@@ -63,10 +65,10 @@ put_cut {plain} {low} {high} {list} {step} {b} {b₁} {b₂} {b₃} {l} {h} {kin
     last : List ℕ
     last = flat (combine_step (combine_kind plain high) p ∷ [])
 
-    kind_same : kind ≡ combine_kind plain high
+    kind_same : cond (plain && eqb (h.list - l.list) 1) 4 3 ≡ combine_kind plain high
     kind_same =
         let count : h.list - l.list ≡ leaves_of high = omega (arith, then.next_list) in
-        kind_is ∙ ap (λ (n : ℕ). cond (plain && eqb n 1) 4 3) count
+        ap (λ (n : ℕ). cond (plain && eqb n 1) 4 3) count
 
     high_end : 4 * h.step ≡ 4 * step + length (lows ++ highs)
     high_end =
@@ -109,27 +111,17 @@ module _ {leading : Bool} {whole degree split list step : ℕ} {b : List ℕ} (f
         → TreePut plain (tree_of leading whole degree split) list step b r b'
     put_again put = rw (tree_again leading whole degree split below again) put
 
-  pub load_fits : StepFits step 2 list 0 0 b
+  pub load_fits : StepFits step (Load list) b
   load_fits =
       let one = some_leaves (tree_of leading whole degree split) in
-      record {
-        places = omega (arith, fits.places);
-        kind_limit = omega arith;
-        x_limit = omega (arith, fits.list_limit);
-        y_limit = omega arith;
-        z_limit = omega arith;
-      }
+      record { places = omega (arith, fits.places); narrow = omega (arith, fits.list_limit) }
 
   pub put_load : {plain : Bool} {b' : List ℕ} → (leading && listed_again whole degree split) ≡ false
-      → b' ≡ sets b (4 * step) (2 ∷ list ∷ 0 ∷ 0 ∷ [])
+      → b' ≡ sets b (4 * step) (numbers_of (Load list))
       → TreePut plain (tree_of leading whole degree split) list step b (record { list = list + 1; step = step + 1 }) b'
   put_load once put = rw (tree_leaf leading whole degree split below once) (put_leaf put)
 
 -- ---- a cut
-
-at_most_four : (test : Bool) → cond test 4 3 ≤ 4
-at_most_four true = omega arith
-at_most_four false = omega arith
 
 module _ {leading : Bool} {whole degree split list step : ℕ} {b : List ℕ} (fits : TreeFits leading whole degree split list step b)
     (from : 2 ^ split ≤ degree) {p : ℕ} (power : p ≡ top_power degree) where
@@ -179,19 +171,15 @@ module _ {leading : Bool} {whole degree split list step : ℕ} {b : List ℕ} (f
       pub lists_rise : l.list ≤ h.list
       lists_rise = omega (arith, high.next_list)
 
-      pub combine_fits : {kind : ℕ} → kind ≡ cond (plain && eqb (h.list - l.list) 1) 4 3 → StepFits h.step kind p 0 0 b₂
-      combine_fits kind_is =
-          let bounds = top in
-          let most = at_most_four (plain && eqb (h.list - l.list) 1) in
-          record {
-            places = omega (arith, leaves, fits.places, low.next_step, high.next_step);
-            kind_limit = omega (arith, kind_is);
-            x_limit = omega (arith, fits.ranges.part_limit);
-            y_limit = omega arith;
-            z_limit = omega arith;
-          }
+      module _ {combine : Instruction} (combine_is : combine ≡ Combine (plain && eqb (h.list - l.list) 1) p) where
+        pub combine_fits : StepFits h.step combine b₂
+        combine_fits =
+            let bounds = top in
+            rw combine_is (record {
+              places = omega (arith, leaves, fits.places, low.next_step, high.next_step);
+              narrow = omega (arith, fits.ranges.part_limit);
+            })
 
-      pub put_both : {kind : ℕ} {b₃ : List ℕ} → kind ≡ cond (plain && eqb (h.list - l.list) 1) 4 3
-          → b₃ ≡ sets b₂ (4 * h.step) (kind ∷ p ∷ 0 ∷ 0 ∷ [])
-          → TreePut plain (tree_of leading whole degree split) list step b (record { list = h.list; step = h.step + 1 }) b₃
-      put_both kind_is put = rw tree (put_cut p low high kind_is put)
+        pub put_both : {b₃ : List ℕ} → b₃ ≡ sets b₂ (4 * h.step) (numbers_of combine)
+            → TreePut plain (tree_of leading whole degree split) list step b (record { list = h.list; step = h.step + 1 }) b₃
+        put_both put = rw tree (put_cut p low high (rw combine_is at put))

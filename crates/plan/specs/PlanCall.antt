@@ -1,6 +1,6 @@
 -- The plan call on whole coefficients (docs/RULES.md, "Steps and the walk" and "Refusals"): its tests in order, its answer, and what it leaves in
 -- the buffers.
-use Rattle.std.specs.Prelude.{◌≡◌, Bool, true, false, List, [], ◌∷◌, ◌++◌, ℕ, Float, ℤ, length}
+use Rattle.std.specs.Prelude.{◌≡◌, Bool, true, false, Result, List, [], ◌∷◌, ◌++◌, ℕ, Float, ℤ, length}
 use Rattle.std.proofs.lemmas.List.Edits.{sets}
 use Rattle.algebra.specs.Operations.{whole_ops}
 use Rattle.algebra.specs.Fold.{fold}
@@ -14,7 +14,9 @@ use Rattle.number.specs.Interval.{change_of_basis}
 use Rattle.number.specs.Limits.{plan_limit}
 use Rattle.number.specs.Numbers.{whole_numbers}
 use Rattle.number.specs.Refusal.{Test, first_refusal, unless_refused}
+use Rattle.number.specs.Refused.{numbered}
 use Rattle.number.specs.Tests.{degree_of, too_high, no_degree, full_parity, too_low, wrong_parity, too_large, unordered, no_room, no_boundaries, no_steps}
+use Rattle.number.specs.declared.refusal.Refusal.{Refusal}
 use Rattle.counts.specs.declared.choice.SplitStrategy.{SplitStrategy}
 use Rattle.lists.specs.Tree.{Tree, plan_tree}
 use Rattle.lists.specs.Arrange.{arranged, ends_of}
@@ -22,7 +24,17 @@ use Rattle.walk.specs.WalksHeld.{flat}
 use Rattle.walk.specs.declared.plan.Head.{Head}
 use Rattle.plan.specs.PlanSteps.{plan_steps}
 use Rattle.plan.specs.PlanHead.{head_of, no_head}
-use Rattle.plan.specs.declared.call.Planned.{Planned}
+
+-- ---- the answer
+
+-- 0 or the number of the refusal, and the head, which is all zero after a refusal
+pub record Planned : Type 0 where
+  pub refusal : ℕ
+  pub head : Head
+
+-- the answer that a call's result is
+abbrev pub planned_in : Result Head Refusal → Planned
+planned_in = numbered (λ (head : Head). record { refusal = 0; head = head }) (λ (refusal : ℕ). record { refusal = refusal; head = no_head })
 
 -- ---- what is planned: with folding the fold, of parity Full and behind its transform; without it the polynomial itself
 

@@ -1,10 +1,12 @@
 -- The sizes of a plan before its curve is there (docs/RULES.md, "The sizes of a plan"): degree and settings alone decide how many coefficients, lists
 -- and steps it has, and so how long its buffers must be.
-use Rattle.std.specs.Prelude.{Bool, true, false, List, ℕ, suc, ◌+◌, ◌-◌, ◌*◌, ◌/◌, ◌≤◌, ℤ}
+use Rattle.std.specs.Prelude.{Bool, true, false, Result, List, ℕ, suc, ◌+◌, ◌-◌, ◌*◌, ◌/◌, ◌≤◌, ℤ}
 use Rattle.algebra.specs.declared.Basis.{Basis}
 use Rattle.algebra.specs.declared.Parity.{Parity}
 use Rattle.algebra.specs.declared.Parity.TheVariants.{Full, Even, Odd}
 use Rattle.number.specs.Refusal.{first_refusal, unless_refused}
+use Rattle.number.specs.Refused.{numbered}
+use Rattle.number.specs.declared.refusal.Refusal.{Refusal}
 use Rattle.needed.specs.NeededList.{needed_count}
 use Rattle.counts.specs.Choice.{split_for}
 use Rattle.counts.specs.declared.choice.SplitStrategy.{SplitStrategy}
@@ -12,7 +14,16 @@ use Rattle.lists.specs.Tree.{plan_tree}
 use Rattle.lists.specs.Arrange.{leaves_of}
 use Rattle.walk.specs.declared.plan.Head.{Head}
 use Rattle.plan.specs.PlanCall.{planned_parity, settings_tests, planned_degree}
-use Rattle.plan.specs.declared.sizes.PlanSizes.{PlanSizes}
+use Rattle.plan.specs.declared.sizes.Sizes.{Sizes}
+
+-- ---- the answer
+
+-- 0 or the number of the refusal, and how many coefficients, lists and steps a plan has, which are zero after a refusal
+pub record PlanSizes : Type 0 where
+  pub refusal : ℕ
+  pub coefficients : ℕ
+  pub lists : ℕ
+  pub steps : ℕ
 
 -- ---- the degree that is planned
 
@@ -53,6 +64,11 @@ sizes_in head = record { refusal = 0; coefficients = head.coefficients; lists = 
 -- after a refusal zeros
 abbrev pub no_sizes : (refusal : ℕ) → PlanSizes
 no_sizes refusal = record { refusal = refusal; coefficients = 0; lists = 0; steps = 0 }
+
+-- the answer that a call's result is
+abbrev pub plan_sizes_in : Result Sizes Refusal → PlanSizes
+plan_sizes_in =
+    numbered (λ (s : Sizes). record { refusal = 0; coefficients = s.coefficients; lists = s.lists; steps = s.steps }) no_sizes
 
 -- buffers with so many places have these sizes: a place for each coefficient, a boundary for each list, four numbers for each step
 pub record HasSizes (sizes : PlanSizes) (out bounds steps : ℕ) : Type 0 where

@@ -1,59 +1,44 @@
 // The plan call.
 ghost use Rattle.std.specs.Prelude.{◌≡◌};
-ghost use Rattle.plan.specs.PlanHead.{no_head};
-ghost use Rattle.plan.specs.PlanCall.{PlanCall};
+ghost use Rattle.number.specs.Refused.{refusal_of};
+ghost use Rattle.plan.specs.PlanCall.{PlanCall, planned_in};
 ghost use Rattle.plan.specs.inside.Filling.{buffer_refusal};
 
-use super::head::{head_of, no_head};
-use super::input::input_refusal;
+use super::head::head_of;
+use super::input::check_input;
 use super::outline::planned_outline;
+use super::sizes::Sizes;
 use super::write::fill;
-use counts::SplitStrategy;
-use number::{Basis, Parity, change_of_basis, degree_of};
+use counts::Settings;
+use number::{Refusal, change_of_basis, degree_of};
 use walk::Head;
 
-// What the plan call answers: 0 or the refusal, and the head, which is all zero after a refusal.
-#[derive(Clone, Copy)]
-pub struct Planned {
-    pub refusal: u8,
-    pub head: Head,
-}
-
-// The number of the first test of the buffers that holds for so many coefficients, lists and steps, or 0: `room`, `boundaries` and `numbers` are their
-// places.
-pub fn buffer_refusal(
-    coefficients: usize,
-    lists: usize,
-    steps: usize,
+// Tests whether the buffers hold so many coefficients, lists and steps: they have `room`, `boundaries` and `numbers` places.
+#[tactic(auto, unfolding(crate::specs::inside::Filling::buffer_refusal))]
+pub fn check_buffers(
+    sizes: Sizes,
     room: usize,
     boundaries: usize,
     numbers: usize,
-) -> u8
-    ensures { result ≡ buffer_refusal coefficients lists steps room boundaries numbers }
+) -> Result<(), Refusal>
+    ensures { refusal_of result ≡ buffer_refusal sizes.coefficients sizes.lists sizes.steps room boundaries numbers }
 {
-    if room < coefficients {
-        return 21;
+    if room < sizes.coefficients {
+        return Err(Refusal::CoefficientsShort);
     }
-    if boundaries < lists {
-        return 22;
+    if boundaries < sizes.lists {
+        return Err(Refusal::BoundariesShort);
     }
-    if numbers / 4 < steps { 23 } else { 0 }
-}
-
-// A refusal.
-fn refused(refusal: u8) -> Planned
-    ensures { result ≡ record { refusal = refusal; head = no_head } }
-{
-    let head = no_head();
-    Planned { refusal, head }
+    if numbers / 4 < sizes.steps {
+        return Err(Refusal::StepsShort);
+    }
+    Ok(())
 }
 
 // Plans whole coefficients on the interval from a to b: the lists one after another in `out`, in `bounds` the place just past each, and in `steps`
 // four numbers a step. Every test is made before the first write.
 pub fn plan(
-    strategy: SplitStrategy,
-    parity: Parity,
-    basis: Basis,
+    settings: Settings,
     fold: bool,
     c: &[i64],
     a: f64,
@@ -61,34 +46,20 @@ pub fn plan(
     out: &mut [i64],
     bounds: &mut [u16],
     steps: &mut [u16],
-) -> Planned
-    ensures { PlanCall strategy parity basis fold c.now a b out.old bounds.old steps.old
-        result out.new bounds.new steps.new }
+) -> Result<Head, Refusal>
+    ensures { PlanCall settings.strategy settings.parity settings.basis fold c.now a b
+        out.old bounds.old steps.old (planned_in result) out.new bounds.new steps.new }
 {
-    let wrong = input_refusal(fold, parity, c);
-    if 0 < wrong {
-        return refused(wrong);
-    }
+    check_input(fold, settings.parity, c)?;
+    // A bound that is a NaN is in no order either.
     if !(a < b) {
-        return refused(7);
+        return Err(Refusal::IntervalUnordered);
     }
-    let outline = planned_outline(strategy, parity, basis, fold, degree_of(c.len()));
-    let count = outline.coefficients;
-    let interval = change_of_basis(basis, a, b);
-    let head = head_of(strategy, parity, basis, fold, interval, count - 1, outline);
-    let short = buffer_refusal(
-        head.coefficients,
-        head.lists,
-        head.steps,
-        out.len(),
-        bounds.len(),
-        steps.len(),
-    );
-    if 0 < short {
-        return refused(short);
-    }
-    fill(
-        strategy, parity, basis, fold, count, outline, c, out, bounds, steps,
-    );
-    Planned { refusal: 0, head }
+    let outline = planned_outline(settings, fold, degree_of(c.len()));
+    let interval = change_of_basis(settings.basis, a, b);
+    let degree = outline.coefficients - 1;
+    let head = head_of(settings, fold, interval, degree, outline);
+    check_buffers(outline.sizes(), out.len(), bounds.len(), steps.len())?;
+    fill(settings, fold, outline, c, out, bounds, steps);
+    Ok(head)
 }

@@ -1,29 +1,41 @@
 // What is planned, with folding and without it, and the tests of it.
 ghost use Rattle.std.specs.Prelude.{◌≡◌};
 ghost use Rattle.number.specs.Refusal.{first_refusal};
+ghost use Rattle.number.specs.Refused.{refusal_of};
 ghost use Rattle.plan.specs.PlanCall.{planned_parity, planned_transform, settings_tests, input_tests};
 ghost use Rattle.plan.specs.inside.Filling.{planned_count};
 
+use counts::Settings;
 use number::{
-    Basis, PLAN_LIMIT, Parity, PolynomialInputTransform, degree_of, fold_count, has_parity,
-    is_full, least_folded, sum_fits, transform_of,
+    Basis, PLAN_LIMIT, Parity, PolynomialInputTransform, Refusal, degree_of, fold_count,
+    has_parity, is_full, least_folded, sum_fits, transform_of,
 };
 
-// How many of n coefficients are planned.
+// Returns how many of n coefficients are planned.
 pub fn planned_count(fold: bool, parity: Parity, n: usize) -> usize
     ensures { result ≡ planned_count fold parity n }
 {
     if fold { fold_count(parity, n) } else { n }
 }
 
-// Their parity.
+// Returns their parity.
 pub fn planned_parity(fold: bool, parity: Parity) -> Parity
     ensures { result ≡ planned_parity fold parity }
 {
     if fold { Parity::Full } else { parity }
 }
 
-// The transform that they stand behind.
+// Returns the settings of what is planned.
+pub fn planned_settings(settings: Settings, fold: bool) -> Settings
+    ensures { result ≡ record settings { parity = planned_parity fold settings.parity } }
+{
+    Settings {
+        parity: planned_parity(fold, settings.parity),
+        ..settings
+    }
+}
+
+// Returns the transform that they stand behind.
 pub fn planned_transform(fold: bool, parity: Parity, basis: Basis) -> PolynomialInputTransform
     ensures { result ≡ planned_transform fold parity basis }
 {
@@ -34,37 +46,35 @@ pub fn planned_transform(fold: bool, parity: Parity, basis: Basis) -> Polynomial
     }
 }
 
-// The number of the first test of degree and settings that holds, or 0.
-pub fn settings_refusal(fold: bool, parity: Parity, degree: usize) -> u8
-    ensures { result ≡ first_refusal (settings_tests fold parity degree) }
+// Makes the tests of degree and settings, in their order.
+pub fn check_settings(fold: bool, parity: Parity, degree: usize) -> Result<(), Refusal>
+    ensures { refusal_of result ≡ first_refusal (settings_tests fold parity degree) }
 {
-    let full = is_full(parity);
-    let low = degree < least_folded(parity);
     if PLAN_LIMIT < degree {
-        return 2;
+        return Err(Refusal::DegreeTooHigh);
     }
     if degree == 0 {
-        return 1;
+        return Err(Refusal::DegreeZero);
     }
-    if !fold {
-        return 0;
+    if fold && is_full(parity) {
+        return Err(Refusal::FoldsFull);
     }
-    if full {
-        return 5;
+    if fold && degree < least_folded(parity) {
+        return Err(Refusal::FoldsTooLow);
     }
-    if low { 6 } else { 0 }
+    Ok(())
 }
 
-// The number of the first test of the input that holds, or 0.
-pub fn input_refusal(fold: bool, parity: Parity, c: &[i64]) -> u8
-    ensures { result ≡ first_refusal (input_tests fold parity c.now) }
+// Makes the tests of the input, in their order.
+pub fn check_input(fold: bool, parity: Parity, c: &[i64]) -> Result<(), Refusal>
+    ensures { refusal_of result ≡ first_refusal (input_tests fold parity c.now) }
 {
-    let early = settings_refusal(fold, parity, degree_of(c.len()));
-    if 0 < early {
-        return early;
-    }
+    check_settings(fold, parity, degree_of(c.len()))?;
     if !has_parity(parity, c) {
-        return 4;
+        return Err(Refusal::WrongParity);
     }
-    if sum_fits(c) { 0 } else { 3 }
+    if !sum_fits(c) {
+        return Err(Refusal::SumTooLarge);
+    }
+    Ok(())
 }

@@ -11,8 +11,8 @@ pub mod step;
 pub mod tree;
 pub mod write;
 
-pub use call::{Planned, plan};
-pub use counts::SplitStrategy;
-pub use number::{Basis, Parity, PolynomialInputTransform};
-pub use sizes::{PlanSizes, plan_sizes};
+pub use call::plan;
+pub use counts::{Settings, SplitStrategy};
+pub use number::{Basis, Parity, PolynomialInputTransform, Refusal};
+pub use sizes::{Sizes, plan_sizes};
 pub use walk::Head;

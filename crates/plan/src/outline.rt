@@ -9,11 +9,12 @@ ghost use Rattle.plan.specs.PlanCall.{planned_parity, settings_tests};
 ghost use Rattle.plan.specs.PlanSizes.{degree_to_plan, step_count};
 ghost use Rattle.plan.specs.inside.Outlines.{totals_of, low_totals, outline_for};
 
-use super::input::{planned_count, planned_parity};
-use counts::{SplitStrategy, allowed_to, split_for_strategy};
+use super::input::{planned_count, planned_settings};
+use super::sizes::Sizes;
+use counts::{Settings, allowed_to, split_for_strategy};
 use lists::{listed_again, low_lists, relists, smaller_split};
-use needed::count_needed;
-use number::{Basis, Parity, power_of_two, top_power};
+use needed::Slicing;
+use number::{Parity, power_of_two, top_power};
 
 // How many lists, the allowed powers from 1 up over all of them, and the length of the last.
 #[derive(Clone, Copy)]
@@ -21,6 +22,15 @@ pub struct Totals {
     pub lists: usize,
     pub pt: usize,
     pub last: usize,
+}
+
+impl Totals {
+    // Says whether the last list is a constant alone, which is the rule of kind 4.
+    pub fn last_plain(self) -> bool
+        ensures { result ≡ eqb self.last 1 }
+    {
+        self.last == 1
+    }
 }
 
 // The numbers that a plan's head and steps go by.
@@ -35,7 +45,20 @@ pub struct Outline {
     pub steps: usize,
 }
 
-// The totals of the low part of a degree from the base on.
+impl Outline {
+    // Returns how long the buffers must be.
+    pub fn sizes(self) -> Sizes
+        ensures { result ≡ record { coefficients = self.coefficients; lists = self.lists; steps = self.steps } }
+    {
+        Sizes {
+            coefficients: self.coefficients,
+            lists: self.lists,
+            steps: self.steps,
+        }
+    }
+}
+
+// Returns the totals of the low part of a degree from the base on.
 fn total_low(parity: Parity, degree: usize, split: usize) -> Totals
     requires { (2 ^ split ≤ degree) × (degree ≤ plan_limit) }
     ensures { result ≡ low_totals parity degree split }
@@ -50,7 +73,7 @@ fn total_low(parity: Parity, degree: usize, split: usize) -> Totals
     }
 }
 
-// The totals of a part of a degree, at a split.
+// Returns the totals of a part of a degree, at a split.
 #[cycle(total_lists_total_slice)]
 pub fn total_lists(
     leading: bool,
@@ -76,7 +99,7 @@ pub fn total_lists(
     }
 }
 
-// Those of a slice: of one list, or of those at the smaller split.
+// Returns those of a slice: of one list, or of those at the smaller split.
 #[cycle(total_lists_total_slice)]
 fn total_slice(leading: bool, parity: Parity, whole: usize, degree: usize, split: usize) -> Totals
     requires { Ranges whole degree split × (degree < 2 ^ split) }
@@ -93,14 +116,7 @@ fn total_slice(leading: bool, parity: Parity, whole: usize, degree: usize, split
     }
 }
 
-// The rule of kind 4: the last list is a constant alone.
-pub fn last_plain(last: usize) -> bool
-    ensures { result ≡ eqb last 1 }
-{
-    last == 1
-}
-
-// How many steps: one for each power, one for each list, and a combine for each list but the first.
+// Counts the steps: one for each power, one for each list, and a combine for each list but the first.
 fn count_steps(powers: usize, lists: usize) -> usize
     requires { (powers ≤ count_limit) × Between 1 lists count_limit }
     ensures { result ≡ step_count powers lists }
@@ -109,15 +125,16 @@ fn count_steps(powers: usize, lists: usize) -> usize
     powers + lists + combines
 }
 
-// The outline of a degree.
-pub fn outline_of(strategy: SplitStrategy, parity: Parity, basis: Basis, degree: usize) -> Outline
+// Returns the outline of a degree.
+pub fn outline_of(settings: Settings, degree: usize) -> Outline
     requires { Between 1 degree plan_limit }
-    ensures { result ≡ outline_for strategy parity basis degree }
+    ensures { result ≡ outline_for settings.strategy settings.parity settings.basis degree }
 {
-    let split = split_for_strategy(strategy, parity, basis, degree);
-    let totals = total_lists(relists(strategy), parity, degree, degree, split);
-    let powers = count_needed(parity, basis, degree, split);
-    let plain = last_plain(totals.last);
+    let split = split_for_strategy(settings, degree);
+    let leading = relists(settings.strategy);
+    let totals = total_lists(leading, settings.parity, degree, degree, split);
+    let powers = Slicing { degree, split }.count_needed(settings.parity, settings.basis);
+    let plain = totals.last_plain();
     let steps = count_steps(powers, totals.lists);
     Outline {
         split,
@@ -130,18 +147,11 @@ pub fn outline_of(strategy: SplitStrategy, parity: Parity, basis: Basis, degree:
     }
 }
 
-// The outline of what is planned of a degree: with folding that of the fold.
-pub fn planned_outline(
-    strategy: SplitStrategy,
-    parity: Parity,
-    basis: Basis,
-    fold: bool,
-    degree: usize,
-) -> Outline
-    requires { first_refusal (settings_tests fold parity degree) ≡ 0 }
-    ensures { result ≡ outline_for strategy (planned_parity fold parity) basis (degree_to_plan fold parity degree) }
+// Returns the outline of what is planned of a degree: with folding that of the fold.
+pub fn planned_outline(settings: Settings, fold: bool, degree: usize) -> Outline
+    requires { first_refusal (settings_tests fold settings.parity degree) ≡ 0 }
+    ensures { result ≡ outline_for settings.strategy (planned_parity fold settings.parity) settings.basis (degree_to_plan fold settings.parity degree) }
 {
-    let planned = planned_parity(fold, parity);
-    let count = planned_count(fold, parity, degree + 1);
-    outline_of(strategy, planned, basis, count - 1)
+    let count = planned_count(fold, settings.parity, degree + 1);
+    outline_of(planned_settings(settings, fold), count - 1)
 }

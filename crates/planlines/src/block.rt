@@ -9,7 +9,7 @@ use crate::stream::write_text;
 use answers::take_turn;
 use std::io::{Eprint, Write};
 
-// How many bytes of an unended line are held, and whether all texts were written.
+// How many bytes of an unended line are held, and whether all texts were written. (Both are wanted: how many are held is known after a failure too.)
 #[derive(Clone, Copy)]
 pub struct Answered {
     pub held: usize,
@@ -37,6 +37,7 @@ pub fn answer_block<W: Write>(
     let mut at = 0;
     let mut kept = held;
     let mut written = true;
+    // Not a `for`: each turn says how far it read.
     while written && at < block.len() {
         let turn = take_turn(
             block,

@@ -2,7 +2,7 @@
 use mathlib.Core.Path.{◌≡◌, refl, sym, ◌∙◌, ap, ap₂}
 use mathlib.Core.Bool.{Bool, true, ◌&&◌, and_assoc, and_comm, and-true}
 use mathlib.Core.List.{List, [], ◌∷◌, ◌++◌, map, reverse, reverse-cons}
-use Prim.Native.Nat.{ℕ, ◌+◌, ◌<◌, ◌^◌}
+use Prim.Native.Nat.{ℕ, zero, suc, ◌+◌, ◌<◌, ◌^◌}
 use native.Mathlib.Numerals.{add-one}
 use native.Mathlib.Omega.{arith}
 use borrow.Author.Tests.{lt-ltb, ltb-true}
@@ -60,6 +60,14 @@ module _ (test : ℤ → Bool) where
 pub every_none : (test : ℤ → Bool) → every test [] ≡ true
 unfolding every
 every_none test = refl
+
+-- ---- one element
+
+pub every_at : (test : ℤ → Bool) (xs : List ℤ) (i : ℕ) → every test xs ≡ true → i < length xs → test (get_or xs i (pos 0)) ≡ true
+unfolding every
+every_at test [] i all inside = absurd (omega arith)
+every_at test (x ∷ xs) zero all inside = and_left (test x) (every test xs) all
+every_at test (x ∷ xs) (suc i) all inside = every_at test xs i (and_right (test x) (every test xs) all) (omega arith)
 
 -- ---- what an i64 holds
 

@@ -1,7 +1,7 @@
 -- The promises of rebuilding, of the list call: what it leaves in its buffers stands there as the round trips want it.
 use mathlib.Core.Path.{sym, ◌∙◌, ap}
 use lib.ListN.{take}
-use Rattle.lists.specs.declared.call.Listed.{Listed}
+use Rattle.lists.specs.ListCall.{Listed}
 use Rattle.lists.proofs.Standing.{listing_answer, listing_stands}
 use Rattle.rebuild.specs.Promises.{RebuildsLists, ListsRebuilt, ListsTell}
 use Rattle.rebuild.proofs.RoundTrips.{gives_again, same_lists, lists_again}

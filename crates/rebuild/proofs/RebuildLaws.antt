@@ -19,7 +19,8 @@ use Rattle.lists.specs.Tree.{Tree, leaf, cut}
 use Rattle.lists.specs.Arrange.{arranged}
 use Rattle.lists.specs.TreeFacts.{Sound}
 use Rattle.lists.proofs.Arranging.{low_size, high_size}
-use Rattle.lists.proofs.SumByLength.{sum_by_length_sum, sum_by_length_low, sum_by_length_high}
+use Rattle.number.specs.inside.Laws.{lists_low, lists_high}
+use Rattle.lists.proofs.SumByLength.{sum_by_length_sum}
 use Rattle.lists.proofs.Lists.{length_arranged}
 use Rattle.rebuild.specs.Undo.{fits_i64, every, undone}
 use Rattle.rebuild.specs.Rebuild.{rebuilt}
@@ -41,8 +42,8 @@ rebuilt_arranged basis base (cut p low high) c sound room =
     rw (
       take_at (arranged whole_ops basis low (take p c₁)) (arranged whole_ops basis high (drop p c₁)) p long,
       drop_at (arranged whole_ops basis low (take p c₁)) (arranged whole_ops basis high (drop p c₁)) p long,
-      rebuilt_arranged basis base low (take p c₁) low_sound (sum_by_length_low basis p c (omega arith) room),
-      rebuilt_arranged basis base high (drop p c₁) high_sound (sum_by_length_high basis p c (omega arith) sound.half room),
+      rebuilt_arranged basis base low (take p c₁) low_sound (lists_low basis p c (omega arith) room),
+      rebuilt_arranged basis base high (drop p c₁) high_sound (lists_high basis p c (omega arith) sound.half room),
     )
     (undo_cut basis p c (omega arith) small)
 

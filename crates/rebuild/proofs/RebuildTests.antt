@@ -10,23 +10,26 @@ use lib.Dec.{eqb, ltb, leb}
 use lib.IntN.{ℤ}
 use lib.ListN.{length, take}
 use lib.Seq.{sets, length-take-le}
+use Rattle.std.specs.Prelude.{Result, Ok, Err}
+use Rattle.std.specs.Result.{IsErrAnd}
 use Rattle.algebra.specs.declared.Basis.{Basis}
 use Rattle.algebra.specs.declared.Parity.{Parity}
 use Rattle.number.specs.Limits.{plan_limit}
 use Rattle.number.specs.Options.{when}
+use Rattle.number.specs.Refused.{refusal_number}
 use Rattle.number.specs.Tests.{degree_of}
+use Rattle.number.specs.declared.refusal.Refusal.{Refusal}
 use Rattle.number.specs.inside.Between.{Between}
 use Rattle.number.proofs.BothHold.{and_left, and_right}
 use Rattle.number.proofs.Options.{missing_some}
-use Rattle.number.proofs.Refusal.{none_holds, refusal_of, when_refused, when_accepted}
+use Rattle.number.proofs.FirstRefusal.{none_holds, refusal_of, when_refused, when_accepted}
 use Rattle.counts.specs.Choice.{split_for}
 use Rattle.counts.specs.declared.choice.SplitStrategy.{SplitStrategy}
 use Rattle.lists.specs.Tree.{Tree, plan_tree}
 use Rattle.lists.specs.Arrange.{ends_of}
 use Rattle.rebuild.specs.Rebuild.{rebuilt}
-use Rattle.rebuild.specs.RebuildCall.{begins, no_rebuilt, matches_settings, coefficients_from, rebuild_tests}
-use Rattle.rebuild.specs.RebuildCall.{rebuild_refusal, rebuild_answer, rebuild_coefficients, RebuildCall}
-use Rattle.rebuild.specs.declared.call.Rebuilt.{Rebuilt}
+use Rattle.rebuild.specs.RebuildCall.{Rebuilt, begins, no_rebuilt, matches_settings, coefficients_from, rebuild_tests}
+use Rattle.rebuild.specs.RebuildCall.{rebuilt_in, rebuild_refusal, rebuild_answer, rebuild_coefficients, RebuildCall}
 use Rattle.rebuild.specs.inside.Rebuilding.{coefficients_at, Written}
 
 -- base and lists of the settings
@@ -152,6 +155,11 @@ module _ (strategy : SplitStrategy) (parity : Parity) (basis : Basis) (degree ba
           pub coefficients_are : rebuild_coefficients strategy parity basis degree base lists bounds out ≡ sets out 0 c
           unfolding rebuild_coefficients
           coefficients_are = sym (when_accepted _ _ none_refused) ∙ rw c_is
+
+-- the answer of a refusal that is handed on
+pub handed : (refusal : Refusal) (r : Result ℕ Refusal) → IsErrAnd r (λ (f : Refusal). f ≡ refusal) → rebuilt_in r ≡ no_rebuilt (refusal_number refusal)
+handed refusal (Ok n) told = absurd told
+handed refusal (Err f) told = ap (λ (e : Refusal). no_rebuilt (refusal_number e)) told
 
 -- ---- the last two tests, of what was rebuilt, where it is there
 

@@ -20,14 +20,13 @@ use Rattle.counts.specs.Choice.{split_for}
 use Rattle.counts.specs.declared.choice.SplitStrategy.{SplitStrategy}
 use Rattle.lists.specs.Tree.{Tree, plan_tree}
 use Rattle.lists.specs.Arrange.{arranged, leaves_of, ends_of}
-use Rattle.lists.specs.declared.call.Listed.{Listed}
+use Rattle.lists.specs.ListCall.{Listed}
 use Rattle.lists.proofs.Arranging.{length_ends}
 use Rattle.lists.proofs.ListCall.{front, front_take}
 use Rattle.lists.proofs.Standing.{plan_sound, Stands, whole, sound, arranged_length, lists_are}
 use Rattle.rebuild.specs.Rebuild.{rebuilt}
-use Rattle.rebuild.specs.RebuildCall.{begins, rebuild_answer, rebuild_coefficients, RebuildCall}
+use Rattle.rebuild.specs.RebuildCall.{Rebuilt, begins, rebuild_answer, rebuild_coefficients, RebuildCall}
 use Rattle.rebuild.specs.Promises.{GivesAgain, ListsAgain}
-use Rattle.rebuild.specs.declared.call.Rebuilt.{Rebuilt}
 use Rattle.rebuild.proofs.RebuildLaws.{rebuilt_arranged, length_rebuilt, arranged_rebuilt}
 use Rattle.rebuild.proofs.RebuildTests.{Passed, passed_of, passed_answer, passed_buffer}
 

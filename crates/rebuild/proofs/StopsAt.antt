@@ -19,9 +19,8 @@ use Rattle.counts.specs.declared.choice.SplitStrategy.{SplitStrategy}
 use Rattle.lists.specs.Tree.{Tree, leaf, cut, plan_tree}
 use Rattle.rebuild.specs.Undo.{is_even, fits_i64, every, doubled_in, before_cut, can_undo, undone}
 use Rattle.rebuild.specs.Rebuild.{rebuilt}
-use Rattle.rebuild.specs.RebuildCall.{matches_settings, coefficients_from, rebuild_refusal}
+use Rattle.rebuild.specs.RebuildCall.{Rebuilt, matches_settings, coefficients_from, rebuild_refusal}
 use Rattle.rebuild.specs.StopsAt.{Fails, StopsAt, odd, beyond, in_first, in_second, Stopped, StoppedRefused}
-use Rattle.rebuild.specs.declared.call.Rebuilt.{Rebuilt}
 use Rattle.rebuild.proofs.RebuildTests.{answer_refusal_lem}
 
 -- ---- a test of every number

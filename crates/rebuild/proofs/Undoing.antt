@@ -4,19 +4,25 @@ use mathlib.Core.Path.{◌≡◌, refl, ap, ap₂, sym, ◌∙◌}
 use mathlib.Core.Bool.{Bool, true, false, ◌&&◌, and_assoc, and-true}
 use mathlib.Core.List.{List, [], ◌∷◌, ◌++◌, map, reverse}
 use mathlib.Core.Option.{some}
-use Prim.Native.Nat.{ℕ, suc, ◌+◌, ◌-◌, ◌≤◌, ◌<◌}
+use Prim.Native.Nat.{ℕ, suc, ◌+◌, ◌-◌, ◌≤◌, ◌<◌, ◌^◌}
 use native.Mathlib.Omega.{arith}
+use borrow.Author.Tests.{lt-ltb, ltb-true}
 use lib.IntN.{ℤ, pos, neg_ℤ, ◌+ℤ◌}
 use lib.ListN.{length, take, drop, get_or, set, length-reverse, length-drop, drop_of_length-le}
 use lib.Seq.{drop-cons, length-take-le}
+use lib.Signed.{mag}
+use mir.Syntax.{w64}
+use mir.Val.{SFits, to_z, of_z}
 use Rattle.algebra.specs.Operations.{Operations}
 use Rattle.algebra.specs.Cut.{differences, doubled, lowered, cut_at}
 use Rattle.algebra.specs.declared.Basis.TheVariants.{Chebyshev}
 use Rattle.number.proofs.BothHold.{and_right}
 use Rattle.number.proofs.Cutting.{cut_to, low_value, high_value, pair_low, pair_high, turn_stored}
+use Rattle.number.proofs.Signed.{back}
 use Rattle.number.specs.Options.{when}
 use Rattle.rebuild.specs.Undo.{half, is_even, fits_i64, every, sums, halved, raised, before_cut, can_undo, undone}
-use Rattle.rebuild.proofs.Every.{every_append, every_reverse, every_take, every_drop, halved_fits}
+use Rattle.rebuild.proofs.Machine.{half_mag, half_near, fits_not}
+use Rattle.rebuild.proofs.Every.{every_append, every_at, every_reverse, every_take, every_drop, halved_fits}
 use Rattle.rebuild.proofs.UndoLaws.{behind}
 
 -- the operations of an undoing
@@ -127,48 +133,87 @@ module _ (p : ℕ) (c : List ℤ) where
 
 -- ---- the loop at its turn j, where the turns below j left c of c₀
 
-module _ (p j : ℕ) (c₀ c : List ℤ) (inside : p < length c₀) (within : length c₀ ≤ p + p) (started : 0 < j)
-    (before : c ≡ cut_to undoing p c₀ (pos 0) (j - 1)) (test : j < length c₀ - p) where
-  -- the pair of the turn is still as it came
-  pub turn_low : get_or c (p - j) (pos 0) ≡ get_or c₀ (p - j) (pos 0)
-  turn_low = pair_low undoing (pos 0) p j c₀ c inside within started before j (p - j) (omega arith) test (omega arith)
+pub record Turn (p j : ℕ) (c₀ c : List ℤ) : Type 0 where
+  pub inside : p < length c₀
+  pub half_way : length c₀ ≤ p + p
+  pub fits : every fits_i64 c₀ ≡ true
+  pub started : 0 < j
+  pub test : j < length c₀ - p
+  pub before : c ≡ cut_to undoing p c₀ (pos 0) (j - 1)
+  pub passed : can_undo Chebyshev (take p c₀) (drop p c₀) ≡ rest p c₀ (j - 1)
 
-  pub turn_high : get_or c (p + j) (pos 0) ≡ get_or c₀ (p + j) (pos 0)
-  turn_high = pair_high undoing (pos 0) p j c₀ c inside within started before j (p + j) (omega arith) test refl
+module _ {p j : ℕ} {c₀ c : List ℤ} (t : Turn p j c₀ c) where
+  -- low and high of the turn, as they came
+  abbrev pub low : ℤ
+  low = get_or c₀ (p - j) (pos 0)
 
-  -- and what the turn writes is one turn more
-  pub turn_written : (y x : ℤ) → y ≡ get_or c₀ (p - j) (pos 0) +ℤ half (get_or c₀ (p + j) (pos 0)) → x ≡ half (get_or c₀ (p + j) (pos 0))
-      → set (set c (p - j) y) (p + j) x ≡ cut_to undoing p c₀ (pos 0) (j + 1 - 1)
-  turn_written y x low high =
+  abbrev pub high : ℤ
+  high = get_or c₀ (p + j) (pos 0)
+
+  -- they are still so
+  turn_low : get_or c (p - j) (pos 0) ≡ low
+  turn_low = let test = t.test in pair_low undoing (pos 0) p j c₀ c t.inside t.half_way t.started t.before j (p - j) (omega arith) t.test (omega arith)
+
+  turn_high : get_or c (p + j) (pos 0) ≡ high
+  turn_high = pair_high undoing (pos 0) p j c₀ c t.inside t.half_way t.started t.before j (p + j) (omega arith) t.test refl
+
+  low_fits : mag low < 2 ^ 63
+  low_fits = ltb-true (mag low) (2 ^ 63) (every_at fits_i64 c₀ (p - j) t.fits (omega (arith, t.inside)))
+
+  high_fits : mag high < 2 ^ 63
+  high_fits = ltb-true (mag high) (2 ^ 63) (every_at fits_i64 c₀ (p + j) t.fits (omega (arith, t.test)))
+
+  -- the machine reads and halves them so
+  pub read_low : to_z w64 (of_z w64 (get_or c (p - j) (pos 0))) ≡ low
+  read_low = back (rw turn_low low_fits) turn_low
+
+  pub read_high : to_z w64 (of_z w64 (get_or c (p + j) (pos 0))) ≡ high
+  read_high = back (rw turn_high high_fits) turn_high
+
+  pub read_half : to_z w64 (of_z w64 (half (to_z w64 (of_z w64 (get_or c (p + j) (pos 0)))))) ≡ half high
+  read_half = rw read_high (back (omega (arith, half_mag high, high_fits)) refl)
+
+  pub near_half : mag (to_z w64 (of_z w64 (half (to_z w64 (of_z w64 (get_or c (p + j) (pos 0))))))) < 2 ^ 62
+  near_half = rw read_half (half_near high high_fits)
+
+  -- what it adds
+  abbrev pub sum : ℤ
+  sum = to_z w64 (of_z w64 (get_or c (p - j) (pos 0))) +ℤ to_z w64 (of_z w64 (half (to_z w64 (of_z w64 (get_or c (p + j) (pos 0))))))
+
+  sum_is : sum ≡ low +ℤ half high
+  sum_is = ap₂ ◌+ℤ◌ read_low read_half
+
+  step : rest p c₀ (j - 1) ≡ (is_even high && (fits_i64 (low +ℤ half high) && rest p c₀ (suc (j - 1))))
+  step = rest_step p c₀ (j - 1) (p - j) (p + j) (omega (arith, t.half_way, t.test, t.started)) (omega (arith, t.started)) (omega (arith, t.test))
+
+  -- the ways out of the turn
+  pub way_odd : is_even high ≡ false → undone Chebyshev (take p c₀) (drop p c₀) ≡ when false (some c)
+  unfolding undone
+  way_odd odd = rw (t.passed, step, odd)
+
+  module _ (even : is_even high ≡ true) where
+    pub way_beyond : (SFits w64 sum → ⊥) → undone Chebyshev (take p c₀) (drop p c₀) ≡ when false (some c)
+    unfolding undone
+    way_beyond beyond = rw (t.passed, step, even, ap fits_i64 (sym sum_is) ∙ fits_not sum beyond)
+
+    pub way_on : SFits w64 sum → can_undo Chebyshev (take p c₀) (drop p c₀) ≡ rest p c₀ (j + 1 - 1)
+    way_on fits =
+        let next : suc (j - 1) ≡ j + 1 - 1 = omega (arith, t.started) in
+        t.passed ∙ rw (step, even, ap fits_i64 (sym sum_is) ∙ lt-ltb (mag sum) (2 ^ 63) fits.sfits) (ap (rest p c₀) next)
+
+  -- and what it writes is one turn more
+  pub turn_written : {y : ℤ} → SFits w64 sum → y ≡ sum
+      → set (set c (p - j) (to_z w64 (of_z w64 y))) (p + j) (to_z w64 (of_z w64 (half (to_z w64 (of_z w64 (get_or c (p + j) (pos 0)))))))
+      ≡ cut_to undoing p c₀ (pos 0) (j + 1 - 1)
+  turn_written fits y_is =
       let next : j ≡ j + 1 - 1 = omega arith in
-      turn_stored undoing (pos 0) p j c₀ c inside within started before test
-      (low ∙ ap₂ (λ (r q : ℤ). r +ℤ half q) (sym turn_low) (sym turn_high)) (high ∙ ap half (sym turn_high))
+      turn_stored undoing (pos 0) p j c₀ c t.inside t.half_way t.started t.before t.test
+      (back (rw y_is fits.sfits) (y_is ∙ sum_is) ∙ ap₂ (λ (r q : ℤ). r +ℤ half q) (sym turn_low) (sym turn_high)) (read_half ∙ ap half (sym turn_high))
       ∙ ap (cut_to undoing p c₀ (pos 0)) next
 
--- ---- the ways out of the loop
+-- ---- the loop at its end
 
-module _ (p j : ℕ) (c₀ : List ℤ) (inside : p < length c₀) (within : length c₀ ≤ p + p) (started : 0 < j)
-    (passed : can_undo Chebyshev (take p c₀) (drop p c₀) ≡ rest p c₀ (j - 1)) where
-  pub way_end : length c₀ - p ≤ j → {c : List ℤ} → c ≡ cut_at undoing Chebyshev p c₀
-      → undone Chebyshev (take p c₀) (drop p c₀) ≡ when true (some c)
-  unfolding undone
-  way_end all c_is = rw (passed, rest_none p c₀ (j - 1) (omega arith), before_is p c₀, c_is)
-
-  module _ (test : j < length c₀ - p) where
-    step : rest p c₀ (j - 1)
-        ≡ (is_even (get_or c₀ (p + j) (pos 0)) && (fits_i64 (get_or c₀ (p - j) (pos 0) +ℤ half (get_or c₀ (p + j) (pos 0))) && rest p c₀ (suc (j - 1))))
-    step = rest_step p c₀ (j - 1) (p - j) (p + j) (omega arith) (omega arith) (omega arith)
-
-    pub way_odd : (c : List ℤ) → is_even (get_or c₀ (p + j) (pos 0)) ≡ false → undone Chebyshev (take p c₀) (drop p c₀) ≡ when false (some c)
-    unfolding undone
-    way_odd c odd = rw (passed, step, odd)
-
-    module _ (even : is_even (get_or c₀ (p + j) (pos 0)) ≡ true) where
-      pub way_beyond : (c : List ℤ) → fits_i64 (get_or c₀ (p - j) (pos 0) +ℤ half (get_or c₀ (p + j) (pos 0))) ≡ false
-          → undone Chebyshev (take p c₀) (drop p c₀) ≡ when false (some c)
-      unfolding undone
-      way_beyond c beyond = rw (passed, step, even, beyond)
-
-      pub way_on : fits_i64 (get_or c₀ (p - j) (pos 0) +ℤ half (get_or c₀ (p + j) (pos 0))) ≡ true
-          → can_undo Chebyshev (take p c₀) (drop p c₀) ≡ rest p c₀ (j + 1 - 1)
-      way_on fits = let next : suc (j - 1) ≡ j + 1 - 1 = omega arith in passed ∙ rw (step, even, fits) (ap (rest p c₀) next)
+pub way_end : (p j : ℕ) (c₀ : List ℤ) {c : List ℤ} → can_undo Chebyshev (take p c₀) (drop p c₀) ≡ rest p c₀ (j - 1) → 0 < j → length c₀ ≤ p + j
+    → c ≡ cut_at undoing Chebyshev p c₀ → undone Chebyshev (take p c₀) (drop p c₀) ≡ when true (some c)
+unfolding undone
+way_end p j c₀ passed started all c_is = rw (passed, rest_none p c₀ (j - 1) (omega arith), before_is p c₀, c_is)

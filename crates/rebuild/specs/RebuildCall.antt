@@ -1,19 +1,20 @@
 -- The rebuild call (document 02, Q-8): its tests in order, its answer, and what it leaves in the coefficient buffer.
-use Rattle.std.specs.Prelude.{◌≡◌, Bool, true, false, not, ◌&&◌, List, [], ◌∷◌, ℕ, suc, ◌^◌, eqb, leb, ℤ, length, take}
+use Rattle.std.specs.Prelude.{◌≡◌, Bool, true, false, not, ◌&&◌, List, [], ◌∷◌, ℕ, suc, ◌^◌, eqb, leb, ℤ, Result, length, take}
 use Rattle.std.proofs.Math.Option.{Option, some, none}
 use Rattle.std.proofs.lemmas.List.Edits.{sets}
 use Rattle.algebra.specs.declared.Basis.{Basis}
 use Rattle.algebra.specs.declared.Parity.{Parity}
 use Rattle.number.specs.Limits.{plan_limit}
 use Rattle.number.specs.Refusal.{Test, first_refusal, unless_refused}
+use Rattle.number.specs.Refused.{numbered}
 use Rattle.number.specs.Tests.{too_high, no_degree, no_room}
+use Rattle.number.specs.declared.refusal.Refusal.{Refusal}
 use Rattle.counts.specs.Choice.{split_for}
 use Rattle.counts.specs.declared.choice.SplitStrategy.{SplitStrategy}
 use Rattle.lists.specs.Tree.{plan_tree}
 use Rattle.lists.specs.Arrange.{ends_of}
 use Rattle.number.specs.Options.{missing}
 use Rattle.rebuild.specs.Rebuild.{rebuilt}
-use Rattle.rebuild.specs.declared.call.Rebuilt.{Rebuilt}
 
 -- whether the second list begins with the first
 unfoldable pub begins : List ℕ → List ℕ → Bool
@@ -26,9 +27,18 @@ abbrev pub or_empty : Option (List ℤ) → List ℤ
 or_empty (some c) = c
 or_empty none = []
 
+-- an answer in numbers: its refusal, or 0 with the number of coefficients
+pub record Rebuilt : Type 0 where
+  pub refusal : ℕ
+  pub coefficients : ℕ
+
 -- after a refusal zero in the other field
 abbrev pub no_rebuilt : (refusal : ℕ) → Rebuilt
 no_rebuilt refusal = record { refusal = refusal; coefficients = 0 }
+
+-- what a result says of it
+abbrev pub rebuilt_in : Result ℕ Refusal → Rebuilt
+rebuilt_in = numbered (λ (n : ℕ). record { refusal = 0; coefficients = n }) no_rebuilt
 
 -- the coefficients of this degree that are listed so, where every cut can be undone
 unfoldable pub coefficients_from : SplitStrategy → Parity → Basis → (degree : ℕ) → (lists : List ℤ) → Option (List ℤ)

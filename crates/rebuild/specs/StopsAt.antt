@@ -9,8 +9,7 @@ use Rattle.counts.specs.declared.choice.SplitStrategy.{SplitStrategy}
 use Rattle.lists.specs.Tree.{Tree, cut, plan_tree}
 use Rattle.rebuild.specs.Undo.{is_even, fits_i64, doubled_in, before_cut}
 use Rattle.rebuild.specs.Rebuild.{rebuilt}
-use Rattle.rebuild.specs.RebuildCall.{matches_settings, RebuildCall}
-use Rattle.rebuild.specs.declared.call.Rebuilt.{Rebuilt}
+use Rattle.rebuild.specs.RebuildCall.{Rebuilt, matches_settings, RebuildCall}
 
 -- a number of a list that does not pass a test
 pub record Fails (test : ℤ → Bool) (numbers : List ℤ) : Type 0 where

@@ -1,26 +1,15 @@
-// Reading the oracle's recordings: one call a line, its fields parted by tabs (oracle/README.md).
-// A reader takes a line and the place where a field begins, and answers whether the field is in its form, what it says, and where the
-// next field begins. These readers serve tests alone, so their contracts say only that they are safe.
+// Reads the oracle's recordings: one call a line, its fields parted by tabs (oracle/README.md), and counts the calls that agree with what is recorded.
+// A reader of a field answers None where the field is not in its form. All of this serves tests alone, so the contracts say only that it is safe.
 #![tactic(auto)]
 
 mod field;
-mod float;
-mod kind;
 mod list;
+mod numeral;
+mod replaying;
+mod setting;
 mod stream;
-mod tally;
 
-pub use field::{
-    Letter, Number, Signed, Word, ends, match_number, read_letter, read_number, read_signed,
-    read_word, refused,
-};
-pub use float::{Real, match_real, read_real, same};
-pub use kind::{
-    BasisField, ParityField, StrategyField, match_parity, read_basis, read_parity, read_strategy,
-};
-pub use list::{
-    List, UNWRITTEN, first_reals, first_u16s, first_wholes, is_unwritten, match_reals,
-    match_wholes, read_real_run, read_reals, read_u16s, read_wholes,
-};
-pub use stream::{Lines, line_of, next_line, opened};
-pub use tally::{Tally, counted, print_tally, started};
+pub use field::{Fields, agree};
+pub use list::{Element, are_all};
+pub use numeral::same;
+pub use replaying::replay;

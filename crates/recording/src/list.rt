@@ -1,163 +1,103 @@
-// A list: the field with its count, then a field for each element.
-use crate::field::{Word, read_number, read_signed};
-use crate::float::{match_real, read_real};
+// Lists: the field with the count, and then a field for each element.
+use crate::field::{Fields, agree};
+use crate::numeral::same;
 
-// This number stands in each place of a buffer before the buffer is lent to a call.
-pub const UNWRITTEN: i64 = -7;
+// An element of a list: a whole number, a number below 65,536 or a real number.
+pub trait Element: Copy {
+    // Reads an element.
+    fn read(fields: &mut Fields) -> Option<Self>;
 
-#[derive(Clone, Copy)]
-pub struct List {
-    pub ok: bool,
-    pub count: usize,
-    pub next: usize,
+    // Tells whether two elements are the same.
+    fn is_same(self, other: Self) -> bool;
 }
 
-// The elements alone, in the first places of out; more than it has places are not in the form.
-pub fn read_real_run(line: &[u8], at: usize, count: usize, out: &mut [f64]) -> List {
-    let mut ok = count <= out.len();
-    let mut next = at;
-    for i in 0..out.len() {
-        if !ok || count <= i {
-            break;
+impl Element for i64 {
+    fn read(fields: &mut Fields) -> Option<i64> {
+        fields.signed()
+    }
+
+    fn is_same(self, other: i64) -> bool {
+        self == other
+    }
+}
+
+impl Element for u16 {
+    fn read(fields: &mut Fields) -> Option<u16> {
+        u16::try_from(fields.number()?).ok()
+    }
+
+    fn is_same(self, other: u16) -> bool {
+        self == other
+    }
+}
+
+impl Element for f64 {
+    fn read(fields: &mut Fields) -> Option<f64> {
+        fields.real()
+    }
+
+    fn is_same(self, other: f64) -> bool {
+        same(self, other)
+    }
+}
+
+impl Fields<'_> {
+    // Reads so many elements into the first places of a buffer, and returns these places.
+    pub fn run<'b, T: Element>(&mut self, count: usize, buffer: &'b mut [T]) -> Option<&'b [T]> {
+        if buffer.len() < count {
+            return None;
         }
-        let element = read_real(line, next);
-        let value = element.value;
-        out[i] = value;
-        ok = element.ok;
-        next = element.next;
-    }
-    List {
-        ok: ok,
-        count: count,
-        next: next,
-    }
-}
-
-// The count and the elements.
-pub fn read_reals(line: &[u8], at: usize, out: &mut [f64]) -> List {
-    let n = read_number(line, at);
-    let run = read_real_run(line, n.next, n.value as usize, out);
-    List {
-        ok: n.ok && run.ok,
-        count: run.count,
-        next: run.next,
-    }
-}
-
-// The same of whole numbers.
-pub fn read_wholes(line: &[u8], at: usize, out: &mut [i64]) -> List {
-    let n = read_number(line, at);
-    let count = n.value as usize;
-    let mut ok = n.ok && count <= out.len();
-    let mut next = n.next;
-    for i in 0..out.len() {
-        if !ok || count <= i {
-            break;
+        let places = &mut buffer[..count];
+        for place in places.iter_mut() {
+            *place = T::read(self)?;
         }
-        let element = read_signed(line, next);
-        let value = element.value;
-        out[i] = value;
-        ok = element.ok;
-        next = element.next;
+        Some(places)
     }
-    List {
-        ok: ok,
-        count: count,
-        next: next,
+
+    // Reads a list into the first places of a buffer, and returns these places.
+    pub fn list<'b, T: Element>(&mut self, buffer: &'b mut [T]) -> Option<&'b [T]> {
+        let count = self.count()?;
+        self.run(count, buffer)
     }
-}
 
-// A number below 65,536; of a larger one the last 16 bits.
-fn narrow(n: u64) -> u16 {
-    (n % 65536) as u16
-}
-
-// The count and the elements, each below 65,536.
-pub fn read_u16s(line: &[u8], at: usize, out: &mut [u16]) -> List {
-    let n = read_number(line, at);
-    let count = n.value as usize;
-    let mut ok = n.ok && count <= out.len();
-    let mut next = n.next;
-    for i in 0..out.len() {
-        if !ok || count <= i {
-            break;
+    // Reads a list that is ours.
+    pub fn match_list<T: Element>(&mut self, ours: &[T]) -> Option<()> {
+        self.match_number(ours.len())?;
+        for element in ours {
+            agree(T::read(self)?.is_same(*element))?;
         }
-        let element = read_number(line, next);
-        let value = element.value;
-        out[i] = narrow(value);
-        ok = element.ok && value < 65536;
-        next = element.next;
+        Some(())
     }
-    List {
-        ok: ok,
-        count: count,
-        next: next,
-    }
-}
 
-// Whether the list is ours: as long, and each element with the same bits.
-pub fn match_reals(line: &[u8], at: usize, ours: &[f64]) -> Word {
-    let n = read_number(line, at);
-    let mut ok = n.ok && n.value as usize == ours.len();
-    let mut next = n.next;
-    for i in 0..ours.len() {
-        if !ok {
-            break;
+    // Reads a list that stands in the first `count` places of a buffer of ours, which behind them is as it was before.
+    pub fn match_written<T: Element>(&mut self, ours: &[T], count: usize, before: T) -> Option<()> {
+        let (written, rest) = ours.split_at_checked(count)?;
+        agree(are_all(rest, before))?;
+        self.match_list(written)
+    }
+
+    // Reads a list that a buffer of ours begins with; behind it the buffer is as it was before.
+    pub fn match_filled<T: Element>(&mut self, ours: &[T], before: T) -> Option<()> {
+        let mut ahead = *self;
+        self.match_written(ours, ahead.count()?, before)
+    }
+
+    // Reads a number of lists that are ours: each lies from one boundary to the next, the first from the beginning.
+    pub fn match_lists<T: Element>(&mut self, ours: &[T], boundaries: &[u16]) -> Option<()> {
+        self.match_number(boundaries.len())?;
+        let mut rest = ours;
+        let mut from = 0;
+        for boundary in boundaries {
+            let (list, behind) = rest.split_at_checked((*boundary as usize).checked_sub(from)?)?;
+            self.match_list(list)?;
+            from = *boundary as usize;
+            rest = behind;
         }
-        let element = match_real(line, next, ours[i]);
-        ok = element.ok;
-        next = element.next;
+        Some(())
     }
-    Word { ok: ok, next: next }
 }
 
-// The same of whole numbers.
-pub fn match_wholes(line: &[u8], at: usize, ours: &[i64]) -> Word {
-    let n = read_number(line, at);
-    let mut ok = n.ok && n.value as usize == ours.len();
-    let mut next = n.next;
-    for i in 0..ours.len() {
-        if !ok {
-            break;
-        }
-        let element = read_signed(line, next);
-        let value = element.value;
-        ok = element.ok && value == ours[i];
-        next = element.next;
-    }
-    Word { ok: ok, next: next }
-}
-
-// The first places of a buffer; all where there are fewer.
-pub fn first_reals(buffer: &[f64], count: usize) -> &[f64] {
-    if buffer.len() < count {
-        return buffer;
-    }
-    &buffer[0..count]
-}
-
-// The same of whole numbers.
-pub fn first_wholes(buffer: &[i64], count: usize) -> &[i64] {
-    if buffer.len() < count {
-        return buffer;
-    }
-    &buffer[0..count]
-}
-
-// The same of u16 numbers.
-pub fn first_u16s(buffer: &[u16], count: usize) -> &[u16] {
-    if buffer.len() < count {
-        return buffer;
-    }
-    &buffer[0..count]
-}
-
-// Tells whether nothing was written from a place on.
-pub fn is_unwritten(out: &[i64], from: usize) -> bool {
-    for i in from..out.len() {
-        if out[i] != UNWRITTEN {
-            return false;
-        }
-    }
-    true
+// Tells whether every element is this one.
+pub fn are_all<T: Element>(elements: &[T], element: T) -> bool {
+    elements.iter().all(|e| e.is_same(element))
 }

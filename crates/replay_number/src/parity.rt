@@ -1,26 +1,17 @@
 // Replaying parity detection.
-use recording::{first_reals, first_wholes, match_parity, read_reals, read_wholes, read_word};
+use firrozun::{Coefficient, Parity};
+use recording::{Element, Fields, agree};
 
-// parity  n  c..  =  letter
-pub fn parity_agrees(line: &[u8], at: usize) -> bool {
-    let mut coeffs = [0.0f64; 8192];
-    let list = read_reals(line, at, &mut coeffs);
-    let answer = read_word(line, list.next, b"=");
-    if !list.ok || !answer.ok {
-        return false;
-    }
-    let ours = firrozun::detect_parity_f64(first_reals(&coeffs, list.count));
-    match_parity(line, answer.next, ours)
+// Agrees if the line ends with our parity.
+pub fn match_parity(mut fields: Fields, ours: Parity) -> Option<()> {
+    agree(fields.parity()? == ours)?;
+    fields.end()
 }
 
-// The same of whole coefficients.
-pub fn parity_whole_agrees(line: &[u8], at: usize) -> bool {
-    let mut coeffs = [0i64; 8192];
-    let list = read_wholes(line, at, &mut coeffs);
-    let answer = read_word(line, list.next, b"=");
-    if !list.ok || !answer.ok {
-        return false;
-    }
-    let ours = firrozun::detect_parity(first_wholes(&coeffs, list.count));
-    match_parity(line, answer.next, ours)
+// parity  n  c..  =  letter
+// The coefficients are read into the buffer.
+pub fn parity_agrees<C: Coefficient + Element>(mut fields: Fields, coeffs: &mut [C]) -> Option<()> {
+    let c = fields.list(coeffs)?;
+    fields.word(b"=")?;
+    match_parity(fields, firrozun::detect_parity(c))
 }

@@ -8,41 +8,38 @@ use native.Mathlib.Omega.{arith}
 use borrow.Author.Tests.{ltb-false, eqb-false, not-false}
 use lib.Dec.{ltb, eqb}
 use lib.IntN.{ℤ}
-use lib.ListN.{length, take, drop, replicate, length-append, length-map, length-drop}
+use lib.ListN.{length, take, drop, length-append, length-map, length-drop}
 use lib.Seq.{sets, length-take-le}
+use Rattle.std.proofs.lemmas.List.{length-take}
+use Rattle.std.specs.Prelude.{Ok}
 use Rattle.algebra.specs.Each.{Each}
 use Rattle.number.specs.Refusal.{Test, first_refusal, Numbered}
-use Rattle.number.proofs.Refusal.{none_holds, first_kept, first_of_more, first_passed, numbered_append, when_refused, when_accepted}
+use Rattle.number.proofs.FirstRefusal.{none_holds, first_kept, first_of_more, first_passed, numbered_append, when_refused, when_accepted}
 use Rattle.lists.specs.Lists.{joined}
 use Rattle.walk.specs.WalksHeld.{flat}
 use Rattle.walk.specs.declared.plan.Head.{Head}
 use Rattle.plan.specs.PlanSteps.{make_step}
-use Rattle.plan.specs.Reported.{of_kind}
-use Rattle.plan.specs.PlanHead.{no_head}
 use Rattle.plan.specs.PlanCall.{settings_tests}
-use Rattle.plan.specs.PlanSizes.{HasSizes}
+use Rattle.plan.specs.PlanSizes.{HasSizes, PlanSizes, plan_sizes_in}
 use Rattle.plan.specs.inside.Filling.{buffer_refusal}
-use Rattle.plan.specs.declared.sizes.PlanSizes.{PlanSizes}
 use Rattle.plan.proofs.PlanTests.{early_numbered, early_accepted, settings_accepted, buffers_fit}
 use Rattle.sets.specs.Members.{Curve, members_in, curves_in, handed_count, all_alike, total}
 use Rattle.sets.specs.Own.{own_steps}
-use Rattle.sets.specs.SetPlan.{member_limit, heads_of, set_powers, common_steps, member_steps, set_steps, set_of, set_ct, set_pt}
+use Rattle.sets.specs.SetPlan.{member_limit, heads_of, set_powers, common_steps, member_steps, set_steps, set_of}
 use Rattle.sets.specs.SetPlan.{own_step_count, set_step_count}
-use Rattle.sets.specs.SetCall.{bad_set, unlike_members, own_tests, room_tests, no_set, curves, ahead_tests}
+use Rattle.sets.specs.SetCall.{bad_set, unlike_members, own_tests, room_tests, no_set, curves, ahead_tests, SetPlanned}
 use Rattle.sets.specs.SetCall.{SetAccepted, set_refusal, SetCall, set_answer, set_coefficients_left, set_boundaries_left, set_numbers_left}
 use Rattle.sets.specs.SetSizes.{set_sizes_of}
-use Rattle.sets.specs.Union.{union_of}
 use Rattle.sets.specs.inside.Heads.{HeadFits}
-use Rattle.sets.specs.inside.Marking.{Common, PowersCounted}
-use Rattle.sets.specs.inside.Planning.{SettingsPass, heads_by, HandedPass}
+use Rattle.sets.specs.inside.Planning.{SettingsPass, MembersPass}
 use Rattle.sets.specs.inside.Writing.{SetStepsFit}
 use Rattle.sets.specs.declared.member.Member.{Member}
 use Rattle.sets.specs.declared.member.Members.{Members}
 use Rattle.sets.specs.declared.set.CurveSet.{CurveSet}
-use Rattle.sets.specs.declared.set.SetPlanned.{SetPlanned}
-use Rattle.sets.proofs.HeadLaws.{heads_by_lem, first_by, heads_fit, zeros_behind}
-use Rattle.set_plan.specs.inside.Counting.{RecordAsked}
+use Rattle.sets.proofs.HeadLaws.{heads_by_lem, first_by, heads_fit, heads_size, zeros_behind}
+use Rattle.set_plan.specs.inside.Counting.{RecordAsked, Outlined}
 use Rattle.set_plan.specs.inside.Filling.{AllListsFit, AllListsPut}
+use Rattle.set_plan.specs.declared.outline.SetOutline.{SetOutline}
 
 -- ---- the members of an accepted set
 
@@ -112,9 +109,9 @@ module _ (handed : Members) (c : List ℤ) where
         accepted = sym (first_of_more front own front_numbered passed) ∙ accepted;
       }
 
-pub handed_passes : {handed : Members} {c : List ℤ} → Ahead handed c → length handed.members ≡ member_limit → HandedPass handed
-handed_passes {handed} {c} ahead size = record {
-  few = record { most = ahead.few; size = size };
+pub members_pass : {handed : Members} {c : List ℤ} → Ahead handed c → MembersPass (members_in handed)
+members_pass {handed} {c} ahead = record {
+  few = omega (arith, length-take handed.count handed.members, ahead.few);
   passes = settings_pass (members_in handed) c ahead.within ahead.accepted;
 }
 
@@ -130,16 +127,6 @@ steps_are : (heads : List Head) → Each HeadFits heads → length (set_steps he
 unfolding set_steps common_steps
 steps_are heads each =
     length-append (common_steps heads) (member_steps heads) ∙ ap₂ ◌+◌ (length-map (set_powers heads) make_step) (steps_by heads each)
-
--- ---- what is worked out of an accepted set, before anything is written
-
-pub record Worked (handed : Members) (c : List ℤ) (hs : List Head) (marks : List Bool) (powers : ℕ) (sizes : PlanSizes) : Type 0 where
-  pub accepted : SetAccepted handed c
-  pub size : length handed.members ≡ member_limit
-  pub heads_are : hs ≡ heads_by (members_in handed)
-  pub common : Common hs handed.count marks
-  pub counted : PowersCounted hs handed.count powers
-  pub sizes_are : sizes ≡ set_sizes_of (take handed.count hs)
 
 -- ---- the call
 
@@ -170,25 +157,28 @@ module _ (handed : Members) (c out : List ℤ) (bounds steps : List ℕ) where
       let some : 0 < first_refusal (ahead_tests handed c) = omega arith in
       refuses (first_kept (ahead_tests handed c) (room_tests heads (length out) (length bounds) (length steps)) some ∙ sym k_is) positive r_is
 
-  module _ {hs : List Head} {marks : List Bool} {powers : ℕ} {sizes : PlanSizes} (work : Worked handed c hs marks powers sizes) {k : ℕ}
-      (k_is : k ≡ buffer_refusal sizes.coefficients sizes.lists sizes.steps (length out) (length bounds) (length steps)) where
+  module _ (accepted : SetAccepted handed c) {outline : SetOutline} (outlined : Outlined (members_in handed) outline) {k : ℕ}
+      (k_is : k ≡ buffer_refusal outline.sizes.coefficients outline.sizes.lists outline.sizes.steps (length out) (length bounds) (length steps)) where
     ahead : Ahead handed c
-    ahead = ahead_tells handed c work.accepted
+    ahead = ahead_tells handed c accepted
 
-    pass : HandedPass handed
-    pass = handed_passes ahead work.size
+    pass : MembersPass (members_in handed)
+    pass = members_pass ahead
 
-    same_heads : take handed.count hs ≡ heads
-    same_heads = first_by pass work.heads_are ∙ sym (heads_by_lem (members_in handed) c ahead.within)
+    abbrev first : List Head
+    first = take (length (members_in handed)) outline.heads
 
-    sizes_same : sizes ≡ set_sizes_of heads
-    sizes_same = work.sizes_are ∙ ap set_sizes_of same_heads
+    same_heads : first ≡ heads
+    same_heads = first_by pass outlined.heads_are ∙ sym (heads_by_lem (members_in handed) c ahead.within)
+
+    sizes_same : plan_sizes_in (Ok outline.sizes) ≡ set_sizes_of heads
+    sizes_same = outlined.sizes_are ∙ ap set_sizes_of same_heads
 
     -- those of the buffers decide
     room_decides : refusal ≡ first_refusal (room_tests heads (length out) (length bounds) (length steps))
     unfolding set_refusal
     room_decides =
-        first_of_more (ahead_tests handed c) (room_tests heads (length out) (length bounds) (length steps)) (ahead_numbered handed c) work.accepted
+        first_of_more (ahead_tests handed c) (room_tests heads (length out) (length bounds) (length steps)) (ahead_numbered handed c) accepted
 
     refusal_is : refusal ≡ k
     unfolding buffer_refusal set_sizes_of
@@ -204,31 +194,30 @@ module _ (handed : Members) (c out : List ℤ) (bounds steps : List ℕ) where
       unfolding set_sizes_of
       fit = buffers_fit (set_sizes_of heads) (length out) (length bounds) (length steps) (sym room_decides ∙ refusal_is ∙ none)
 
-      pub lists_room : AllListsFit handed hs (length c) c out bounds
+      pub lists_room : AllListsFit (members_in handed) first c out bounds
       unfolding set_sizes_of
       lists_room = record {
-        stand = record { few = pass.few; slice_is = refl; within = ahead.within };
+        within = ahead.within;
         accepted = ahead.accepted;
-        heads_fit = heads_fit pass work.heads_are;
+        heads_fit = heads_fit pass outlined.heads_are;
         heads_are = same_heads;
-        room = fit.coefficients;
-        boundary_room = fit.boundaries;
+        room = rw same_heads fit.coefficients;
+        boundary_room = rw same_heads fit.boundaries;
       }
 
-      pub steps_room : SetStepsFit hs handed.count marks powers steps
+      pub steps_room : SetStepsFit first outline.marks steps
       unfolding set_sizes_of
       steps_room =
-          let heads_fit = heads_fit pass work.heads_are in
-          let all = steps_are (take handed.count hs) heads_fit.each in
+          let heads_fit = heads_fit pass outlined.heads_are in
+          let all = steps_are first heads_fit.each in
           record {
             heads_fit = heads_fit;
-            common = work.common;
-            powers_are = work.counted.powers_are;
+            common = outlined.common;
             places = omega (arith, all, ap set_step_count same_heads, fit.numbers);
           }
 
-      pub planned_set_lem : {out' : List ℤ} {bounds' steps' : List ℕ} {set : CurveSet} → AllListsPut handed c out bounds out' bounds'
-          → steps' ≡ sets steps 0 (flat (set_steps (take handed.count hs))) → set ≡ set_of (take handed.count hs)
+      pub planned_set_lem : {out' : List ℤ} {bounds' steps' : List ℕ} {set : CurveSet} → AllListsPut (members_in handed) c out bounds out' bounds'
+          → steps' ≡ sets steps 0 (flat (set_steps first)) → set ≡ set_of first
           → SetCall handed c out bounds steps (record { refusal = 0; set = set }) out' bounds' steps'
       unfolding set_answer set_coefficients_left set_boundaries_left set_numbers_left
       planned_set_lem put written set_is =
@@ -240,13 +229,9 @@ module _ (handed : Members) (c out : List ℤ) (bounds steps : List ℕ) where
             numbers = written ∙ ap (λ (l : List Head). sets steps 0 (flat (set_steps l))) same_heads ∙ when_accepted _ steps passes;
           }
 
-    pub record_asked : RecordAsked hs handed.count powers
-    record_asked = record { counted = work.counted; zeros = zeros_behind pass work.heads_are }
-
--- ---- a refusal
-
-pub refused_is : {refusal : ℕ} {head : Head} → head ≡ no_head
-    → ◌≡◌ {A = SetPlanned} (record { refusal = refusal; set = record { ct = 0; pt = 0; powers = 0; heads = replicate member_limit head } })
-    (record { refusal = refusal; set = no_set })
-unfolding set_of set_ct set_pt set_powers set_steps common_steps member_steps union_of joined total of_kind
-refused_is is = rw is
+    pub record_asked : RecordAsked outline.heads (length (members_in handed)) outline.powers
+    record_asked = record {
+      size = omega (arith, heads_size pass outlined.heads_are, pass.few);
+      counted = outlined.counted;
+      zeros = zeros_behind pass outlined.heads_are;
+    }

@@ -1,13 +1,15 @@
 -- The lists of one member after another: what is left to write gives the whole.
-use mathlib.Core.Path.{◌≡◌, refl, sym, ◌∙◌, ap, subst}
+use mathlib.Core.Path.{◌≡◌, refl, sym, ◌∙◌, ap}
+use mathlib.Core.Logic.{◌⊎◌, ⊎_elim}
 use mathlib.Core.List.{List, [], ◌∷◌, ◌++◌, map, append_assoc, append-nil}
-use Prim.Native.Nat.{ℕ, suc, ◌+◌, ◌-◌, ◌≤◌, ◌<◌}
+use Prim.Native.Nat.{ℕ, suc, ◌+◌, ◌-◌, ◌≤◌}
 use native.Mathlib.Omega.{arith}
 use lib.IntN.{ℤ}
-use lib.ListN.{length, get_or, set, take, drop, length-drop, drop_of_length-le}
+use lib.ListN.{length, get_or, set, take, drop, length-drop, length-map, drop_of_length-le}
+use Rattle.std.proofs.lemmas.List.{nil_from_length}
 use lib.Seq.{sets, sets-eq, length-sets, take_all, drop-drop}
 use Rattle.number.specs.Refusal.{first_refusal}
-use Rattle.number.proofs.Refusal.{first_passed, first_of_more}
+use Rattle.number.proofs.FirstRefusal.{first_passed, first_of_more}
 use Rattle.lists.specs.Lists.{joined}
 use Rattle.lists.proofs.Arranging.{length_ends}
 use Rattle.walk.specs.declared.plan.Head.{Head}
@@ -16,14 +18,9 @@ use Rattle.plan.proofs.PlanTests.{early_numbered, early_accepted}
 use Rattle.sets.specs.Members.{curves_in, handed_count, total}
 use Rattle.sets.specs.Own.{own_tree, own_boundaries, member_head, member_coefficients}
 use Rattle.sets.specs.SetPlan.{heads_of, set_coefficients, set_boundaries, coefficient_count, list_count}
-use Rattle.sets.specs.SetCall.{own_tests, curves}
-use Rattle.sets.specs.inside.Heads.{HeadFits, HeadsFit}
-use Rattle.sets.specs.inside.Planning.{Few}
+use Rattle.sets.specs.SetCall.{own_tests}
 use Rattle.sets.specs.declared.member.Member.{Member}
-use Rattle.sets.specs.declared.member.Members.{Members}
-use Rattle.sets.proofs.Arrays.{no_member, any_head, from_place, from_end, each_at}
-use Rattle.sets.proofs.HeadLaws.{SizesMost, sizes_most}
-use Rattle.sets.proofs.MemberLaws.{members_from, from_start, members_next}
+use Rattle.sets.proofs.Arrays.{any_head}
 use Rattle.set_plan.specs.inside.Filling.{curve_of, MemberFits, MemberPut, AllListsFit, AllListsPut}
 
 -- ---- a buffer and its part from a place on
@@ -127,109 +124,80 @@ module _ {member : Member} {members : List Member} {head : Head} {heads : List H
             ∙ sets_then bounds (own_boundaries head) (set_boundaries heads) list (list + head.lists) (omega (arith, ends_size)) ∙ left.boundaries;
       }
 
--- ---- in the arrays
+-- ---- from the first member on
 
--- the heads from place i on
-abbrev pub heads_from : (i count : ℕ) → List Head → List Head
-heads_from i count heads = take (count - i) (drop i heads)
+-- what is to be written of all members
+abbrev pub LeftOf : (members : List Member) (c out₀ : List ℤ) (bounds₀ : List ℕ) (left : List Member) (heads : List Head) (rest : List ℤ) (at list : ℕ)
+    (out : List ℤ) (bounds : List ℕ) → Type 0
+LeftOf members c out₀ bounds₀ left heads rest at list out bounds =
+    Left left heads rest at list out bounds
+    (sets out₀ 0 (set_coefficients (curves_in members c))) (sets bounds₀ 0 (set_boundaries (heads_of (curves_in members c))))
 
--- what is left from member i on, whose coefficients stand from place `from` on, gives the whole
-pub record LeftAt (handed : Members) (heads : List Head) (c out₀ : List ℤ) (bounds₀ : List ℕ) (i from at list : ℕ) (out : List ℤ) (bounds : List ℕ)
-    : Type 0 where
-  pub few : Few handed
-  pub fit : HeadsFit heads handed.count
-  pub inside : from ≤ length c
-  pub left : Left (members_from i handed) (heads_from i handed.count heads) (drop from c) at list out bounds
-      (sets out₀ 0 (set_coefficients (curves handed c))) (sets bounds₀ 0 (set_boundaries (heads_of (curves handed c))))
+pub left_start : {members : List Member} {heads : List Head} {c out : List ℤ} {bounds : List ℕ} → AllListsFit members heads c out bounds
+    → LeftOf members c out bounds members heads c 0 0 out bounds
+left_start {members} {heads} {c} {out} {bounds} fits = record {
+  within = fits.within;
+  accepted = fits.accepted;
+  heads_are = fits.heads_are;
+  room = omega (arith, fits.room);
+  boundary_room = omega (arith, fits.boundary_room);
+  coefficients = refl;
+  boundaries = ap (λ (l : List Head). sets bounds 0 (set_boundaries l)) fits.heads_are;
+}
 
-pub left_start : {handed : Members} {heads : List Head} {slice : ℕ} {c out : List ℤ} {bounds : List ℕ} → AllListsFit handed heads slice c out bounds
-    → LeftAt handed heads c out bounds 0 0 0 0 out bounds
-left_start {handed} {heads} {slice} {c} {out} {bounds} fits =
-    let all : handed.count - 0 ≡ handed.count = omega arith in
-    let heads_same : heads_from 0 handed.count heads ≡ heads_of (curves handed c) = ap (λ (n : ℕ). take n heads) all ∙ fits.heads_are in
-    record {
-      few = fits.stand.few;
-      fit = fits.heads_fit;
-      inside = omega arith;
-      left = rw (← from_start handed) (record {
-        within = fits.stand.within;
-        accepted = fits.accepted;
-        heads_are = heads_same;
-        room = omega (arith, ap coefficient_count heads_same, fits.room);
-        boundary_room = omega (arith, ap list_count heads_same, fits.boundary_room);
-        coefficients = refl;
-        boundaries = ap (λ (l : List Head). sets bounds 0 (set_boundaries l)) heads_same;
-      });
-    }
+-- ---- the next member
 
-module _ {handed : Members} {heads : List Head} {c out₀ : List ℤ} {bounds₀ : List ℕ} {i from at list : ℕ} {out : List ℤ} {bounds : List ℕ}
-    (here : LeftAt handed heads c out₀ bounds₀ i from at list out bounds) where
-  abbrev member : Member
-  member = get_or handed.members i no_member
+module _ {left more : List Member} {member : Member} {heads others : List Head} {head : Head} {c : List ℤ} {at list : ℕ} {out : List ℤ} {bounds : List ℕ}
+    {whole : List ℤ} {ends : List ℕ} (here : Left left heads c at list out bounds whole ends) (left_is : left ≡ member ∷ more)
+    (heads_is : heads ≡ head ∷ others) where
+  left_here : Left (member ∷ more) (head ∷ others) c at list out bounds whole ends
+  left_here = rw (left_is, heads_is) at here
 
-  abbrev head : Head
-  head = get_or heads i any_head
+  -- the member's coefficients are within the rest, and its lists within the buffers
+  pub slice_room : member.count ≤ length c
+  unfolding total
+  slice_room = omega (arith, left_here.within)
 
-  pub at_within : at ≤ length out
-  at_within = omega (arith, here.left.room)
+  pub place_room : at + head.coefficients ≤ length out
+  unfolding total
+  place_room = omega (arith, left_here.room)
 
-  module _ (below : i < handed.count) where
-    inside_heads : i < length heads
-    inside_heads = omega (arith, here.fit.few, here.fit.size)
+  pub boundary_place : list + head.lists ≤ length bounds
+  unfolding total
+  boundary_place = omega (arith, left_here.boundary_room)
 
-    left_here : Left (member ∷ members_from (i + 1) handed) (head ∷ heads_from (i + 1) handed.count heads) (drop from c) at list out bounds
-        (sets out₀ 0 (set_coefficients (curves handed c))) (sets bounds₀ 0 (set_boundaries (heads_of (curves handed c))))
-    left_here =
-        subst (λ (ms : List Member). Left ms (head ∷ heads_from (i + 1) handed.count heads) (drop from c) at list out bounds
-        (sets out₀ 0 (set_coefficients (curves handed c))) (sets bounds₀ 0 (set_boundaries (heads_of (curves handed c)))))
-        (members_next here.few i below)
-        (subst (λ (hs : List Head). Left (members_from i handed) hs (drop from c) at list out bounds
-        (sets out₀ 0 (set_coefficients (curves handed c))) (sets bounds₀ 0 (set_boundaries (heads_of (curves handed c)))))
-        (from_place any_head handed.count i heads below inside_heads) here.left)
+  module _ {mine : List ℤ} (own_is : mine ≡ take member.count c) where
+    pub fits_here : MemberFits member head list mine (take (length out - at) (drop at out)) bounds
+    fits_here = rw (own_is, part_from out at) (member_fits left_here)
 
-    -- the head's sizes
-    pub sizes_here : SizesMost head
-    sizes_here = sizes_most (each_at any_head HeadFits handed.count i heads below inside_heads here.fit.each)
-
-    -- the member's coefficients are within the slice
-    pub slice_room : from + member.count ≤ length c
-    unfolding total
-    slice_room = omega (arith, left_here.within, length-drop from c, here.inside)
-
-    -- as the parts of the slices are handed on
-    part_c : take (from + member.count - from) (drop from c) ≡ take member.count (drop from c)
-    part_c = let size : from + member.count - from ≡ member.count = omega arith in ap (λ (n : ℕ). take n (drop from c)) size
-
-    pub fits_here : MemberFits member head list (take (from + member.count - from) (drop from c)) (take (length out - at) (drop at out)) bounds
-    fits_here = rw (part_c, part_from out at) (member_fits left_here)
-
-    module _ {out' z : List ℤ} {bounds' : List ℕ}
-        (put : MemberPut member head list (take (from + member.count - from) (drop from c)) (take (length out - at) (drop at out)) bounds z bounds')
+    module _ {out' z : List ℤ} {bounds' : List ℕ} (put : MemberPut member head list mine (take (length out - at) (drop at out)) bounds z bounds')
         (back : out' ≡ take at out ++ (z ++ drop (length out - at) (drop at out))) where
-      put_here : MemberPut member head list (take member.count (drop from c)) (drop at out) bounds z bounds'
-      put_here = rw (part_c, part_from out at) at put
+      put_here : MemberPut member head list (take member.count c) (drop at out) bounds z bounds'
+      put_here = rw (own_is, part_from out at) at put
 
       pub kept_here : length out' ≡ length out
       kept_here = out_kept left_here put_here back
 
-      pub next_here : LeftAt handed heads c out₀ bounds₀ (i + 1) (from + member.count) (at + head.coefficients) (list + head.lists) out' bounds'
-      next_here = record {
-        few = here.few;
-        fit = here.fit;
-        inside = slice_room;
-        left =
-            subst (λ (l : List ℤ). Left (members_from (i + 1) handed) (heads_from (i + 1) handed.count heads) l (at + head.coefficients)
-            (list + head.lists) out' bounds' (sets out₀ 0 (set_coefficients (curves handed c))) (sets bounds₀ 0 (set_boundaries (heads_of (curves handed c)))))
-            (drop-drop member.count from c)
-            (left_next left_here put_here back);
-      }
+      pub next_here : {rest : List ℤ} → rest ≡ drop member.count c → Left more others rest (at + head.coefficients) (list + head.lists) out' bounds' whole ends
+      next_here rest_is = rw rest_is (left_next left_here put_here back)
 
-  pub left_none : handed.count ≤ i → AllListsPut handed c out₀ bounds₀ out bounds
-  unfolding curves_in set_coefficients set_boundaries joined
-  left_none past =
-      let none = from_end handed.count i (drop i handed.members) past in
-      let no_heads = from_end handed.count i (drop i heads) past in
-      record {
-        coefficients = sym (ap (λ (ms : List Member). sets out at (set_coefficients (curves_in ms (drop from c)))) none) ∙ here.left.coefficients;
-        boundaries = sym (ap (λ (hs : List Head). sets bounds list (set_boundaries hs)) no_heads) ∙ here.left.boundaries;
-      }
+-- ---- behind the last member
+
+curves_length : (members : List Member) (c : List ℤ) → length (curves_in members c) ≡ length members
+unfolding curves_in
+curves_length [] c = refl
+curves_length (member ∷ members) c = ap suc (curves_length members (drop member.count c))
+
+pub left_none : {members left : List Member} {heads : List Head} {c out₀ rest : List ℤ} {bounds₀ : List ℕ} {at list : ℕ} {out : List ℤ} {bounds : List ℕ}
+    → LeftOf members c out₀ bounds₀ left heads rest at list out bounds → (length left ≡ 0) ⊎ (length heads ≡ 0)
+    → AllListsPut members c out₀ bounds₀ out bounds
+unfolding curves_in set_coefficients set_boundaries joined
+left_none {members} {left} {heads} {c} {out₀} {rest} {bounds₀} {at} {list} {out} {bounds} here ended =
+    let same : length heads ≡ length left = ap length here.heads_are ∙ length-map (curves_in left rest) member_head ∙ curves_length left rest in
+    let none : length left ≡ 0 = ⊎_elim (λ none. none) (λ none. sym same ∙ none) ended in
+    let no_members = nil_from_length left none in
+    let no_heads = nil_from_length heads (same ∙ none) in
+    record {
+      coefficients = sym (ap (λ (ms : List Member). sets out at (set_coefficients (curves_in ms rest))) no_members) ∙ here.coefficients;
+      boundaries = sym (ap (λ (hs : List Head). sets bounds list (set_boundaries hs)) no_heads) ∙ here.boundaries;
+    }

@@ -2,57 +2,53 @@
 ghost use Rattle.set_plan.specs.inside.Filling.{MemberFits, MemberPut, AllListsFit, AllListsPut};
 
 use plan::write::write_lists;
-use sets::marks::own_split;
-use sets::{MEMBERS, Member, Members};
+use sets::Member;
+use sets::own::own_slicing;
 use walk::Head;
 
-// Those of a member: its coefficients at the front of `out`, and its boundaries from boundary `list` on.
+// Writes those of a member: its coefficients to the front of `out`, and its boundaries from boundary `list` on.
 fn write_own_lists(
-    member: Member,
-    head: Head,
+    member: &Member,
+    head: &Head,
     list: usize,
     c: &[i64],
     out: &mut [i64],
     bounds: &mut [u16],
 )
-    requires { MemberFits member head list c.now out.old bounds.old }
-    ensures { MemberPut member head list c.now out.old bounds.old out.new bounds.new }
+    requires { MemberFits member.now head.now list c.now out.old bounds.old }
+    ensures { MemberPut member.now head.now list c.now out.old bounds.old out.new bounds.new }
 {
-    let strategy = member.strategy;
-    let parity = member.parity;
-    let basis = member.basis;
-    let fold = member.fold;
-    let count = head.coefficients;
-    let split = own_split(head);
     write_lists(
-        strategy, parity, basis, fold, count, split, list, c, out, bounds,
+        member.settings(),
+        member.fold,
+        head.coefficients,
+        own_slicing(head).split,
+        list,
+        c,
+        out,
+        bounds,
     );
 }
 
-// Those of all members, one member's after another's; the slice of coefficients has so many places.
+// Writes those of all members, one member's after another's. The heads are a slice of their own, as the public record holds them without the members.
 pub fn write_all_lists(
-    handed: Members,
-    heads: [Head; MEMBERS],
-    slice: usize,
+    members: &[Member],
+    heads: &[Head],
     c: &[i64],
     out: &mut [i64],
     bounds: &mut [u16],
 )
-    requires { AllListsFit handed heads slice c.now out.old bounds.old }
-    ensures { AllListsPut handed c.now out.old bounds.old out.new bounds.new }
+    requires { AllListsFit members.now heads.now c.now out.old bounds.old }
+    ensures { AllListsPut members.now c.now out.old bounds.old out.new bounds.new }
 {
-    let mut from = 0;
+    let mut rest = c;
     let mut at = 0;
     let mut list = 0;
-    let mut i = 0;
-    while i < handed.count {
-        let member = handed.members[i];
-        let head = heads[i];
-        let end = from + member.count;
-        write_own_lists(member, head, list, &c[from..end], &mut out[at..], bounds);
-        from = end;
+    for (member, head) in members.iter().zip(heads) {
+        let (own, others) = rest.split_at(member.count);
+        write_own_lists(member, head, list, own, &mut out[at..], bounds);
+        rest = others;
         at += head.coefficients;
         list += head.lists;
-        i += 1;
     }
 }

@@ -4,10 +4,11 @@
 pub mod call;
 pub mod costs;
 pub mod filling;
+pub mod outline;
 pub mod record;
 pub mod sizes;
 
 pub use call::plan_set;
-pub use plan::PlanSizes;
-pub use sets::{CurveSet, MEMBERS, Member, Members, SetPlanned};
+pub use plan::Sizes;
+pub use sets::{CurveSet, MEMBERS, Member, Members};
 pub use sizes::set_sizes;

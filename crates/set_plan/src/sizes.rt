@@ -1,69 +1,47 @@
 // The sizes of a set before its curves are there.
 ghost use Rattle.std.specs.Prelude.{◌≡◌, map};
 ghost use Rattle.number.specs.Refusal.{first_refusal};
+ghost use Rattle.number.specs.Refused.{refusal_of};
 ghost use Rattle.lists.specs.Lists.{joined};
-ghost use Rattle.sets.specs.Members.{members_in};
+ghost use Rattle.plan.specs.PlanSizes.{plan_sizes_in};
 ghost use Rattle.sets.specs.SetSizes.{member_settings_tests, set_sizes_tests, set_sizes_call};
-ghost use Rattle.sets.specs.inside.Planning.{Few};
 
-use super::record::total_sizes;
-use number::degree_of;
-use plan::PlanSizes;
-use plan::input::settings_refusal;
-use plan::sizes::no_sizes;
-use sets::input::set_heads;
-use sets::marks::{common_marks, count_common};
+use super::outline::set_outline;
+use number::{Refusal, degree_of};
+use plan::Sizes;
+use plan::input::check_settings;
 use sets::member::members_alike;
-use sets::{MEMBERS, Members};
+use sets::{MEMBERS, Member, Members};
 
-// The number of the first test of the members' degrees and settings that holds, in member order, or 0.
-fn settings_refusals(handed: Members) -> u8
-    requires { Few handed }
-    ensures { result ≡ first_refusal (joined (map member_settings_tests (members_in handed))) }
+// Makes the tests of the members' degrees and settings, in member order.
+fn check_all_settings(members: &[Member]) -> Result<(), Refusal>
+    ensures { refusal_of result ≡ first_refusal (joined (map member_settings_tests members.now)) }
 {
-    let mut i = 0;
-    while i < handed.count {
-        let member = handed.members[i];
-        let parity = member.parity;
-        let wrong = settings_refusal(member.fold, parity, degree_of(member.count));
-        if 0 < wrong {
-            return wrong;
-        }
-        i += 1;
+    for member in members {
+        check_settings(member.fold, member.parity, degree_of(member.count))?;
     }
-    0
+    Ok(())
 }
 
-// The number of the first test of the sizes that holds, or 0.
-fn sizes_refusal(handed: Members) -> u8
-    ensures { result ≡ first_refusal (set_sizes_tests handed) }
+// Makes the tests of the sizes, in their order.
+fn check_sizes(handed: &Members) -> Result<(), Refusal>
+    ensures { refusal_of result ≡ first_refusal (set_sizes_tests handed.now) }
 {
-    let count = handed.count;
-    if count == 0 {
-        return 35;
+    if handed.count == 0 || MEMBERS < handed.count {
+        return Err(Refusal::MembersMiscounted);
     }
-    if MEMBERS < count {
-        return 35;
+    let members = handed.list();
+    if !members_alike(members) {
+        return Err(Refusal::MembersUnlike);
     }
-    if !members_alike(handed) {
-        return 36;
-    }
-    settings_refusals(handed)
+    check_all_settings(members)
 }
 
-// The sizes of every set that is planned with these settings and lengths: how many coefficients, lists and steps it has, the common power steps counted
-// once. The set call takes its own from the same heads.
-pub fn set_sizes(members: Members) -> PlanSizes
-    ensures { result ≡ set_sizes_call members }
+// Returns the sizes of every set that is planned with these settings and lengths: how many coefficients, lists and steps it has, the common power steps
+// counted once. The set call takes its own from the same outline.
+pub fn set_sizes(members: Members) -> Result<Sizes, Refusal>
+    ensures { plan_sizes_in result ≡ set_sizes_call members }
 {
-    let wrong = sizes_refusal(members);
-    if 0 < wrong {
-        return no_sizes(wrong);
-    }
-    let heads = set_heads(members);
-    let first = heads[0];
-    let basis = first.basis;
-    let marks = common_marks(basis, heads, members.count);
-    let powers = count_common(heads, members.count, marks);
-    total_sizes(heads, members.count, powers)
+    check_sizes(&members)?;
+    Ok(set_outline(members.list()).sizes)
 }

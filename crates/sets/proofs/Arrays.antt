@@ -1,12 +1,12 @@
--- Arrays of members and of heads, of which the first places are read in turn.
-use mathlib.Core.Path.{◌≡◌, refl, sym, ◌∙◌, ap, ap₂}
+-- Members and heads that are read in turn.
+use mathlib.Core.Path.{◌≡◌, refl, sym, ◌∙◌, ap}
 use mathlib.Core.Bool.{false}
 use mathlib.Core.List.{List, [], ◌∷◌, ◌++◌, append_assoc}
-use Prim.Native.Nat.{ℕ, zero, suc, ◌+◌, ◌-◌, ◌<◌, ◌≤◌}
+use Prim.Native.Nat.{ℕ, zero, suc, ◌+◌, ◌-◌, ◌<◌}
 use native.Mathlib.Omega.{arith}
 use lib.Ieee.{nan}
-use lib.ListN.{length, get_or, set, take, drop, replicate}
-use lib.Seq.{take-suc, drop-cons, set_at}
+use lib.ListN.{length, get_or, set, drop, replicate}
+use lib.Seq.{drop-cons, set_at}
 use Rattle.algebra.specs.Each.{Each}
 use Rattle.algebra.specs.declared.Basis.TheVariants.{Monomial}
 use Rattle.algebra.specs.declared.Parity.TheVariants.{Full}
@@ -39,32 +39,18 @@ any_head = record {
   interval = record { a = nan; b = nan; u = nan; w = nan };
 }
 
--- ---- one place more
+-- ---- one place after another
 
 module _ {X : Type 0} (d : X) where
-  -- the first i places and the next
-  pub take_more : (i : ℕ) (xs : List X) → i < length xs → take (i + 1) xs ≡ take i xs ++ (get_or xs i d ∷ [])
-  take_more i xs inside = let one : i + 1 ≡ suc i = omega arith in ap (λ (n : ℕ). take n xs) one ∙ take-suc xs i d inside
+  -- from place i on: that element, and those behind it
+  pub from_place : (i : ℕ) (xs : List X) → i < length xs → drop i xs ≡ get_or xs i d ∷ drop (i + 1) xs
+  from_place i xs inside = let one : suc i ≡ i + 1 = omega arith in drop-cons xs i d inside ∙ ap (λ (k : ℕ). get_or xs i d ∷ drop k xs) one
 
-  -- of the first n places those from place i on: that one, and those behind it
-  pub from_place : (n i : ℕ) (xs : List X) → i < n → i < length xs
-      → take (n - i) (drop i xs) ≡ get_or xs i d ∷ take (n - (i + 1)) (drop (i + 1) xs)
-  from_place n i xs below inside =
-      let size : n - i ≡ suc (n - (i + 1)) = omega arith in
-      let one : suc i ≡ i + 1 = omega arith in
-      ap₂ (λ (k : ℕ) (l : List X). take k l) size (drop-cons xs i d inside)
-      ∙ ap (λ (k : ℕ). get_or xs i d ∷ take (n - (i + 1)) (drop k xs)) one
-
-  -- what holds of each of the first n elements holds of element i
-  pub each_at : (P : X → Type 0) (n i : ℕ) (xs : List X) → i < n → i < length xs → Each P (take n xs) → P (get_or xs i d)
-  each_at P n i [] below inside each = absurd (omega arith)
-  each_at P zero i (x ∷ xs) below inside each = absurd (omega arith)
-  each_at P (suc n) zero (x ∷ xs) below inside each = each.0
-  each_at P (suc n) (suc i) (x ∷ xs) below inside each = each_at P n i xs (omega arith) (omega arith) each.1
-
--- behind the last none is left
-pub from_end : {X : Type 0} (n i : ℕ) (xs : List X) → n ≤ i → take (n - i) xs ≡ []
-from_end n i xs past = let none : n - i ≡ 0 = omega arith in rw none
+  -- what holds of each element holds of element i
+  pub each_at : (P : X → Type 0) (i : ℕ) (xs : List X) → i < length xs → Each P xs → P (get_or xs i d)
+  each_at P i [] inside each = absurd (omega arith)
+  each_at P zero (x ∷ xs) inside each = each.0
+  each_at P (suc i) (x ∷ xs) inside each = each_at P i xs (omega arith) each.1
 
 -- ---- an array that is filled from the front
 

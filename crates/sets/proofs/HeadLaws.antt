@@ -7,9 +7,10 @@ use native.Mathlib.Nat.{two-pow-succ}
 use native.Mathlib.Omega.{arith}
 use borrow.Author.Tests.{eqb-true}
 use lib.IntN.{ℤ}
-use lib.ListN.{length, get_or, take, drop, replicate, length-append, length-map, length-drop, length-replicate, get_or-append}
+use lib.ListN.{length, get_or, take, drop, replicate, length-append, length-map, length-drop, length-replicate}
 use lib.Seq.{length-take-le, take-append_seam}
 use lib.Pow.{pow_pos}
+use Rattle.std.proofs.lemmas.Bool.{and_parts}
 use Rattle.algebra.specs.Each.{Each}
 use Rattle.algebra.specs.EnumNumbers.{basis_number}
 use Rattle.algebra.proofs.EnumNumbers.{numbers_tell_apart}
@@ -17,7 +18,6 @@ use Rattle.number.specs.Bits.{bit_len}
 use Rattle.number.specs.Interval.{change_of_basis}
 use Rattle.number.specs.Limits.{count_limit}
 use Rattle.number.proofs.Bits.{len_unique}
-use Rattle.needed.proofs.Flags.{both}
 use Rattle.lists.specs.Tree.{relists}
 use Rattle.lists.proofs.Arranging.{leaves_most}
 use Rattle.walk.specs.declared.plan.Head.{Head}
@@ -27,13 +27,12 @@ use Rattle.plan.specs.PlanCall.{planned_parity, planned_transform}
 use Rattle.plan.specs.PlanSizes.{degree_to_plan}
 use Rattle.plan.proofs.StepCounts.{steps_length}
 use Rattle.plan.proofs.PlanTests.{planned_length, degree_planned}
-use Rattle.sets.specs.Members.{members_in, Curve, curves_in, total, handed_count, alike, alike_to, all_alike}
+use Rattle.sets.specs.Members.{Curve, curves_in, total, handed_count, alike, alike_to, all_alike}
 use Rattle.sets.specs.Own.{own_split, own_tree, own_steps, without_powers, member_head, head_by}
 use Rattle.sets.specs.SetPlan.{member_limit, with_zero_heads, heads_of}
 use Rattle.sets.specs.inside.Heads.{HeadFits, HeadsFit, SameBasis}
-use Rattle.sets.specs.inside.Planning.{SettingsPass, HandedPass, heads_by}
+use Rattle.sets.specs.inside.Planning.{SettingsPass, MembersPass, heads_by}
 use Rattle.sets.specs.declared.member.Member.{Member}
-use Rattle.sets.specs.declared.member.Members.{Members}
 use Rattle.sets.proofs.Arrays.{any_head}
 use Rattle.sets.proofs.InputLaws.{range}
 
@@ -93,36 +92,27 @@ each_by : (members : List Member) → Each SettingsPass members → Each HeadFit
 each_by [] passes = tt
 each_by (member ∷ members) passes = (fits_by member passes.0, each_by members passes.1)
 
-module _ {handed : Members} {heads : List Head} (pass : HandedPass handed) (heads_are : heads ≡ heads_by (members_in handed)) where
-  members_count : length (members_in handed) ≡ handed.count
-  members_count = length-take-le handed.count handed.members (omega (arith, pass.few.most, pass.few.size))
-
-  heads_count : length (map head_by (members_in handed)) ≡ handed.count
-  heads_count = length-map (members_in handed) head_by ∙ members_count
-
+module _ {members : List Member} {heads : List Head} (pass : MembersPass members) (heads_are : heads ≡ heads_by members) where
   -- the first heads are the members'
-  pub first_by : take handed.count heads ≡ map head_by (members_in handed)
+  pub first_by : take (length members) heads ≡ map head_by members
   first_by =
-      ap₂ (λ (n : ℕ) (l : List Head). take n l) (sym heads_count) heads_are
-      ∙ take-append_seam (map head_by (members_in handed)) (replicate (member_limit - length (map head_by (members_in handed))) no_head)
+      ap₂ (λ (n : ℕ) (l : List Head). take n l) (sym (length-map members head_by)) heads_are
+      ∙ take-append_seam (map head_by members) (replicate (member_limit - length (map head_by members)) no_head)
 
-  pub heads_fit : HeadsFit heads handed.count
-  heads_fit = record {
-    few = pass.few.most;
-    size =
-        ap length heads_are
-        ∙ length-append (map head_by (members_in handed)) (replicate (member_limit - length (map head_by (members_in handed))) no_head)
-        ∙ omega (
-          arith,
-          heads_count,
-          pass.few.most,
-          length-replicate (member_limit - length (map head_by (members_in handed))) no_head,
-        );
-    each = subst (Each HeadFits) (sym first_by) (each_by (members_in handed) pass.passes);
-  }
+  pub heads_fit : HeadsFit (take (length members) heads)
+  heads_fit = subst HeadsFit (sym first_by) (record {
+    few = omega (arith, length-map members head_by, pass.few);
+    each = each_by members pass.passes;
+  })
+
+  pub heads_size : length heads ≡ member_limit
+  heads_size =
+      ap length heads_are
+      ∙ length-append (map head_by members) (replicate (member_limit - length (map head_by members)) no_head)
+      ∙ omega (arith, length-map members head_by, pass.few, length-replicate (member_limit - length (map head_by members)) no_head)
 
   -- and behind them zero heads stand
-  pub zeros_behind : heads ≡ with_zero_heads (take handed.count heads)
+  pub zeros_behind : heads ≡ with_zero_heads (take (length members) heads)
   zeros_behind = heads_are ∙ ap with_zero_heads (sym first_by)
 
 -- ---- one basis
@@ -132,27 +122,23 @@ bases_by : (one : Member) (members : List Member) → alike_to one members ≡ t
 unfolding alike_to alike head_by head_of
 bases_by one [] alikes = tt
 bases_by one (member ∷ members) alikes =
-    let two = both _ _ alikes in
-    let same = eqb-true (basis_number one.basis) (basis_number member.basis) (both _ _ two.0).0 in
+    let two = and_parts _ _ alikes in
+    let same = eqb-true (basis_number one.basis) (basis_number member.basis) (and_parts _ _ two.0).0 in
     (sym (numbers_tell_apart.bases one.basis member.basis same), bases_by one members two.1)
 
 -- so all have that of the first
 bases_first : (members : List Member) → all_alike members ≡ true
-    → Each (λ (head : Head). head.basis ≡ (get_or (map head_by members) 0 any_head).basis) (map head_by members)
+    → Each (λ (head : Head). head.basis ≡ (get_or (heads_by members) 0 any_head).basis) (map head_by members)
 unfolding all_alike head_by head_of
 bases_first [] alikes = tt
 bases_first (first ∷ members) alikes = (refl, bases_by first members alikes)
 
-pub one_basis : {handed : Members} {heads : List Head} → HandedPass handed → heads ≡ heads_by (members_in handed) → 1 ≤ handed.count
-    → all_alike (members_in handed) ≡ true → SameBasis (get_or heads 0 any_head).basis (take handed.count heads)
-one_basis {handed} {heads} pass heads_are some alikes =
-    let members = map head_by (members_in handed) in
-    let first : get_or heads 0 any_head ≡ get_or members 0 any_head =
-    ap (λ (l : List Head). get_or l 0 any_head) heads_are
-    ∙ get_or-append members (replicate (member_limit - length members) no_head) any_head 0 (omega (arith, heads_count pass heads_are)) in
-    record {
-      each =
-          subst (λ (h : Head). Each (λ (head : Head). head.basis ≡ h.basis) (take handed.count heads)) (sym first)
-          (subst (Each (λ (head : Head). head.basis ≡ (get_or members 0 any_head).basis)) (sym (first_by pass heads_are))
-          (bases_first (members_in handed) alikes));
-    }
+pub one_basis : {members : List Member} {heads : List Head} → MembersPass members → heads ≡ heads_by members → all_alike members ≡ true
+    → SameBasis (get_or heads 0 any_head).basis (take (length members) heads)
+one_basis {members} {heads} pass heads_are alikes = record {
+  each =
+      subst (λ (h : Head). Each (λ (head : Head). head.basis ≡ h.basis) (take (length members) heads))
+      (ap (λ (l : List Head). get_or l 0 any_head) (sym heads_are))
+      (subst (Each (λ (head : Head). head.basis ≡ (get_or (heads_by members) 0 any_head).basis)) (sym (first_by pass heads_are))
+      (bases_first members alikes));
+}

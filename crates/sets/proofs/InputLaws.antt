@@ -4,14 +4,15 @@ use mathlib.Core.List.{List, [], ◌∷◌, ◌++◌, map, map-append}
 use Prim.Native.Nat.{ℕ, suc, ◌+◌, ◌-◌, ◌≤◌, ◌<◌}
 use native.Mathlib.Omega.{arith}
 use lib.IntN.{ℤ}
-use lib.ListN.{length, get_or, set, take, drop, replicate, length-map}
-use lib.Seq.{drop-drop, length-take-le}
+use lib.ListN.{length, get_or, set, take, drop, replicate, length-map, drop_of_length-le}
+use lib.Seq.{length-take-le, take_all}
+use Rattle.std.proofs.lemmas.List.{take_more}
 use Rattle.number.specs.Interval.{change_of_basis}
 use Rattle.number.specs.Limits.{plan_limit}
 use Rattle.number.specs.declared.interval.Interval.{Interval}
 use Rattle.number.specs.Refusal.{Test, first_refusal}
 use Rattle.number.specs.inside.Between.{Between}
-use Rattle.number.proofs.Refusal.{first_kept, first_of_more}
+use Rattle.number.proofs.FirstRefusal.{first_kept, first_of_more}
 use Rattle.lists.specs.Lists.{joined}
 use Rattle.walk.specs.declared.plan.Head.{Head}
 use Rattle.plan.specs.PlanSteps.{last_plain, list_steps}
@@ -26,62 +27,50 @@ use Rattle.sets.specs.Members.{curves_in}
 use Rattle.sets.specs.Own.{own_tree, own_steps, with_steps, head_by}
 use Rattle.sets.specs.SetPlan.{member_limit, with_zero_heads}
 use Rattle.sets.specs.SetCall.{own_tests}
-use Rattle.sets.specs.inside.Planning.{Few, SettingsPass, heads_by}
+use Rattle.sets.specs.inside.Planning.{SettingsPass, heads_by}
 use Rattle.sets.specs.declared.member.Member.{Member}
-use Rattle.sets.specs.declared.member.Members.{Members}
-use Rattle.sets.proofs.Arrays.{no_member, take_more, from_end, zeros_more}
-use Rattle.sets.proofs.MemberLaws.{members_from, members_next}
+use Rattle.sets.proofs.Arrays.{no_member, from_place, zeros_more}
 
 -- ---- one member after another
 
--- the refusal of the members from place i on, whose coefficients stand from place `at` on
-abbrev pub refusal_from : (i at : ℕ) → Members → List ℤ → ℕ
-refusal_from i at handed c = first_refusal (joined (map own_tests (curves_in (members_from i handed) (drop at c))))
+-- the refusal of the members from place i on, whose coefficients come first in the rest
+abbrev pub refusal_from : (i : ℕ) → List Member → List ℤ → ℕ
+refusal_from i members rest = first_refusal (joined (map own_tests (curves_in (drop i members) rest)))
 
--- a part of the slice, by its two ends
-pub part_is : (c : List ℤ) (at count : ℕ) → take (at + count - at) (drop at c) ≡ take count (drop at c)
-part_is c at count = let size : at + count - at ≡ count = omega arith in ap (λ (n : ℕ). take n (drop at c)) size
-
-module _ {handed : Members} (few : Few handed) (c : List ℤ) (i at : ℕ) (below : i < handed.count) where
+module _ (members : List Member) (rest : List ℤ) (i : ℕ) (inside : i < length members) where
   abbrev member : Member
-  member = get_or handed.members i no_member
+  member = get_or members i no_member
 
-  abbrev tests : List Test
-  tests = early_tests member.fold member.parity (take member.count (drop at c)) member.a member.b
+  abbrev tests_of : List ℤ → List Test
+  tests_of own = early_tests member.fold member.parity own member.a member.b
 
   abbrev behind : List Test
-  behind = joined (map own_tests (curves_in (members_from (i + 1) handed) (drop (at + member.count) c)))
+  behind = joined (map own_tests (curves_in (drop (i + 1) members) (drop member.count rest)))
 
-  from_member : refusal_from i at handed c ≡ first_refusal (tests ++ behind)
+  from_member : refusal_from i members rest ≡ first_refusal (tests_of (take member.count rest) ++ behind)
   unfolding curves_in joined
-  from_member =
-      ap (λ (l : List Member). first_refusal (joined (map own_tests (curves_in l (drop at c))))) (members_next few i below)
-      ∙ ap (λ (l : List ℤ). first_refusal (tests ++ joined (map own_tests (curves_in (members_from (i + 1) handed) l)))) (drop-drop member.count at c)
+  from_member = ap (λ (l : List Member). first_refusal (joined (map own_tests (curves_in l rest)))) (from_place no_member i members inside)
 
-  -- its tests as the code makes them, on a part of the slice
-  abbrev part_tests : List Test
-  part_tests = early_tests member.fold member.parity (take (at + member.count - at) (drop at c)) member.a member.b
+  module _ {own : List ℤ} {k : ℕ} (own_is : own ≡ take member.count rest) (k_is : k ≡ first_refusal (tests_of own)) where
+    is : k ≡ first_refusal (tests_of (take member.count rest))
+    is = k_is ∙ ap (λ (l : List ℤ). first_refusal (tests_of l)) own_is
 
-  part_tests_lem : first_refusal part_tests ≡ first_refusal tests
-  part_tests_lem =
-      ap (λ (l : List ℤ). first_refusal (early_tests member.fold member.parity l member.a member.b)) (part_is c at member.count)
+    pub refused_here : 0 < k → k ≡ refusal_from i members rest
+    refused_here some =
+        let positive : 0 < first_refusal (tests_of (take member.count rest)) = rw is at some in
+        is ∙ sym (from_member ∙ first_kept (tests_of (take member.count rest)) behind positive)
 
-  pub refused_here : {k : ℕ} → k ≡ first_refusal part_tests → 0 < k → k ≡ refusal_from i at handed c
-  refused_here {k} is_part_lem some =
-      let is = is_part_lem ∙ part_tests_lem in
-      let positive : 0 < first_refusal tests = rw is at some in
-      is ∙ sym (from_member ∙ first_kept tests behind positive)
+    pub passed_here : {others : List ℤ} → others ≡ drop member.count rest → k ≤ 0 → refusal_from i members rest ≡ refusal_from (i + 1) members others
+    passed_here others_are none =
+        from_member
+        ∙ first_of_more (tests_of (take member.count rest)) behind
+        (early_numbered member.fold member.parity (take member.count rest) member.a member.b) (sym is ∙ omega arith)
+        ∙ ap (refusal_from (i + 1) members) (sym others_are)
 
-  pub passed_here : {k : ℕ} → k ≡ first_refusal part_tests → k ≤ 0 → refusal_from i at handed c ≡ refusal_from (i + 1) (at + member.count) handed c
-  passed_here {k} is none =
-      from_member
-      ∙ first_of_more tests behind (early_numbered member.fold member.parity (take member.count (drop at c)) member.a member.b)
-      (sym (is ∙ part_tests_lem) ∙ omega arith)
-
-pub refusal_end : (handed : Members) (c : List ℤ) (i at : ℕ) → handed.count ≤ i → refusal_from i at handed c ≡ 0
+pub refusal_end : (members : List Member) (rest : List ℤ) (i : ℕ) → length members ≤ i → refusal_from i members rest ≡ 0
 unfolding curves_in joined
-refusal_end handed c i at past =
-    ap (λ (l : List Member). first_refusal (joined (map own_tests (curves_in l (drop at c))))) (from_end handed.count i (drop i handed.members) past)
+refusal_end members rest i past =
+    ap (λ (l : List Member). first_refusal (joined (map own_tests (curves_in l rest)))) (drop_of_length-le members past)
 
 -- ---- the head of a member
 
@@ -141,21 +130,23 @@ module _ (member : Member) (pass : SettingsPass member) where
 -- ---- the heads of all members
 
 -- those of the first i
-abbrev pub heads_upto : (i : ℕ) → Members → List Head
-heads_upto i handed = heads_by (take i handed.members)
+abbrev pub heads_upto : (i : ℕ) → List Member → List Head
+heads_upto i members = heads_by (take i members)
 
-pub heads_none : (handed : Members) → replicate member_limit no_head ≡ heads_upto 0 handed
-heads_none handed = refl
+pub heads_none : (members : List Member) → replicate member_limit no_head ≡ heads_upto 0 members
+heads_none members = refl
 
-pub heads_more : {handed : Members} → Few handed → (i : ℕ) {heads heads' : List Head} {head : Head} → i < handed.count → heads ≡ heads_upto i handed
-    → head ≡ head_by (get_or handed.members i no_member) → heads' ≡ set heads i head → heads' ≡ heads_upto (i + 1) handed
-heads_more {handed} few i {heads} {heads'} {head} below is head_is put =
-    let xs = take i handed.members in
-    let member = get_or handed.members i no_member in
-    let inside : i < length handed.members = omega (arith, few.most, few.size) in
-    let size : length (map head_by xs) ≡ i = length-map xs head_by ∙ length-take-le i handed.members (omega (arith, inside)) in
-    put ∙ ap₂ (λ (l : List Head) (h : Head). set l i h) is head_is
+pub heads_more : (members : List Member) → length members ≤ member_limit → (i : ℕ) {heads heads' : List Head} {head : Head} → i < length members
+    → heads ≡ heads_upto i members → head ≡ head_by (get_or members i no_member) → heads' ≡ set heads i head → heads' ≡ heads_upto (i + 1) members
+heads_more members few i {heads} {heads'} {head} inside was head_is put =
+    let xs = take i members in
+    let member = get_or members i no_member in
+    let size : length (map head_by xs) ≡ i = length-map xs head_by ∙ length-take-le i members (omega (arith, inside)) in
+    put ∙ ap₂ (λ (l : List Head) (h : Head). set l i h) was head_is
     ∙ ap (λ (n : ℕ). set (heads_by xs) n (head_by member)) (sym size)
-    ∙ zeros_more (map head_by xs) (head_by member) (omega (arith, size, few.most))
+    ∙ zeros_more (map head_by xs) (head_by member) (omega (arith, size, few))
     ∙ ap with_zero_heads (sym (map-append head_by xs (member ∷ [])))
-    ∙ ap heads_by (sym (take_more no_member i handed.members inside))
+    ∙ ap heads_by (sym (take_more members i no_member inside))
+
+pub heads_all : (members : List Member) {i : ℕ} {heads : List Head} → length members ≤ i → heads ≡ heads_upto i members → heads ≡ heads_by members
+heads_all members {i} past was = was ∙ ap heads_by (take_all i members past)

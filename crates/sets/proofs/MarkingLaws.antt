@@ -10,7 +10,8 @@ use native.Mathlib.Nat.{eq-or-lt_of_le}
 use native.Mathlib.Omega.{arith}
 use borrow.Author.Tests.{lt-ltb, le-ltb}
 use lib.ListN.{length, get_or, set, take, replicate, length-set, length-replicate}
-use lib.Seq.{get_or-set_same, get_or-set_other}
+use lib.Seq.{get_or-set_same, get_or-set_other, take_all, take-length}
+use Rattle.std.proofs.lemmas.List.{take_more}
 use Rattle.algebra.specs.Each.{Each}
 use Rattle.algebra.specs.declared.Basis.{Basis}
 use Rattle.algebra.specs.declared.Parity.{Parity}
@@ -35,7 +36,7 @@ use Rattle.sets.specs.Own.{own_split, own_powers}
 use Rattle.sets.specs.SetPlan.{set_powers}
 use Rattle.sets.specs.inside.Heads.{HeadFits, HeadsFit, SameBasis, PowersTo}
 use Rattle.sets.specs.inside.Marking.{PlacesAdded, OwnTarget, TargetsAdded, TargetIn, TargetsUpto, Common, PowersCounted}
-use Rattle.sets.proofs.Arrays.{any_head, take_more}
+use Rattle.sets.proofs.Arrays.{any_head}
 use Rattle.sets.proofs.Union.{merged_holds, union_rising}
 
 -- ---- a mark more
@@ -121,19 +122,16 @@ module _ (parity : Parity) (top limit : ℕ) (marks : List Bool) where
 
 -- ---- the powers that a member needs at once
 
-pub targets_added : (head : Head) → HeadFits head → {split power limit : ℕ} {marks before after : List Bool} → split ≡ own_split head
-    → power ≡ top_power head.degree → limit ≡ baby_limit head.degree split
+pub targets_added : (head : Head) → HeadFits head → {power limit : ℕ} {marks before after : List Bool}
+    → power ≡ top_power head.degree → limit ≡ baby_limit head.degree (own_split head)
     → PlacesAdded head.parity power limit limit marks before → after ≡ mark_at power before
     → TargetsAdded head marks after
 unfolding mark_at
-targets_added head fits {split} {power} {limit} {marks} {before} {after} split_is power_is limit_is added after_is = record {
+targets_added head fits {power} {limit} {marks} {before} {after} power_is limit_own added after_is = record {
   size = ap length after_is ∙ mark_length power before ∙ added.size;
   marked = λ n. (forth n, back n);
 }
   where
-    limit_own : limit ≡ baby_limit head.degree (own_split head)
-    limit_own = limit_is ∙ ap (baby_limit head.degree) split_is
-
     test_own : (n : ℕ) → is_target head.parity power limit n ≡ is_target head.parity (top_power head.degree) (baby_limit head.degree (own_split head)) n
     test_own n = ap₂ (λ (t l : ℕ). is_target head.parity t l n) power_is limit_own
 
@@ -193,7 +191,7 @@ pub targets_more : {heads : List Head} {i : ℕ} {marks marks' : List Bool} → 
     → TargetsAdded (get_or heads i any_head) marks marks' → TargetsUpto heads (i + 1) marks'
 targets_more {heads} {i} {marks} {marks'} upto inside added =
     let head = get_or heads i any_head in
-    let now = take_more any_head i heads inside in
+    let now = take_more heads i any_head inside in
     record {
       size = added.size;
       marked = λ n. (
@@ -253,22 +251,30 @@ targets_to n (head ∷ heads) fit to m (inl own) =
     omega (arith, own_to head m ((needed_powers head.parity head.basis head.degree (own_split head)).least.holds m own), to.0)
 targets_to n (head ∷ heads) fit to m (inr rest) = targets_to n heads fit.1 to.1 m rest
 
-pub common_swept : {basis : Basis} {heads : List Head} {count last : ℕ} {marks swept : List Bool} → HeadsFit heads count → SameBasis basis (take count heads)
-    → TargetsUpto heads count marks → PowersTo last (take count heads) → swept ≡ sweep_from basis last marks → Common heads count swept
+-- past the last member the marks are those of all members
+pub targets_all : {heads : List Head} {i : ℕ} {marks : List Bool} → TargetsUpto heads i marks → length heads ≤ i → TargetsUpto heads (length heads) marks
+targets_all {heads} {i} {marks} upto past = record {
+  size = upto.size;
+  marked = λ n. subst (λ (l : List Head). Marked marks n ↔ TargetIn l n) (take_all i heads past ∙ sym (take-length heads)) (upto.marked n);
+}
+
+pub common_swept : {basis : Basis} {heads : List Head} {last : ℕ} {marks swept : List Bool} → HeadsFit heads → SameBasis basis heads
+    → TargetsUpto heads (length heads) marks → PowersTo last heads → swept ≡ sweep_from basis last marks → Common heads swept
 unfolding set_powers
-common_swept {basis} {heads} {count} {last} {marks} {swept} fit one targets to is =
-    let members = take count heads in
-    let below : (i : ℕ) → Marked marks i → i ≤ last = λ i marked. targets_to last members fit.each to.each i ((targets.marked i).0 marked) in
-    let holds : (n : ℕ) → Marked swept n ↔ Memᴰ n (union_of (map own_powers members)) = λ n. (
-      λ marked. (needed_common basis members one.each n).0 (needed_more (λ k. (targets.marked k).0) n
+common_swept {basis} {heads} {last} {marks} {swept} fit one targets to is =
+    let targeted : (n : ℕ) → Marked marks n ↔ TargetIn heads n =
+    λ n. subst (λ (l : List Head). Marked marks n ↔ TargetIn l n) (take-length heads) (targets.marked n) in
+    let below : (i : ℕ) → Marked marks i → i ≤ last = λ i marked. targets_to last heads fit.each to.each i ((targeted i).0 marked) in
+    let holds : (n : ℕ) → Marked swept n ↔ Memᴰ n (union_of (map own_powers heads)) = λ n. (
+      λ marked. (needed_common basis heads one.each n).0 (needed_more (λ k. (targeted k).0) n
           ((sweep_marks basis last marks below n).0 (sym (ap (λ (l : List Bool). get_or l n false) is) ∙ marked))),
-      λ member. ap (λ (l : List Bool). get_or l n false) is ∙ (sweep_marks basis last marks below n).1 (needed_more (λ k. (targets.marked k).1) n
-          ((needed_common basis members one.each n).1 member)),
+      λ member. ap (λ (l : List Bool). get_or l n false) is ∙ (sweep_marks basis last marks below n).1 (needed_more (λ k. (targeted k).1) n
+          ((needed_common basis heads one.each n).1 member)),
     ) in
     record {
       size = ap length is ∙ sweep_length basis last marks ∙ targets.size;
       powers =
-          rising_same (marked_from 0 swept) (union_of (map own_powers members)) (marked_rising 0 swept) (union_rising (map own_powers members))
+          rising_same (marked_from 0 swept) (union_of (map own_powers heads)) (marked_rising 0 swept) (union_rising (map own_powers heads))
           (λ n member. (holds n).0 ((listed_marked swept n).0 member)) (λ n member. (listed_marked swept n).1 ((holds n).1 member));
     }
 
@@ -296,14 +302,19 @@ none_behind (suc k) [] below = refl
 none_behind (suc k) (mark ∷ marks) below =
     omega (arith, none_behind k marks (λ m marked. let less = below (suc m) marked in omega arith))
 
-pub powers_counted : {heads : List Head} {count last powers : ℕ} {marks : List Bool} → HeadsFit heads count → Common heads count marks
-    → PowersTo last (take count heads) → powers ≡ count_marks (take (last + 1) marks) → PowersCounted heads count powers
+-- and all of them are among the first
+pub all_counted : {heads : List Head} {last : ℕ} {marks : List Bool} → HeadsFit heads → Common heads marks → PowersTo last heads
+    → count_marks (take (last + 1) marks) ≡ count_marks marks
 unfolding set_powers
-powers_counted {heads} {count} {last} {powers} {marks} fit common to is =
-    let below : (m : ℕ) → Marked marks m → m < last + 1 = λ m marked.
-    let most = powers_to last (take count heads) fit.each to.each m (subst (Memᴰ m) common.powers ((listed_marked marks m).1 marked)) in
-    omega arith in
-    let all = is ∙ none_behind (last + 1) marks below in
+all_counted {heads} {last} {marks} fit common to =
+    none_behind (last + 1) marks (λ m marked.
+    let most = powers_to last heads fit.each to.each m (subst (Memᴰ m) common.powers ((listed_marked marks m).1 marked)) in
+    omega arith)
+
+pub powers_counted : {heads : List Head} {last powers : ℕ} {marks : List Bool} → HeadsFit heads → Common heads marks
+    → PowersTo last heads → powers ≡ count_marks (take (last + 1) marks) → PowersCounted heads powers
+powers_counted {heads} {last} {powers} {marks} fit common to is =
+    let all = is ∙ all_counted fit common to in
     record {
       heads_fit = fit;
       powers_are = all ∙ marked_count 0 marks ∙ ap length common.powers;
@@ -320,9 +331,12 @@ pub powers_more : (heads : List Head) (i : ℕ) {n k : ℕ} → i < length heads
     → greatest_target (get_or heads i any_head).degree (own_split (get_or heads i any_head)) ≤ k
     → PowersTo k (take (i + 1) heads)
 powers_more heads i {n} {k} inside to grows own =
-    subst (PowersTo k) (sym (take_more any_head i heads inside)) (record { each = both (take i heads) to.each })
+    subst (PowersTo k) (sym (take_more heads i any_head inside)) (record { each = both (take i heads) to.each })
   where
     both : (xs : List Head) → Each (λ (head : Head). greatest_target head.degree (own_split head) ≤ n) xs
         → Each (λ (head : Head). greatest_target head.degree (own_split head) ≤ k) (xs ++ (get_or heads i any_head ∷ []))
     both [] none = (own, tt)
     both (x ∷ xs) each = (omega (arith, each.0), both xs each.1)
+
+pub powers_all : {heads : List Head} {i n : ℕ} → PowersTo n (take i heads) → length heads ≤ i → PowersTo n heads
+powers_all {heads} {i} {n} to past = subst (PowersTo n) (take_all i heads past) to

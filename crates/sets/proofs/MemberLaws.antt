@@ -1,32 +1,17 @@
--- Members in an array, one after another, and the settings of two of them.
+-- Members one after another, and the settings of two of them.
 use mathlib.Core.Path.{◌≡◌, sym, ◌∙◌, ap, ap₂}
 use mathlib.Core.Bool.{true, false, not, ◌&&◌}
-use mathlib.Core.List.{List, ◌∷◌}
+use mathlib.Core.List.{List}
 use Prim.Native.Nat.{ℕ, ◌+◌, ◌-◌, ◌≤◌, ◌<◌}
 use native.Mathlib.Decide.{dec_lt}
 use native.Mathlib.Omega.{arith}
 use borrow.Author.Tests.{eq-eqb, ne_eqb, lt-ltb, le-ltb, not-true, not-false}
 use lib.Dec.{ltb, eqb}
-use lib.ListN.{get_or, take, drop}
+use lib.ListN.{length, get_or, drop, drop_of_length-le}
 use Rattle.algebra.specs.EnumNumbers.{basis_number, parity_number}
-use Rattle.sets.specs.Members.{members_in, total, handed_count, alike, alike_to, all_alike}
+use Rattle.sets.specs.Members.{total, handed_count, alike, alike_to}
 use Rattle.sets.specs.declared.member.Member.{Member}
-use Rattle.sets.specs.declared.member.Members.{Members}
-use Rattle.sets.specs.inside.Planning.{Few}
-use Rattle.sets.proofs.Arrays.{no_member, from_place, from_end}
-
--- ---- the members from place i on
-
-abbrev pub members_from : (i : ℕ) → Members → List Member
-members_from i handed = take (handed.count - i) (drop i handed.members)
-
-pub from_start : (handed : Members) → members_in handed ≡ members_from 0 handed
-from_start handed = let whole : handed.count ≡ handed.count - 0 = omega arith in ap (λ (n : ℕ). take n handed.members) whole
-
--- that member, and those behind it
-pub members_next : {handed : Members} → Few handed → (i : ℕ) → i < handed.count
-    → members_from i handed ≡ get_or handed.members i no_member ∷ members_from (i + 1) handed
-members_next {handed} few i below = from_place no_member handed.count i handed.members below (omega (arith, few.most, few.size))
+use Rattle.sets.proofs.Arrays.{no_member, from_place}
 
 -- ---- settings
 
@@ -52,31 +37,26 @@ module _ (one other : Member) {m n : ℕ} (m_is : m ≡ basis_number one.basis) 
   alike_folded p_is q-is same folded both =
       sym (rw (same_bases same, not-false one.fold folded, not-false other.fold both) (ap₂ eqb (sym p_is) (sym q-is)))
 
-module _ {handed : Members} (few : Few handed) where
-  -- the first member and those behind it
-  pub alike_start : 1 ≤ handed.count → all_alike (members_in handed) ≡ alike_to (get_or handed.members 0 no_member) (members_from 1 handed)
-  unfolding all_alike
-  alike_start some = ap all_alike (from_start handed ∙ members_next few 0 some)
-
-  pub alike_next : (first : Member) (i : ℕ) → i < handed.count
-      → alike_to first (members_from i handed) ≡ (alike first (get_or handed.members i no_member) && alike_to first (members_from (i + 1) handed))
+module _ (members : List Member) (i : ℕ) (inside : i < length members) where
+  pub alike_next : (first : Member) → alike_to first (drop i members)
+      ≡ (alike first (get_or members i no_member) && alike_to first (drop (i + 1) members))
   unfolding alike_to
-  alike_next first i below = ap (alike_to first) (members_next few i below)
+  alike_next first = ap (alike_to first) (from_place no_member i members inside)
 
   -- ---- lengths
 
-  pub count_next : (i : ℕ) → i < handed.count
-      → handed_count (members_from i handed) ≡ (get_or handed.members i no_member).count + handed_count (members_from (i + 1) handed)
+  pub count_next : handed_count (drop i members) ≡ (get_or members i no_member).count + handed_count (drop (i + 1) members)
   unfolding total
-  count_next i below = ap handed_count (members_next few i below)
+  count_next = ap handed_count (from_place no_member i members inside)
 
-pub alike_end : (first : Member) (handed : Members) (i : ℕ) → handed.count ≤ i → alike_to first (members_from i handed) ≡ true
+-- behind the last none is left
+pub alike_end : (first : Member) (members : List Member) (i : ℕ) → length members ≤ i → alike_to first (drop i members) ≡ true
 unfolding alike_to
-alike_end first handed i past = ap (alike_to first) (from_end handed.count i (drop i handed.members) past)
+alike_end first members i past = ap (alike_to first) (drop_of_length-le members past)
 
-pub count_end : (handed : Members) (i : ℕ) → handed.count ≤ i → handed_count (members_from i handed) ≡ 0
+pub count_end : (members : List Member) (i : ℕ) → length members ≤ i → handed_count (drop i members) ≡ 0
 unfolding total
-count_end handed i past = ap handed_count (from_end handed.count i (drop i handed.members) past)
+count_end members i past = ap handed_count (drop_of_length-le members past)
 
 -- one member's are taken off on both sides
 pub less_both : (left count more : ℕ) → count ≤ left → ltb left (count + more) ≡ ltb (left - count) more

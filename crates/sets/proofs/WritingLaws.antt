@@ -6,7 +6,8 @@ use Prim.Native.Nat.{ℕ, zero, suc, ◌+◌, ◌-◌, ◌*◌, ◌≤◌, ◌<�
 use native.Mathlib.Omega.{arith}
 use lib.Dec.{eqb}
 use lib.ListN.{length, get_or, take, length-append}
-use lib.Seq.{sets}
+use lib.Seq.{sets, take_all, take-length}
+use Rattle.std.proofs.lemmas.List.{take_more}
 use Rattle.lists.specs.Tree.{Tree, tree_of, relists}
 use Rattle.lists.specs.Arrange.{leaves_of}
 use Rattle.lists.specs.Lists.{joined}
@@ -15,7 +16,7 @@ use Rattle.walk.specs.WalksHeld.{flat}
 use Rattle.walk.specs.declared.plan.Head.{Head}
 use Rattle.walk.specs.declared.plan.Step.{Step}
 use Rattle.walk.proofs.FlatSteps.{flat_length, flat_append}
-use Rattle.plan.specs.PlanSteps.{last_length, last_plain, tree_steps, list_steps}
+use Rattle.plan.specs.PlanSteps.{last_plain, tree_steps, list_steps}
 use Rattle.plan.specs.inside.Outlines.{totals_of}
 use Rattle.plan.specs.inside.Writing.{TreeFits, TreePut}
 use Rattle.plan.specs.declared.outline.Totals.{Totals}
@@ -27,13 +28,11 @@ use Rattle.sets.specs.Own.{own_split, own_tree, own_steps}
 use Rattle.sets.specs.SetPlan.{member_steps}
 use Rattle.sets.specs.inside.Heads.{HeadFits}
 use Rattle.sets.specs.inside.Writing.{OwnFits, OwnPut, steps_in, MembersFit, MembersPut}
-use Rattle.sets.proofs.Arrays.{any_head, take_more, each_at}
+use Rattle.sets.proofs.Arrays.{any_head, each_at}
 
 -- ---- one member
 
-module _ (head : Head) (fits : HeadFits head) {split : ℕ} {leading : Bool} {totals : Totals} (leading_is : leading ≡ relists head.strategy)
-    (split_is : split ≡ own_split head)
-    (totals_are : totals ≡ totals_of head.parity (tree_of leading head.degree head.degree split) (suc head.degree)) where
+module _ (head : Head) (fits : HeadFits head) {split : ℕ} {leading : Bool} (leading_is : leading ≡ relists head.strategy) (split_is : split ≡ own_split head) where
   abbrev tree : Tree
   tree = tree_of leading head.degree head.degree split
 
@@ -56,12 +55,11 @@ module _ (head : Head) (fits : HeadFits head) {split : ℕ} {leading : Bool} {to
         places = omega (arith, own_size);
       }
 
-  pub own_put : {plain : Bool} {step : ℕ} {b b' : List ℕ} {r : Place} → plain ≡ eqb totals.last 1 → TreePut plain tree 0 step b r b'
-      → OwnPut head step b r.step b'
+  pub own_put : {plain : Bool} {totals : Totals} {step : ℕ} {b b' : List ℕ} {r : Place} → totals ≡ totals_of head.parity (own_tree head) (suc head.degree)
+      → plain ≡ eqb totals.last 1 → TreePut plain tree 0 step b r b' → OwnPut head step b r.step b'
   unfolding own_steps list_steps last_plain totals_of
-  own_put {plain} {step} {b} plain_is put =
-      let rule : plain ≡ last_plain head.degree (own_tree head) =
-      plain_is ∙ ap (λ (t : Totals). eqb t.last 1) totals_are ∙ ap (λ (t : Tree). eqb (last_length t (suc head.degree)) 1) tree_is in
+  own_put {plain} {totals} {step} {b} totals_are plain_is put =
+      let rule : plain ≡ last_plain head.degree (own_tree head) = plain_is ∙ ap (λ (t : Totals). eqb t.last 1) totals_are in
       record {
         numbers = put.numbers ∙ ap₂ (λ (p : Bool) (t : Tree). sets b (4 * step) (flat (tree_steps p t 0))) rule tree_is;
         next = omega (arith, put.next_step, own_size);
@@ -79,7 +77,7 @@ module _ (heads : List Head) (i : ℕ) (inside : i < length heads) where
   member_more : member_steps (take (i + 1) heads) ≡ member_steps (take i heads) ++ own_steps (get_or heads i any_head)
   unfolding member_steps
   member_more =
-      ap (λ (l : List Head). joined (map own_steps l)) (take_more any_head i heads inside) ∙ joined_more (take i heads) (get_or heads i any_head)
+      ap (λ (l : List Head). joined (map own_steps l)) (take_more heads i any_head inside) ∙ joined_more (take i heads) (get_or heads i any_head)
 
   steps_more : steps_in heads (i + 1) ≡ steps_in heads i + length (own_steps (get_or heads i any_head))
   steps_more =
@@ -96,17 +94,15 @@ pub members_none : (heads : List Head) (step : ℕ) (b : List ℕ) → MembersPu
 unfolding member_steps joined flat
 members_none heads step b = record { numbers = refl; next = omega arith }
 
-pub own_fits : {heads : List Head} {count step i next : ℕ} {b₀ b : List ℕ} → MembersFit heads count step b₀ → MembersPut heads i step b₀ next b → i < count
+pub own_fits : {heads : List Head} {step i next : ℕ} {b₀ b : List ℕ} → MembersFit heads step b₀ → MembersPut heads i step b₀ next b → i < length heads
     → length b ≡ length b₀ → OwnFits (get_or heads i any_head) next b
-own_fits {heads} {count} {step} {i} {next} fits put below same =
-    let few = fits.heads_fit.few in
-    let size = fits.heads_fit.size in
-    let inside : i < length heads = omega arith in
-    let rest : i + 1 + (count - (i + 1)) ≡ count = omega arith in
-    let most = steps_most heads (i + 1) (count - (i + 1)) (omega arith) in
+own_fits {heads} {step} {i} {next} fits put inside same =
+    let rest : i + 1 + (length heads - (i + 1)) ≡ length heads = omega arith in
+    let most = steps_most heads (i + 1) (length heads - (i + 1)) (omega arith) in
+    let all = ap (λ (l : List Head). length (member_steps l)) (take-length heads) in
     record {
-      head_fits = each_at any_head HeadFits count i heads below inside fits.heads_fit.each;
-      places = omega (arith, fits.places, put.next, same, most, ap (steps_in heads) rest, steps_more heads i inside);
+      head_fits = each_at any_head HeadFits i heads inside fits.heads_fit.each;
+      places = omega (arith, fits.places, put.next, same, most, ap (steps_in heads) rest, all, steps_more heads i inside);
     }
 
 pub members_more : {heads : List Head} {step i next r : ℕ} {b₀ b b' : List ℕ} → i < length heads → MembersPut heads i step b₀ next b
@@ -121,3 +117,8 @@ members_more {heads} {step} {i} {next} {r} {b₀} {b} {b'} inside upto put =
           ∙ ap (sets b₀ (4 * step)) (sym (ap flat (member_more heads i inside) ∙ flat_append first (own_steps head)));
       next = omega (arith, put.next, upto.next, steps_more heads i inside);
     }
+
+pub members_all : {heads : List Head} {step i r : ℕ} {b₀ b : List ℕ} → MembersPut heads i step b₀ r b → length heads ≤ i
+    → b ≡ sets b₀ (4 * step) (flat (member_steps heads))
+members_all {heads} {step} {i} {r} {b₀} put past =
+    put.numbers ∙ ap (λ (l : List Head). sets b₀ (4 * step) (flat (member_steps l))) (take_all i heads past)

@@ -1,7 +1,9 @@
 -- The call that plans a set (docs/RULES.md, "Sets of curves" and "Refusals"): its tests in order, its answer, and what it leaves in the buffers.
-use Rattle.std.specs.Prelude.{◌≡◌, not, ◌||◌, List, [], ◌∷◌, ◌++◌, map, ℕ, ltb, eqb, ℤ, length}
+use Rattle.std.specs.Prelude.{◌≡◌, not, ◌||◌, Result, List, [], ◌∷◌, ◌++◌, map, ℕ, ltb, eqb, ℤ, length}
 use Rattle.std.proofs.lemmas.List.Edits.{sets}
 use Rattle.number.specs.Refusal.{Test, first_refusal, unless_refused}
+use Rattle.number.specs.Refused.{numbered}
+use Rattle.number.specs.declared.refusal.Refusal.{Refusal}
 use Rattle.lists.specs.Lists.{joined}
 use Rattle.walk.specs.WalksHeld.{flat}
 use Rattle.walk.specs.declared.plan.Head.{Head}
@@ -10,7 +12,6 @@ use Rattle.sets.specs.Members.{members_in, Curve, curves_in, handed_count, all_a
 use Rattle.sets.specs.SetPlan.{heads_of, set_coefficients, set_steps, set_boundaries, member_limit, set_of, coefficient_count, list_count, set_step_count}
 use Rattle.sets.specs.declared.member.Members.{Members}
 use Rattle.sets.specs.declared.set.CurveSet.{CurveSet}
-use Rattle.sets.specs.declared.set.SetPlanned.{SetPlanned}
 
 -- 35: "no member, more than 16, or lengths that pass the one slice in which the members stand"
 abbrev pub bad_set : (members handed slice : ℕ) → Test
@@ -31,6 +32,17 @@ room_tests heads = buffer_tests (coefficient_count heads) (list_count heads) (se
 -- an empty set: "its record all zero"
 abbrev pub no_set : CurveSet
 no_set = set_of []
+
+-- ---- the answer
+
+-- 0 or the number of the refusal, and the set, which is all zero after a refusal
+pub record SetPlanned : Type 0 where
+  pub refusal : ℕ
+  pub set : CurveSet
+
+-- the answer that a call's result is
+abbrev pub set_in : Result CurveSet Refusal → SetPlanned
+set_in = numbered (λ (set : CurveSet). record { refusal = 0; set = set }) (λ (refusal : ℕ). record { refusal = refusal; set = no_set })
 
 module _ (handed : Members) (c : List ℤ) where
   -- the curves, and their heads

@@ -5,8 +5,7 @@ use Rattle.number.specs.Refusal.{Test, first_refusal, unless_refused}
 use Rattle.lists.specs.Lists.{joined}
 use Rattle.walk.specs.declared.plan.Head.{Head}
 use Rattle.plan.specs.PlanCall.{settings_tests}
-use Rattle.plan.specs.PlanSizes.{no_sizes}
-use Rattle.plan.specs.declared.sizes.PlanSizes.{PlanSizes}
+use Rattle.plan.specs.PlanSizes.{no_sizes, PlanSizes}
 use Rattle.sets.specs.Members.{members_in}
 use Rattle.sets.specs.Own.{head_by}
 use Rattle.sets.specs.SetPlan.{member_limit, coefficient_count, list_count, set_step_count}

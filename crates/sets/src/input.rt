@@ -1,96 +1,70 @@
 // The members' own tests, and their heads.
-ghost use Rattle.std.specs.Prelude.{◌≡◌, map};
+ghost use Rattle.std.specs.Prelude.{◌≡◌, map, ◌≤◌, length};
 ghost use Rattle.number.specs.Refusal.{first_refusal};
+ghost use Rattle.number.specs.Refused.{refusal_of};
 ghost use Rattle.lists.specs.Lists.{joined};
 ghost use Rattle.plan.specs.PlanCall.{early_tests};
-ghost use Rattle.sets.specs.Members.{members_in};
+ghost use Rattle.sets.specs.Members.{handed_count, curves_in};
 ghost use Rattle.sets.specs.Own.{head_by};
-ghost use Rattle.sets.specs.SetCall.{own_tests, curves};
-ghost use Rattle.sets.specs.inside.Planning.{Stand, SettingsPass, HandedPass, heads_by};
+ghost use Rattle.sets.specs.SetCall.{own_tests};
+ghost use Rattle.sets.specs.inside.Planning.{SettingsPass, MembersPass, heads_by};
 
-use super::member::{MEMBERS, Member, Members};
-use number::{change_of_basis, degree_of};
+use super::member::{MEMBERS, Member};
+use number::{Refusal, change_of_basis, degree_of};
 use plan::head::{head_of, no_head};
-use plan::input::input_refusal;
+use plan::input::check_input;
 use plan::outline::planned_outline;
 use walk::Head;
 
-// The number of the first of a member's own tests that holds, or 0.
-pub fn own_refusal(member: Member, c: &[i64]) -> u8
-    ensures { result ≡ first_refusal (early_tests member.fold member.parity c.now member.a member.b) }
+// Makes a member's own tests, in their order.
+fn check_member(member: &Member, c: &[i64]) -> Result<(), Refusal>
+    ensures { refusal_of result ≡ first_refusal (early_tests member.now.fold member.now.parity c.now member.now.a member.now.b) }
 {
-    let parity = member.parity;
-    let wrong = input_refusal(member.fold, parity, c);
-    if 0 < wrong {
-        return wrong;
+    check_input(member.fold, member.parity, c)?;
+    if !(member.a < member.b) {
+        return Err(Refusal::IntervalUnordered);
     }
-    if member.a < member.b { 0 } else { 7 }
+    Ok(())
 }
 
-// The number of the first of all members' own tests that holds, in member order, or 0. The slice has so many places.
-pub fn own_refusals(handed: Members, slice: usize, c: &[i64]) -> u8
-    requires { Stand handed slice c.now }
-    ensures { result ≡ first_refusal (joined (map own_tests (curves handed c.now))) }
+// Makes all members' own tests, in member order.
+pub fn check_members(members: &[Member], c: &[i64]) -> Result<(), Refusal>
+    requires { handed_count members.now ≤ length c.now }
+    ensures { refusal_of result ≡ first_refusal (joined (map own_tests (curves_in members.now c.now))) }
 {
-    let mut at = 0;
-    let mut i = 0;
-    while i < handed.count {
-        let member = handed.members[i];
-        let end = at + member.count;
-        let wrong = own_refusal(member, &c[at..end]);
-        if 0 < wrong {
-            return wrong;
-        }
-        at = end;
-        i += 1;
+    let mut rest = c;
+    for member in members {
+        let (own, others) = rest.split_at(member.count);
+        check_member(member, own)?;
+        rest = others;
     }
-    0
+    Ok(())
 }
 
-// A member's head, its steps counted without power steps.
-pub fn member_head(member: Member) -> Head
-    requires { SettingsPass member }
-    ensures { result ≡ head_by member }
+// Returns a member's head, its steps counted without power steps.
+pub fn member_head(member: &Member) -> Head
+    requires { SettingsPass member.now }
+    ensures { result ≡ head_by member.now }
 {
-    let strategy = member.strategy;
-    let parity = member.parity;
-    let basis = member.basis;
-    let outline = planned_outline(
-        strategy,
-        parity,
-        basis,
-        member.fold,
-        degree_of(member.count),
-    );
-    let count = outline.coefficients;
-    let interval = change_of_basis(basis, member.a, member.b);
-    let head = head_of(
-        strategy,
-        parity,
-        basis,
-        member.fold,
-        interval,
-        count - 1,
-        outline,
-    );
-    let mut own = head;
-    own.steps = outline.steps - outline.powers;
-    own
+    let settings = member.settings();
+    let outline = planned_outline(settings, member.fold, degree_of(member.count));
+    let interval = change_of_basis(member.basis, member.a, member.b);
+    let degree = outline.coefficients - 1;
+    let head = head_of(settings, member.fold, interval, degree, outline);
+    Head {
+        steps: outline.steps - outline.powers,
+        ..head
+    }
 }
 
-// The heads of all members, and zero heads behind them.
-pub fn set_heads(handed: Members) -> [Head; MEMBERS]
-    requires { HandedPass handed }
-    ensures { result ≡ heads_by (members_in handed) }
+// Returns the heads of all members, and zero heads behind them.
+pub fn set_heads(members: &[Member]) -> [Head; MEMBERS]
+    requires { MembersPass members.now }
+    ensures { result ≡ heads_by members.now }
 {
-    let none = no_head();
-    let mut heads = [none; MEMBERS];
-    let mut i = 0;
-    while i < handed.count {
-        let member = handed.members[i];
-        let head = member_head(member);
-        heads[i] = head;
-        i += 1;
+    let mut heads = [no_head(); MEMBERS];
+    for (i, member) in members.iter().enumerate() {
+        heads[i] = member_head(member);
     }
     heads
 }

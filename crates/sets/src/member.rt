@@ -1,10 +1,10 @@
 // The members of a set as they are handed in.
-ghost use Rattle.std.specs.Prelude.{◌≡◌, not, ◌≤◌, ltb};
+ghost use Rattle.std.specs.Prelude.{◌≡◌, ◌≤◌, not, ltb};
 ghost use Rattle.sets.specs.Members.{alike, all_alike, members_in, handed_count};
-ghost use Rattle.sets.specs.inside.Planning.{Few};
+ghost use Rattle.sets.specs.SetPlan.{member_limit};
 
-use counts::SplitStrategy;
-use number::{Basis, Parity, basis_number, parity_number};
+use counts::{Settings, SplitStrategy};
+use number::{Basis, Parity};
 
 // The most members of a set.
 pub const MEMBERS: usize = 16;
@@ -28,58 +28,67 @@ pub struct Members {
     pub members: [Member; MEMBERS],
 }
 
-// Whether two members have the settings that a set has in common: basis, fold setting and, when folded, parity.
-pub fn member_alike(one: Member, other: Member) -> bool
-    ensures { result ≡ alike one other }
-{
-    let basis = one.basis;
-    let other_basis = other.basis;
-    if basis_number(basis) != basis_number(other_basis) {
-        return false;
+impl Member {
+    // Returns the member's settings.
+    pub fn settings(&self) -> Settings
+        ensures { result ≡ record { strategy = self.now.strategy; parity = self.now.parity; basis = self.now.basis } }
+    {
+        Settings {
+            strategy: self.strategy,
+            parity: self.parity,
+            basis: self.basis,
+        }
     }
-    if !one.fold {
-        return !other.fold;
-    }
-    if !other.fold {
-        return false;
-    }
-    let parity = one.parity;
-    let other_parity = other.parity;
-    parity_number(parity) == parity_number(other_parity)
 }
 
-// Whether all members have them in common with the first.
-pub fn members_alike(handed: Members) -> bool
-    requires { Few handed × (1 ≤ handed.count) }
-    ensures { result ≡ all_alike (members_in handed) }
+impl Members {
+    // Returns the members.
+    pub fn list(&self) -> &[Member]
+        requires { self.now.count ≤ member_limit }
+        ensures { result.now ≡ members_in self.now }
+    {
+        &self.members[..self.count]
+    }
+}
+
+// Says whether two members have the settings that a set has in common: basis, fold setting and, when folded, parity.
+#[tactic(auto, unfolding(crate::specs::Members::alike))]
+pub fn member_alike(one: &Member, other: &Member) -> bool
+    ensures { result ≡ alike one.now other.now }
 {
-    let first = handed.members[0];
-    let mut i = 1;
-    while i < handed.count {
-        let member = handed.members[i];
+    one.basis == other.basis
+        && if one.fold {
+            other.fold && one.parity == other.parity
+        } else {
+            !other.fold
+        }
+}
+
+// Says whether all members have them in common with the first.
+pub fn members_alike(members: &[Member]) -> bool
+    ensures { result ≡ all_alike members.now }
+{
+    let Some((first, others)) = members.split_first() else {
+        return true;
+    };
+    for member in others {
         if !member_alike(first, member) {
             return false;
         }
-        i += 1;
     }
     true
 }
 
-// Whether the members' coefficients are within a slice of so many places.
-pub fn lengths_fit(handed: Members, slice: usize) -> bool
-    requires { Few handed }
-    ensures { result ≡ not (ltb slice (handed_count (members_in handed))) }
+// Says whether the members' coefficients are within a slice of so many places.
+pub fn lengths_fit(members: &[Member], slice: usize) -> bool
+    ensures { result ≡ not (ltb slice (handed_count members.now)) }
 {
     let mut left = slice;
-    let mut i = 0;
-    while i < handed.count {
-        let member = handed.members[i];
-        let count = member.count;
-        if left < count {
+    for member in members {
+        if left < member.count {
             return false;
         }
-        left -= count;
-        i += 1;
+        left -= member.count;
     }
     true
 }

@@ -6,7 +6,8 @@ use crate::passing::{is_passing, say_failure};
 use std::io;
 use std::io::{Eprint, Read};
 
-// What a read brought: so many bytes; none, since the input has ended; none, since reading failed.
+// What a read brought: so many bytes; none, since the input has ended; none, since reading failed. (Not a Result: what was answered before a failed read is
+// promised too, and the reason is said where it is known.)
 #[derive(Clone, Copy)]
 pub enum BlockRead {
     Bytes(usize),

@@ -25,7 +25,8 @@ fn write_some<W: Write>(output: &mut W, text: &[u8]) -> io::Result<usize>
     }
 }
 
-// Writes all of a text, and returns whether it did. Where writing fails, `failure` and the reason are said on standard error.
+// Writes all of a text, and returns whether it did. Where writing fails, `failure` and the reason are said on standard error, so that no caller needs the
+// reason.
 pub fn write_text<W: Write>(rt: &impl Eprint, output: &mut W, text: &[u8], failure: &str) -> bool
     ensures { result ≡ true → Appends (W.contents output.old) (W.contents output.new) text.now }
 {

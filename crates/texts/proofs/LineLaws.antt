@@ -74,16 +74,16 @@ module _ (head : Head) (c : List ℤ) (bounds steps : List ℕ) where
       omega (arith, lists_length, map_length step_line (shown_steps head steps), shown_length head steps)
 
   module _ (k : ℕ) where
-    pub head_line_lem : k ≡ 0 → head_line head ≡ get_or lines k []
+    pub first_line : k ≡ 0 → head_line head ≡ get_or lines k []
     unfolding lines_of
-    head_line_lem e = rw e
+    first_line e = rw e
 
     behind : (i : ℕ) → k ≡ suc i → get_or lines k [] ≡ get_or (map list_line (lists_in c bounds) ++ map step_line (shown_steps head steps)) i []
     unfolding lines_of
     behind i e = rw e
 
-    pub list_line_lem : (i : ℕ) → k ≡ suc i → i < length bounds → list_line (part_of c bounds i) ≡ get_or lines k []
-    list_line_lem i e h =
+    pub list_line_at : (i : ℕ) → k ≡ suc i → i < length bounds → list_line (part_of c bounds i) ≡ get_or lines k []
+    list_line_at i e h =
         let there : i < length (map list_line (lists_in c bounds)) = omega (arith, lists_length) in
         let in_lists : i < length (lists_in c bounds) = omega (arith, parts_length c bounds 0 (length bounds)) in
         sym (behind i e
@@ -96,9 +96,9 @@ module _ (head : Head) (c : List ℤ) (bounds steps : List ℕ) where
         behind (length bounds + j) e
         ∙ get_d_right (map list_line (lists_in c bounds)) (map step_line (shown_steps head steps)) j (length bounds + j) [] (omega (arith, lists_length))
 
-    pub step_line_lem : (j n : ℕ) → k ≡ suc (length bounds + j) → n ≡ min (length steps / 4) head.steps → j < n
+    pub step_line_at : (j n : ℕ) → k ≡ suc (length bounds + j) → n ≡ min (length steps / 4) head.steps → j < n
         → step_line (step_at steps j) ≡ get_or lines k []
-    step_line_lem j n e count h =
+    step_line_at j n e count h =
         let d = step_at steps 0 in
         let there : j < length (shown_steps head steps) = omega (arith, shown_length head steps) in
         sym (steps_behind j e
@@ -106,8 +106,8 @@ module _ (head : Head) (c : List ℤ) (bounds steps : List ℕ) where
         ∙ ap step_line (get_or-take (length steps / 4) (lent_steps head steps) j d (omega arith)
         ∙ steps_at_lem steps d 0 head.steps j j (omega arith) (omega arith)))
 
-    pub no_line_lem : (j n : ℕ) → k ≡ suc (length bounds + j) → n ≡ min (length steps / 4) head.steps → n ≤ j → get_or lines k [] ≡ []
-    no_line_lem j n e count h =
+    pub no_line_at : (j n : ℕ) → k ≡ suc (length bounds + j) → n ≡ min (length steps / 4) head.steps → n ≤ j → get_or lines k [] ≡ []
+    no_line_at j n e count h =
         steps_behind j e
         ∙ get_or-eq_default (map step_line (shown_steps head steps)) []
         (omega (arith, map_length step_line (shown_steps head steps), shown_length head steps))

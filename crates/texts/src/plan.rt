@@ -4,25 +4,24 @@ ghost use Rattle.lists.specs.Lists.{joined};
 ghost use Rattle.texts.specs.PlanText.{lines_of, lists_in, shown_steps, plan_text};
 ghost use Rattle.texts.specs.Put.{Put};
 
-use crate::line::{least, part_between, put_line};
+use crate::line::{part_between, put_line};
 use walk::Head;
 
 // How many lines there are with a list for each boundary: one for the head, one for each list, one for each step.
 fn line_count(head: Head, bounds: &[u16], steps: &[u16]) -> usize
     ensures { result ≡ length bounds.now + min (length steps.now / 4) head.steps + 1 }
 {
-    bounds.len() + least(steps.len() / 4, head.steps) + 1
+    bounds.len() + (steps.len() / 4).min(head.steps) + 1
 }
 
 // The first n boundaries, or all.
 fn first_bounds(bounds: &[u16], n: usize) -> &[u16]
     ensures { result.now ≡ take n bounds.now }
 {
-    let end = least(n, bounds.len());
-    &bounds[..end]
+    &bounds[..n.min(bounds.len())]
 }
 
-// The lines of a plan with a list for each boundary, and the place behind them.
+// Puts the lines of a plan with a list for each boundary, and returns the place behind them.
 fn put_lines(
     out: &mut [u8],
     from: usize,
@@ -37,15 +36,13 @@ fn put_lines(
 {
     let count = line_count(head, bounds, steps);
     let mut at = from;
-    let mut k = 0;
-    while k < count {
+    for k in 0..count {
         at = put_line(out, at, head, c, bounds, steps, k);
-        k += 1;
     }
     at
 }
 
-// The text of a plan from a place of the buffer on, and the place behind it.
+// Puts the text of a plan, and returns the place behind it.
 pub fn put_plan(
     head: Head,
     coefficients: &[i64],

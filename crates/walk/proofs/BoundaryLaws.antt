@@ -3,7 +3,7 @@ use mathlib.Core.Path.{◌≡◌, refl, ◌∙◌}
 use mathlib.Core.List.{List, [], ◌∷◌}
 use mathlib.Core.Option.{some, none}
 use mathlib.Core.Bool.{Bool, true, false, ◌&&◌}
-use Prim.Native.Nat.{ℕ, zero, suc, ◌+◌, ◌-◌, ◌≤◌, ◌<◌}
+use Prim.Native.Nat.{ℕ, zero, suc, ◌+◌, ◌≤◌, ◌<◌}
 use native.Mathlib.Numerals.{add-one}
 use native.Mathlib.Omega.{arith}
 use borrow.Author.Tests.{lt-ltb, le-ltb, le-leb, lt-leb, ltb-true, leb-true}
@@ -68,11 +68,6 @@ rising from most (bound ∷ bounds) (suc (suc i)) e h = rising bound most bounds
 pub within : (most : ℕ) (bounds : List ℕ) (i : ℕ) → rises 0 most bounds ≡ true → i < length bounds → Within (start_of bounds i) (end_of bounds i) most
 within most bounds zero e h = rising 0 most bounds zero e h
 within most bounds (suc i) e h = rising 0 most bounds (suc i) e h
-
--- where a list starts that is not the first
-pub start_later : (bounds : List ℕ) (i : ℕ) → (i ≡ 0 → ⊥) → get_or bounds (i - 1) 0 ≡ start_of bounds i
-start_later bounds zero e = absurd (e refl)
-start_later bounds (suc i) e = let one : suc i - 1 ≡ i = omega arith in rw one
 
 -- list i
 module _ (c : List ℤ) (bounds : List ℕ) (i : ℕ) where

@@ -8,17 +8,20 @@ use Prim.Native.Nat.{ℕ, ◌*◌, ◌≤◌, ◌<◌}
 use native.Mathlib.Omega.{arith}
 use borrow.Author.Tests.{lt-ltb, le-ltb}
 use lib.IntN.{ℤ, pos}
+use Rattle.std.specs.Prelude.{Option as Answer, Some, None, Ok, ok_or}
+use Rattle.number.specs.declared.refusal.Refusal.TheVariants.{Unwalkable}
 use Rattle.number.specs.Limits.{scale_limit}
 use Rattle.number.specs.Refusal.{unless_refused}
 use Rattle.number.specs.Options.{image}
+use Rattle.number.proofs.Options.{same_some}
 use Rattle.walk.specs.Lent.{lent_walk}
 use Rattle.walk.specs.Values.{Value}
 use Rattle.walk.specs.Paths.{heaviest}
 use Rattle.walk.specs.MadeRules.{value_making, made_rules}
-use Rattle.walk.specs.Chain.{no_chain, answer_made, chain_refusal, chain_of}
+use Rattle.walk.specs.Chain.{no_chain, answer_made, chain_refusal, chain_of, chain_in}
+use Rattle.walk.specs.inside.Found.{found}
 use Rattle.walk.specs.inside.Weights.{capped, weight_making}
 use Rattle.walk.specs.declared.plan.Head.{Head}
-use Rattle.walk.specs.declared.chain.Chain.{Chain}
 use Rattle.walk.proofs.CarryLaw.{carry_law}
 use Rattle.walk.proofs.MadeRules.{capped_taken}
 use Rattle.walk.proofs.WeightBound.{weight_bound}
@@ -47,20 +50,20 @@ module _ (head : Head) (cs : List ℤ) (bs ss : List ℕ) (input coeff : ℕ) wh
     unfolding chain_of chain_refusal unless_refused
     one_made v e = rw (le-ltb scale_limit input g, le-ltb scale_limit coeff h, e)
 
-    -- what the walk over weights answers
-    abbrev answer_by : Option ℕ → Chain
-    answer_by (some w) = record { refusal = 0; weight = w }
-    answer_by none = no_chain 24
-
-    pub weights_answer : (weighed : Option ℕ) → weighed ≡ lent_walk (made_rules weight_making input coeff) head cs bs ss (pos 0)
-        → answer_by weighed ≡ chain_of head cs bs ss input coeff
-    weights_answer weighed e =
-        ap answer_by (e ∙ (carry_law Value ℕ (made_rules value_making input coeff) (made_rules weight_making input coeff) (λ v. capped (heaviest v))
-        (capped_taken input coeff)).walks head cs bs ss (pos 0)) ∙ by (answer_made head cs bs ss input coeff) refl
+    -- by what the program's walk over weights found
+    pub weights_answered : (o : Answer ℕ) → found o ≡ lent_walk (made_rules weight_making input coeff) head cs bs ss (pos 0)
+        → chain_in (ok_or o Unwalkable) ≡ chain_of head cs bs ss input coeff
+    weights_answered o e =
+        by o (answer_made head cs bs ss input coeff) refl
+        (e ∙ (carry_law Value ℕ (made_rules value_making input coeff) (made_rules weight_making input coeff) (λ v. capped (heaviest v))
+        (capped_taken input coeff)).walks head cs bs ss (pos 0))
       where
-        by : (made : Option Value) → answer_made head cs bs ss input coeff ≡ made
-            → answer_by (image (λ v. capped (heaviest v)) made) ≡ chain_of head cs bs ss input coeff
-        by (some v) e =
-            ap (λ (w : ℕ). answer_by (some w)) (uncapped (heaviest v) (weight_bound scale_limit input coeff g h head cs bs ss (pos 0) v e))
-            ∙ one_made v e
-        by none e = none_made e
+        by : (o : Answer ℕ) (made : Option Value) → answer_made head cs bs ss input coeff ≡ made → found o ≡ image (λ v. capped (heaviest v)) made
+            → chain_in (ok_or o Unwalkable) ≡ chain_of head cs bs ss input coeff
+        by (Some w) (some v) is e =
+            ap (λ (u : ℕ). chain_in (Ok u))
+            (same_some e ∙ uncapped (heaviest v) (weight_bound scale_limit input coeff g h head cs bs ss (pos 0) v is))
+            ∙ one_made v is
+        by (Some w) none is e = let same : ◌≡◌ {A = ℕ} 0 1 = cc in absurd (omega arith)
+        by None (some v) is e = let same : ◌≡◌ {A = ℕ} 0 1 = cc in absurd (omega arith)
+        by None none is e = none_made is

@@ -1,18 +1,23 @@
 -- The walk of a lent plan, and the call's answer: one law for each way out, by the definition at the tests that were made.
-use mathlib.Core.Path.{◌≡◌}
+use mathlib.Core.Path.{◌≡◌, sym}
 use mathlib.Core.List.{List}
 use mathlib.Core.Bool.{true, false}
 use mathlib.Core.Option.{Option, some, none}
 use Prim.Native.Nat.{ℕ, ◌/◌, ◌≤◌, ◌<◌}
+use Rattle.std.proofs.Common.{inl, inr}
+use Rattle.std.proofs.lemmas.Bool.{cases_lt}
 use borrow.Author.Tests.{le-leb, lt-leb, lt-ltb, le-ltb}
 use lib.IntN.{ℤ}
 use lib.ListN.{length}
+use Rattle.std.specs.Prelude.{Option as Answer, Some, None, ok_or}
+use Rattle.number.specs.declared.refusal.Refusal.TheVariants.{Unwalkable}
 use Rattle.number.specs.Refusal.{unless_refused}
 use Rattle.walk.specs.Limits.{modulus_limit}
 use Rattle.walk.specs.Rules.{Rules}
 use Rattle.walk.specs.Walk.{walk_of}
 use Rattle.walk.specs.Lent.{lent_steps, lent_lists, bounds_rise, lent_walk}
-use Rattle.walk.specs.Trial.{no_trial, trial_walk, trial_refusal, trial_of}
+use Rattle.walk.specs.Trial.{no_trial, trial_walk, trial_refusal, trial_of, trial_in}
+use Rattle.walk.specs.inside.Found.{found}
 use Rattle.walk.specs.inside.Modulus.{IsModulus}
 use Rattle.walk.specs.declared.plan.Head.{Head}
 
@@ -77,19 +82,33 @@ module _ {A : Type 0} (𝓡 : Rules A) (head : Head) (cs : List ℤ) (bs ss : Li
 
 -- the answer, by the modulus and the walk
 module _ (head : Head) (cs : List ℤ) (bs ss : List ℕ) (x : ℤ) (m : ℕ) where
-  pub modulus_low : m < 2 → no_trial 11 ≡ trial_of head cs bs ss x m
+  modulus_low : m < 2 → no_trial 11 ≡ trial_of head cs bs ss x m
   unfolding trial_of trial_refusal unless_refused
   modulus_low h = rw (lt-ltb m 2 h)
 
-  pub modulus_high : 2 ≤ m → modulus_limit < m → no_trial 11 ≡ trial_of head cs bs ss x m
+  modulus_high : 2 ≤ m → modulus_limit < m → no_trial 11 ≡ trial_of head cs bs ss x m
   unfolding trial_of trial_refusal unless_refused
   modulus_high g h = rw (le-ltb m 2 g, lt-ltb modulus_limit m h)
 
+  pub modulus_refused : (IsModulus m → ⊥) → no_trial 11 ≡ trial_of head cs bs ss x m
+  modulus_refused bad = elim (cases_lt m 2) [
+    | inl low ↦ modulus_low low
+    | inr from_two ↦ elim (cases_lt modulus_limit m) [
+      | inl high ↦ modulus_high from_two high
+      | inr most ↦ absurd (bad (record { low = from_two; high = most }))
+    ]
+  ]
+
   module _ (h : IsModulus m) where
-    pub no_walk : trial_walk head cs bs ss x m ≡ none → no_trial 24 ≡ trial_of head cs bs ss x m
+    no_walk : trial_walk head cs bs ss x m ≡ none → no_trial 24 ≡ trial_of head cs bs ss x m
     unfolding trial_of trial_refusal unless_refused
     no_walk e = rw (le-ltb m 2 h.low, le-ltb modulus_limit m h.high, e)
 
-    pub walk_answers : (v : ℕ) → trial_walk head cs bs ss x m ≡ some v → record { refusal = 0; remainder = v } ≡ trial_of head cs bs ss x m
+    walk_answers : (v : ℕ) → trial_walk head cs bs ss x m ≡ some v → record { refusal = 0; remainder = v } ≡ trial_of head cs bs ss x m
     unfolding trial_of trial_refusal unless_refused
     walk_answers v e = rw (le-ltb m 2 h.low, le-ltb modulus_limit m h.high, e)
+
+    -- by what the program's walk found
+    pub walk_answered : (o : Answer ℕ) → found o ≡ trial_walk head cs bs ss x m → trial_in (ok_or o Unwalkable) ≡ trial_of head cs bs ss x m
+    walk_answered (Some v) e = walk_answers v (sym e)
+    walk_answered None e = no_walk (sym e)

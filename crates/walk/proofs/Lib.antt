@@ -1,6 +1,5 @@
 mod Modular
-mod ArithmeticLaws
-mod SignedParts
+mod PlaceLaws
 pub mod PowerLaws
 pub mod SumLaws
 pub mod StackLaws

@@ -1,27 +1,22 @@
--- A run of steps: of two runs of steps one after the other, from step i of a buffer on, and from the start that the arrays hold. By recursion on the
+-- A run of steps: of two runs of steps one after the other, and from step i of a buffer on. By recursion on the
 -- steps, and by the definition at the next step.
-use mathlib.Core.Path.{◌≡◌, refl, sym, ◌∙◌, ap, fun_ext}
+use mathlib.Core.Path.{◌≡◌, refl, sym, ◌∙◌, ap}
 use mathlib.Core.List.{List, [], ◌∷◌, ◌++◌}
-use mathlib.Core.Bool.{Bool, not, true, false}
 use mathlib.Core.Option.{Option, some, none}
 use Prim.Native.Nat.{ℕ, zero, suc, ◌+◌, ◌-◌, ◌≤◌, ◌<◌}
 use native.Mathlib.Numerals.{add-one}
 use native.Mathlib.Omega.{arith}
-use borrow.Author.Tests.{not-true, not-false}
 use lib.ListN.{get_or, replicate}
 use Rattle.algebra.specs.declared.Basis.{Basis}
 use Rattle.algebra.specs.declared.Parity.{Parity}
-use Rattle.number.specs.Options.{◌then◌, when}
+use Rattle.number.specs.Options.{◌then◌}
 use Rattle.number.proofs.Options.{then_alike, then_assoc}
 use Rattle.walk.specs.Rules.{Rules}
 use Rattle.walk.specs.State.{Powers, Lists, State}
 use Rattle.walk.specs.Make.{first_powers}
 use Rattle.walk.specs.Walk.{one_left, step_of, run_of, walk_of}
 use Rattle.walk.specs.Lent.{step_at, steps_from}
-use Rattle.walk.specs.inside.Arrays.{powers_of, first_numbers, first_marks}
-use Rattle.walk.specs.inside.Taken.{state_of, Taken}
 use Rattle.walk.specs.declared.plan.Step.{Step}
-use Rattle.walk.specs.declared.waiting.Turn.{Turn}
 
 -- steps after steps
 pub run_then : {A : Type 0} (𝓡 : Rules A) (parity : Parity) (basis : Basis) (lists : Lists) (steps later : List Step) (state : State A)
@@ -32,22 +27,10 @@ run_then 𝓡 parity basis lists (step ∷ steps) later state =
     then_alike (step_of 𝓡 parity basis lists step state) (λ next. run_then 𝓡 parity basis lists steps later next)
     ∙ sym (then_assoc (step_of 𝓡 parity basis lists step state) _ _)
 
--- the arrays at the start hold powers 0 and 1
 pub get_d_replicate : {X : Type 0} (d : X) (k n : ℕ) → get_or (replicate k d) n d ≡ d
 get_d_replicate d zero n = refl
 get_d_replicate d (suc k) zero = refl
 get_d_replicate d (suc k) (suc n) = get_d_replicate d k n
-
-pub powers_first : (𝓡 : Rules ℕ) (n y : ℕ) → 2 ≤ n → powers_of (first_numbers n 𝓡.one y) (first_marks n) ≡ first_powers 𝓡 y
-unfolding powers_of first_powers
-powers_first 𝓡 zero y h = absurd (omega arith)
-powers_first 𝓡 (suc zero) y h = absurd (omega arith)
-powers_first 𝓡 (suc (suc k)) y h = fun_ext at
-  where
-    at : (m : ℕ) → powers_of (first_numbers (suc (suc k)) 𝓡.one y) (first_marks (suc (suc k))) m ≡ first_powers 𝓡 y m
-    at zero = refl
-    at (suc zero) = refl
-    at (suc (suc m)) = rw (get_d_replicate false k m)
 
 module _ (𝓡 : Rules ℕ) (parity : Parity) (basis : Basis) (lists : Lists) (steps : List ℕ) (count : ℕ) where
   -- what is left after the steps from i on
@@ -70,15 +53,15 @@ module _ (𝓡 : Rules ℕ) (parity : Parity) (basis : Basis) (lists : Lists) (s
     unfolding run_of steps_from
     left_done h = let none_left : count - i ≡ 0 = omega arith in rw none_left
 
-    -- step i as the program takes it: an answer that may be refused
-    module _ {step : Step} {powers : List ℕ} {made : List Bool} {r : Turn} (h : i < count) (at : step ≡ step_at steps i)
-        (taken : Taken (step_of 𝓡 parity basis lists step state) powers made r) where
-      stepped : left_from i state ≡ (when r.ok (some (state_of powers made r.waiting)) then λ after. left_from (i + 1) after)
+    -- step i, which is refused or leaves another state
+    module _ (h : i < count) where
+      stepped : left_from i state ≡ (step_of 𝓡 parity basis lists (step_at steps i) state then λ after. left_from (i + 1) after)
       unfolding run_of
-      stepped = rw (one_more h, taken.is, at) (then_assoc (step_of 𝓡 parity basis lists (step_at steps i) state) _ _)
+      stepped = rw (one_more h) (then_assoc (step_of 𝓡 parity basis lists (step_at steps i) state) _ _)
 
-      pub left_refused : not r.ok ≡ true → none ≡ left_from i state
-      left_refused e = sym (stepped ∙ rw (not-true r.ok e))
+      pub left_refused : none ≡ step_of 𝓡 parity basis lists (step_at steps i) state → none ≡ left_from i state
+      left_refused e = sym (stepped ∙ rw (← e))
 
-      pub left_next : not r.ok ≡ false → left_from (i + 1) (state_of powers made r.waiting) ≡ left_from i state
-      left_next e = sym (stepped ∙ rw (not-false r.ok e))
+      pub left_next : (after : State ℕ) → some after ≡ step_of 𝓡 parity basis lists (step_at steps i) state
+          → left_from (i + 1) after ≡ left_from i state
+      left_next after e = sym (stepped ∙ rw (← e))

@@ -1,32 +1,17 @@
 -- A list's sum, place by place: one law for each way out, by the definition at what was found.
 use mathlib.Core.Path.{◌≡◌, ◌∙◌}
 use mathlib.Core.List.{List}
-use mathlib.Core.Bool.{true, false}
 use mathlib.Core.Option.{some, none}
 use Prim.Native.Nat.{ℕ, ◌+◌, ◌≤◌, ◌<◌}
 use native.Mathlib.Numerals.{add-one}
 use lib.IntN.{ℤ, pos}
 use lib.ListN.{length, get_or, drop, drop_of_length-le}
 use lib.Seq.{drop-cons}
-use Rattle.algebra.specs.Allowed.{allows}
 use Rattle.algebra.specs.declared.Parity.{Parity}
 use Rattle.number.specs.Options.{◌then◌}
 use Rattle.walk.specs.Rules.{Rules}
 use Rattle.walk.specs.State.{Powers}
 use Rattle.walk.specs.Load.{add_place, sum_from}
-
-module _ (𝓡 : Rules ℕ) (parity : Parity) (powers : Powers ℕ) (j sum : ℕ) (c : ℤ) where
-  pub place_over : allows parity j ≡ false → some sum ≡ add_place 𝓡 parity powers j sum c
-  unfolding add_place
-  place_over e = rw e
-
-  pub place_missing : allows parity j ≡ true → powers j ≡ none → none ≡ add_place 𝓡 parity powers j sum c
-  unfolding add_place
-  place_missing e f = rw (e, f)
-
-  pub place_added : (p : ℕ) → allows parity j ≡ true → powers j ≡ some p → some (𝓡.place sum c j p) ≡ add_place 𝓡 parity powers j sum c
-  unfolding add_place
-  place_added p e f = rw (e, f)
 
 -- the sum from place j on
 module _ (𝓡 : Rules ℕ) (parity : Parity) (powers : Powers ℕ) (list : List ℤ) (j sum : ℕ) where

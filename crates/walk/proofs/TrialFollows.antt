@@ -21,7 +21,7 @@ use Rattle.walk.specs.Trial.{or_zero, no_trial, trial_walk, trial_refusal, trial
 use Rattle.walk.specs.CarryLaw.{TakesRules}
 use Rattle.walk.specs.TrialFollows.{TrialFollows}
 use Rattle.walk.specs.declared.plan.Head.{Head}
-use Rattle.walk.specs.declared.call.Trial.{Trial}
+use Rattle.walk.specs.Trial.{Trial}
 use Rattle.algebra.proofs.Remainders.{rem_lt}
 use Rattle.algebra.proofs.Homomorphism.{hom_double, remainder_homomorphism}
 use Rattle.number.specs.Options.{image}

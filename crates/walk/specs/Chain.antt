@@ -1,20 +1,30 @@
 -- The heaviest chain of a lent plan (docs/RULES.md, "The heaviest chain" and "Refusals"): 10, then 24, and the weight.
-use Rattle.std.specs.Prelude.{List, [], ◌∷◌, ℕ, ℤ, pos}
+use Rattle.std.specs.Prelude.{List, [], ◌∷◌, ℕ, ℤ, pos, Result}
 use Rattle.std.proofs.Math.Option.{Option}
 use Rattle.number.specs.Refusal.{Test, first_refusal, unless_refused}
+use Rattle.number.specs.Refused.{numbered}
 use Rattle.number.specs.Tests.{too_wide}
 use Rattle.number.specs.Options.{image}
+use Rattle.number.specs.declared.refusal.Refusal.{Refusal}
 use Rattle.walk.specs.Lent.{lent_walk}
 use Rattle.walk.specs.Trial.{cannot_run, or_zero}
 use Rattle.walk.specs.Values.{Value}
 use Rattle.walk.specs.Paths.{heaviest}
 use Rattle.walk.specs.MadeRules.{value_making, made_rules}
 use Rattle.walk.specs.declared.plan.Head.{Head}
-use Rattle.walk.specs.declared.chain.Chain.{Chain}
+
+-- an answer in numbers: its refusal, or 0 with the weight
+pub record Chain : Type 0 where
+  pub refusal : ℕ
+  pub weight : ℕ
 
 -- after a refusal zero
 abbrev pub no_chain : (refusal : ℕ) → Chain
 no_chain refusal = record { refusal = refusal; weight = 0 }
+
+-- what a result says of it
+abbrev pub chain_in : Result ℕ Refusal → Chain
+chain_in = numbered (λ (weight : ℕ). record { refusal = 0; weight = weight }) no_chain
 
 module _ (head : Head) (coefficients : List ℤ) (bounds steps : List ℕ) (input coeff : ℕ) where
   -- the walk's answer, by what it is made of; which point it is walked at makes no difference

@@ -1,31 +1,14 @@
 // The heaviest chain.
 ghost use Rattle.std.specs.Prelude.{◌≡◌};
-ghost use Rattle.walk.specs.Chain.{no_chain, chain_of};
+ghost use Rattle.walk.specs.Chain.{chain_in, chain_of};
 
-use crate::arithmetic::Arithmetic;
 use crate::call::walk_lent;
 use crate::plan::Head;
-use crate::powers::Found;
-use number::SCALE_LIMIT;
+use crate::weights::Weights;
+use number::{Refusal, SCALE_LIMIT};
 
-// What the call answers: 0 or the refusal, and the weight, zero after a refusal.
-#[derive(Clone, Copy)]
-pub struct Chain {
-    pub refusal: u8,
-    pub weight: u64,
-}
-
-// A refusal.
-fn no_chain(refusal: u8) -> Chain
-    ensures { result ≡ no_chain refusal }
-{
-    Chain {
-        refusal: refusal,
-        weight: 0,
-    }
-}
-
-// The heaviest chain: refusal 10 for a scale, 24 for a plan that the walk can't run. The point of the walk makes no difference.
+// Returns the weight of the heaviest chain of a lent plan. It refuses a scale above 65,535, and a plan that the walk can't run. The point of the walk
+// makes no difference.
 pub fn heaviest_chain(
     head: Head,
     coefficients: &[i64],
@@ -33,18 +16,18 @@ pub fn heaviest_chain(
     steps: &[u16],
     input: usize,
     coeff: usize,
-) -> Chain
-    ensures { result ≡ chain_of head coefficients.now bounds.now steps.now input coeff }
+) -> Result<u64, Refusal>
+    ensures { chain_in result ≡ chain_of head coefficients.now bounds.now steps.now input coeff }
 {
     if SCALE_LIMIT < input {
-        return no_chain(10);
+        return Err(Refusal::ScaleTooWide);
     }
     if SCALE_LIMIT < coeff {
-        return no_chain(10);
+        return Err(Refusal::ScaleTooWide);
     }
-    let arithmetic = Arithmetic::Weights(input as u64, coeff as u64);
-    let Found::Number(weight) = walk_lent(head, 0, arithmetic, coefficients, bounds, steps) else {
-        return no_chain(24);
+    let weights = Weights {
+        input: input as u64,
+        coeff: coeff as u64,
     };
-    Chain { refusal: 0, weight }
+    walk_lent(head, 0, weights, coefficients, bounds, steps).ok_or(Refusal::Unwalkable)
 }

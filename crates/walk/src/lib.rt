@@ -5,6 +5,7 @@ pub mod arithmetic;
 pub mod call;
 pub mod chain;
 pub mod limits;
+pub mod make;
 pub mod plan;
 pub mod powers;
 pub mod remainder;
@@ -14,6 +15,6 @@ pub mod transform;
 pub mod waiting;
 pub mod weights;
 
-pub use call::{Trial, trial_walk};
-pub use chain::{Chain, heaviest_chain};
+pub use call::trial_walk;
+pub use chain::heaviest_chain;
 pub use plan::{Head, Step};

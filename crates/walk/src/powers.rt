@@ -1,133 +1,55 @@
-// The powers that were made: 4,096 numbers, and marks of which are there.
-ghost use Rattle.std.specs.Prelude.{◌≡◌};
-ghost use Rattle.std.proofs.Math.Option.{some};
-ghost use Rattle.number.specs.Limits.{count_limit};
-ghost use Rattle.number.specs.Split.{split_of};
-ghost use Rattle.number.specs.Options.{when};
-ghost use Rattle.walk.specs.Make.{is_makeable, power_from, make_of};
-ghost use Rattle.walk.specs.inside.Arithmetic.{rules_of, Usable};
-ghost use Rattle.walk.specs.inside.Arrays.{found, powers_of, first_numbers, first_marks, FoundPower, FoundMark};
+// The powers that were made.
+ghost use Rattle.std.specs.Prelude.{◌≡◌, ◌≤◌, get_or, true, false};
+ghost use Rattle.number.specs.Limits.{plan_limit};
+ghost use Rattle.walk.specs.Make.{first_powers, with_power};
+ghost use Rattle.walk.specs.inside.Found.{found};
 
-use crate::arithmetic::{Arithmetic, one_of, product, product_less};
+use crate::arithmetic::Arithmetic;
 use crate::limits::POWERS;
-use number::{Basis, PLAN_LIMIT, Parts, split_degree};
 
-// A number, or none.
-#[derive(Clone, Copy)]
-pub enum Found {
-    Number(u64),
-    Missing,
+// Powers 0 to 4,095, with marks of those that were made. Powers 0 and 1 always were. An array of Options would be nearly twice as long, and a walk of a
+// short plan, which takes most of its time to set it up, half as slow again.
+#[derive(Drop)]
+pub struct Powers {
+    values: [u64; POWERS],
+    made: [bool; POWERS],
+    ghost zero: { get_or made 0 false ≡ true },
+    ghost one: { get_or made 1 false ≡ true },
 }
 
-// Whether power n is there.
-fn is_made(n: usize, made: &[bool; POWERS]) -> bool
-    ensures { FoundMark made.now n result }
-{
-    let all: &[bool] = made;
-    if n < all.len() { all[n] } else { false }
-}
+impl Powers {
+    ghost use Rattle.walk.specs.inside.Powers.{powers_of};
 
-// Power n.
-pub fn power_at(n: usize, powers: &[u64; POWERS], made: &[bool; POWERS]) -> Found
-    ensures { FoundPower powers.now made.now n result }
-{
-    let all: &[u64] = powers;
-    if is_made(n, made) {
-        return Found::Number(all[n]);
+    // Returns the powers at the start: power 0, and power 1, which is y.
+    pub fn first<A: Arithmetic>(y: u64, arithmetic: A) -> Powers
+        ensures { powers_of result ≡ first_powers (A.rules arithmetic) y }
+    {
+        let mut values = [0; POWERS];
+        let mut made = [false; POWERS];
+        values[0] = arithmetic.one();
+        values[1] = y;
+        made[0] = true;
+        made[1] = true;
+        Powers { values, made }
     }
-    Found::Missing
-}
 
-// Whether power n may be made of a and b: it is at most 4,095, and they are the parts of its split, which is handed in.
-fn is_makeable(n: usize, a: usize, b: usize, parts: Parts) -> bool
-    requires { parts ≡ split_of n }
-    ensures { result ≡ is_makeable n a b }
-{
-    if PLAN_LIMIT < n {
-        return false;
-    }
-    if a != parts.a {
-        return false;
-    }
-    b == parts.b
-}
-
-// X_a·X_b, or 2·T_a·T_b - T_c with c the distance.
-fn power_from(
-    basis: Basis,
-    a: usize,
-    b: usize,
-    distance: usize,
-    arithmetic: Arithmetic,
-    powers: &[u64; POWERS],
-    made: &[bool; POWERS],
-) -> Found
-    requires { Usable arithmetic }
-    ensures { found result ≡ power_from (rules_of arithmetic) basis (powers_of powers.now made.now) a b distance }
-{
-    let Found::Number(u) = power_at(a, powers, made) else {
-        return Found::Missing;
-    };
-    let Found::Number(v) = power_at(b, powers, made) else {
-        return Found::Missing;
-    };
-    match basis {
-        Basis::Monomial => Found::Number(product(arithmetic, u, v)),
-        Basis::Chebyshev => {
-            let Found::Number(w) = power_at(distance, powers, made) else {
-                return Found::Missing;
-            };
-            Found::Number(product_less(arithmetic, u, v, w))
+    // Returns power n, or `None` where it was not made.
+    pub fn get(&self, n: usize) -> Option<u64>
+        ensures { found result ≡ powers_of self.now n }
+    {
+        if n < POWERS && self.made[n] {
+            Some(self.values[n])
+        } else {
+            None
         }
     }
-}
 
-// Power n from its parts.
-pub fn make_power(
-    basis: Basis,
-    n: usize,
-    a: usize,
-    b: usize,
-    arithmetic: Arithmetic,
-    powers: &mut [u64; POWERS],
-    made: &mut [bool; POWERS],
-) -> bool
-    requires { Usable arithmetic }
-    ensures { when result (some (powers_of powers.new made.new))
-        ≡ make_of (rules_of arithmetic) basis (powers_of powers.old made.old) n a b }
-{
-    let parts = split_degree(n);
-    if !is_makeable(n, a, b, parts) {
-        return false;
+    // Puts power n beside the others.
+    pub fn insert(&mut self, n: usize, v: u64)
+        requires { n ≤ plan_limit }
+        ensures { powers_of self.new ≡ with_power n v (powers_of self.old) }
+    {
+        self.values[n] = v;
+        self.made[n] = true;
     }
-    if let Found::Number(_) = power_at(n, powers, made) {
-        return false;
-    }
-    let Found::Number(v) = power_from(basis, a, b, parts.distance, arithmetic, powers, made) else {
-        return false;
-    };
-    powers[n] = v;
-    made[n] = true;
-    true
-}
-
-// Power 0 is 1, power 1 is y.
-pub fn first_powers(y: u64, arithmetic: Arithmetic) -> [u64; POWERS]
-    requires { Usable arithmetic }
-    ensures { result ≡ first_numbers count_limit (rules_of arithmetic).one y }
-{
-    let mut powers = [0u64; POWERS];
-    powers[0] = one_of(arithmetic);
-    powers[1] = y;
-    powers
-}
-
-// Powers 0 and 1 are there.
-pub fn first_marks() -> [bool; POWERS]
-    ensures { result ≡ first_marks count_limit }
-{
-    let mut made = [false; POWERS];
-    made[0] = true;
-    made[1] = true;
-    made
 }

@@ -1,151 +1,105 @@
 // The steps of a plan, one after another.
 ghost use Rattle.std.specs.Prelude.{◌≡◌, ◌*◌, ◌≤◌, length};
+ghost use Rattle.number.specs.Options.{image};
 ghost use Rattle.walk.specs.Load.{load_of};
 ghost use Rattle.walk.specs.Combine.{combine_of};
 ghost use Rattle.walk.specs.Walk.{step_of, walk_of};
 ghost use Rattle.walk.specs.Boundaries.{list_at};
 ghost use Rattle.walk.specs.Lent.{steps_from};
-ghost use Rattle.walk.specs.inside.Arithmetic.{rules_of, Usable};
-ghost use Rattle.walk.specs.inside.Arrays.{found, powers_of};
-ghost use Rattle.walk.specs.inside.Waits.{waiting_in, FitsSixteen, Waits};
-ghost use Rattle.walk.specs.inside.Taken.{state_of, Taken, Runnable};
+ghost use Rattle.walk.specs.inside.Found.{found};
+ghost use Rattle.walk.specs.inside.Powers.{powers_of, state_of};
 
 use crate::arithmetic::Arithmetic;
-use crate::limits::POWERS;
-use crate::plan::{Step, step_at};
-use crate::powers::{Found, first_marks, first_powers, make_power, power_at};
-use crate::sums::{list_of, sum_list};
-use crate::waiting::{Turn, Waiting, join, none_waiting, one_left, push, refused};
+use crate::make::make_power;
+use crate::plan::{Instruction, Step, step_at};
+use crate::powers::Powers;
+use crate::sums::{PlanLists, sum_list};
+use crate::waiting::Waiting;
 use number::{Basis, Parity};
 
-// The value of list i pushed.
-fn load(
+// Pushes the value of list i.
+#[tactic(auto, unfolding(crate::specs::Load::load_of))]
+fn load<A: Arithmetic>(
     parity: Parity,
     i: usize,
-    arithmetic: Arithmetic,
-    w: Waiting,
-    coefficients: &[i64],
-    bounds: &[u16],
-    powers: &[u64; POWERS],
-    made: &[bool; POWERS],
-) -> Turn
-    requires { Runnable arithmetic coefficients.now bounds.now × FitsSixteen w }
-    ensures { Waits (load_of (rules_of arithmetic) parity (powers_of powers.now made.now)
-        (list_at coefficients.now bounds.now) (waiting_in w) i) result }
+    arithmetic: A,
+    waiting: Waiting,
+    lists: &PlanLists,
+    powers: &Powers,
+) -> Option<Waiting>
+    ensures { found result ≡ load_of (A.rules arithmetic) parity (powers_of powers.now)
+        (list_at lists.now.coefficients.now lists.now.bounds.now) waiting i }
 {
-    if bounds.len() <= i {
-        return refused(w);
-    }
-    let list = list_of(i, coefficients, bounds);
-    let Found::Number(v) = sum_list(parity, arithmetic, list, powers, made) else {
-        return refused(w);
-    };
-    push(w, v)
+    let list = lists.get(i)?;
+    let v = sum_list(parity, arithmetic, list, powers)?;
+    waiting.push(v)
 }
 
-// High and low combined by power p.
-fn combine(
+// Combines high and low by power p.
+#[tactic(auto, unfolding(crate::specs::Combine::combine_of))]
+fn combine<A: Arithmetic>(
     plain: bool,
     p: usize,
-    arithmetic: Arithmetic,
-    w: Waiting,
-    powers: &[u64; POWERS],
-    made: &[bool; POWERS],
-) -> Turn
-    requires { Usable arithmetic × FitsSixteen w }
-    ensures { Waits (combine_of (rules_of arithmetic) plain (powers_of powers.now made.now) (waiting_in w) p) result }
+    arithmetic: A,
+    waiting: Waiting,
+    powers: &Powers,
+) -> Option<Waiting>
+    ensures { found result ≡ combine_of (A.rules arithmetic) plain (powers_of powers.now) waiting p }
 {
-    let Found::Number(v) = power_at(p, powers, made) else {
-        return refused(w);
-    };
-    join(w, plain, v, arithmetic)
+    let v = powers.get(p)?;
+    waiting.join(plain, v, arithmetic)
 }
 
-// One step.
-fn take_step(
+// Takes one step, and returns what waits after it.
+fn take_step<A: Arithmetic>(
     parity: Parity,
     basis: Basis,
     step: Step,
-    arithmetic: Arithmetic,
-    w: Waiting,
-    coefficients: &[i64],
-    bounds: &[u16],
-    powers: &mut [u64; POWERS],
-    made: &mut [bool; POWERS],
-) -> Turn
-    requires { Runnable arithmetic coefficients.now bounds.now × FitsSixteen w }
-    ensures { Taken (step_of (rules_of arithmetic) parity basis (list_at coefficients.now bounds.now) step
-        (state_of powers.old made.old w)) powers.new made.new result }
+    arithmetic: A,
+    waiting: Waiting,
+    lists: &PlanLists,
+    powers: &mut Powers,
+) -> Option<Waiting>
+    ensures { image (λ after. state_of powers.new after) (found result)
+        ≡ step_of (A.rules arithmetic) parity basis (list_at lists.now.coefficients.now lists.now.bounds.now) step (state_of powers.old waiting) }
 {
-    let kind = step.kind;
-    if kind == 1 {
-        let ok = make_power(basis, step.x, step.y, step.z, arithmetic, powers, made);
-        return Turn { ok, waiting: w };
+    let instruction = step.decode()?;
+    match instruction {
+        Instruction::Make { n, a, b } => {
+            make_power(basis, n, a, b, arithmetic, powers)?;
+            Some(waiting)
+        }
+        Instruction::Load(i) => load(parity, i, arithmetic, waiting, lists, powers),
+        Instruction::Combine { plain, power } => combine(plain, power, arithmetic, waiting, powers),
     }
-    if step.y != 0 {
-        return refused(w);
-    }
-    if step.z != 0 {
-        return refused(w);
-    }
-    if kind == 2 {
-        return load(
-            parity,
-            step.x,
-            arithmetic,
-            w,
-            coefficients,
-            bounds,
-            powers,
-            made,
-        );
-    }
-    if kind == 3 {
-        return combine(false, step.x, arithmetic, w, powers, made);
-    }
-    if kind == 4 {
-        return combine(true, step.x, arithmetic, w, powers, made);
-    }
-    refused(w)
 }
 
-// All steps, from power 1 = y to the one value that is left.
-pub fn run_steps(
+// Takes all steps, from power 1 = y to the one value that is left.
+pub fn run_steps<A: Arithmetic>(
     parity: Parity,
     basis: Basis,
     count: usize,
     y: u64,
-    arithmetic: Arithmetic,
-    coefficients: &[i64],
-    bounds: &[u16],
+    arithmetic: A,
+    lists: &PlanLists,
     steps: &[u16],
-) -> Found
-    requires { Runnable arithmetic coefficients.now bounds.now × (4 * count ≤ length steps.now) }
-    ensures { found result ≡ walk_of (rules_of arithmetic) parity basis (list_at coefficients.now bounds.now)
-        (steps_from steps.now 0 count) y }
+) -> Option<u64>
+    requires { 4 * count ≤ length steps.now }
+    ensures { found result ≡ walk_of (A.rules arithmetic) parity basis
+        (list_at lists.now.coefficients.now lists.now.bounds.now) (steps_from steps.now 0 count) y }
 {
-    let mut powers = first_powers(y, arithmetic);
-    let mut made = first_marks();
-    let mut w = none_waiting();
-    let mut i: usize = 0;
-    while i < count {
-        let turn = take_step(
+    let mut powers = Powers::first(y, arithmetic);
+    let mut waiting = Waiting::none();
+    for i in 0..count {
+        waiting = take_step(
             parity,
             basis,
             step_at(i, steps),
             arithmetic,
-            w,
-            coefficients,
-            bounds,
+            waiting,
+            lists,
             &mut powers,
-            &mut made,
-        );
-        if !turn.ok {
-            return Found::Missing;
-        }
-        let next = turn.waiting;
-        w = next;
-        i += 1;
+        )?;
     }
-    one_left(w)
+    waiting.one_left()
 }

@@ -1,97 +1,77 @@
 // The waiting values.
 ghost use Rattle.std.specs.Prelude.{◌≡◌, []};
-ghost use Rattle.std.proofs.Math.Option.{none};
 ghost use Rattle.walk.specs.Load.{push_of};
 ghost use Rattle.walk.specs.Combine.{join_of};
 ghost use Rattle.walk.specs.Walk.{one_left};
-ghost use Rattle.walk.specs.inside.Arithmetic.{rules_of, Usable};
-ghost use Rattle.walk.specs.inside.Arrays.{found};
-ghost use Rattle.walk.specs.inside.Waits.{waiting_in, FitsSixteen, Waits};
+ghost use Rattle.walk.specs.inside.Found.{found};
 
-use crate::arithmetic::{Arithmetic, combined};
+use crate::arithmetic::Arithmetic;
 use crate::limits::WAITING;
-use crate::powers::Found;
+use std::marker::Model;
 
-// The first `count` values wait; the last of them was pushed last.
-#[derive(Clone, Copy)]
+// The first `count` values wait; the last of them was pushed last. Clauses see them as a list, the last one first.
+#[derive(Drop)]
 pub struct Waiting {
-    pub values: [u64; WAITING],
-    pub count: usize,
+    values: [u64; WAITING],
+    count: usize,
 }
 
-// What waits after a step, or a refusal.
-#[derive(Clone, Copy)]
-pub struct Turn {
-    pub ok: bool,
-    pub waiting: Waiting,
+impl Model for Waiting {
+    ghost use Rattle.std.specs.Prelude.{List, ℕ, ◌≤◌};
+    ghost use Rattle.walk.specs.Limits.{waiting_limit};
+    ghost use Rattle.walk.specs.inside.Waits.{last_first};
+
+    ghost Value = { List ℕ };
+
+    ghost view = { λ w. last_first w.values w.count };
+
+    ghost invariant = { λ w. w.count ≤ waiting_limit };
 }
 
-// Nothing waits yet.
-pub fn none_waiting() -> Waiting
-    ensures { FitsSixteen result × (waiting_in result ≡ []) }
-{
-    Waiting {
-        values: [0; WAITING],
-        count: 0,
+impl Waiting {
+    // Returns no waiting values.
+    pub fn none() -> Waiting
+        ensures { result ≡ [] }
+    {
+        Waiting {
+            values: [0; WAITING],
+            count: 0,
+        }
     }
-}
 
-// A refusal.
-pub fn refused(w: Waiting) -> Turn
-    requires { FitsSixteen w }
-    ensures { Waits none result }
-{
-    Turn {
-        ok: false,
-        waiting: w,
+    // Pushes a value, unless 16 wait.
+    pub fn push(mut self, v: u64) -> Option<Waiting>
+        ensures { found result ≡ push_of self v }
+    {
+        if WAITING <= self.count {
+            return None;
+        }
+        self.values[self.count] = v;
+        self.count += 1;
+        Some(self)
     }
-}
 
-// One more value, unless 16 wait.
-pub fn push(w: Waiting, v: u64) -> Turn
-    requires { FitsSixteen w }
-    ensures { Waits (push_of (waiting_in w) v) result }
-{
-    let at = w.count;
-    if WAITING <= at {
-        return refused(w);
+    // Takes high and low, and pushes what a power makes of them.
+    pub fn join<A: Arithmetic>(mut self, plain: bool, power: u64, arithmetic: A) -> Option<Waiting>
+        ensures { found result ≡ join_of (A.rules arithmetic) plain power self }
+    {
+        if self.count < 2 {
+            return None;
+        }
+        let high = self.values[self.count - 1];
+        let low = self.values[self.count - 2];
+        self.values[self.count - 2] = arithmetic.combine(plain, power, high, low);
+        self.count -= 1;
+        Some(self)
     }
-    let mut next = w;
-    next.values[at] = v;
-    next.count = at + 1;
-    Turn {
-        ok: true,
-        waiting: next,
-    }
-}
 
-// High and low taken, and what a power makes of them pushed.
-pub fn join(w: Waiting, plain: bool, power: u64, arithmetic: Arithmetic) -> Turn
-    requires { FitsSixteen w × Usable arithmetic }
-    ensures { Waits (join_of (rules_of arithmetic) plain power (waiting_in w)) result }
-{
-    let at = w.count;
-    if at < 2 {
-        return refused(w);
+    // Returns the value that is left, if there is just one.
+    pub fn one_left(self) -> Option<u64>
+        ensures { found result ≡ one_left self }
+    {
+        if self.count != 1 {
+            return None;
+        }
+        Some(self.values[0])
     }
-    let high = w.values[at - 1];
-    let low = w.values[at - 2];
-    let mut next = w;
-    next.values[at - 2] = combined(arithmetic, plain, power, high, low);
-    next.count = at - 1;
-    Turn {
-        ok: true,
-        waiting: next,
-    }
-}
-
-// The value that is left, if there is just one.
-pub fn one_left(w: Waiting) -> Found
-    ensures { found result ≡ one_left (waiting_in w) }
-{
-    let left = w.count;
-    if left != 1 {
-        return Found::Missing;
-    }
-    Found::Number(w.values[0])
 }

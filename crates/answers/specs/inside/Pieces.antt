@@ -1,5 +1,5 @@
 -- What the functions that take a block's bytes say to one another.
-use Rattle.std.specs.Prelude.{◌≡◌, true, cond, List, [], ◌∷◌, ◌++◌, ℕ, ◌-◌, ◌<◌, ◌≤◌, length, get_or, take, drop}
+use Rattle.std.specs.Prelude.{◌≡◌, true, cond, List, [], ◌∷◌, ◌++◌, ℕ, ◌-◌, ◌<◌, ◌≤◌, length, take, drop}
 use Rattle.lines.specs.Bytes.{line_feed}
 use Rattle.answers.specs.Answer.{answer_text}
 use Rattle.answers.specs.InputLines.{no_feed}
@@ -9,13 +9,6 @@ use Rattle.answers.specs.declared.hold.Piece.{Piece}
 -- the bytes of a block from one place up to another
 abbrev pub between : (from to : ℕ) → List ℕ → List ℕ
 between from to block = take (to - from) (drop from block)
-
--- the place of the first line feed from a place on, or the end
-pub record FeedFrom (block : List ℕ) (at r : ℕ) : Type 0 where
-  pub onward : at ≤ r
-  pub within : r ≤ length block
-  pub free : no_feed (between at r block) ≡ true
-  pub feed : r < length block → get_or block r 0 ≡ line_feed
 
 -- bytes behind those that were held, as many as the buffer has places for
 pub record Held (line : List ℕ) (held : ℕ) (bytes line' : List ℕ) (r : ℕ) : Type 0 where

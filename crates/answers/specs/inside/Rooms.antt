@@ -4,12 +4,12 @@ use Rattle.answers.specs.Limits.{coefficient_room, list_room, step_room}
 
 -- for a plan and its text from place `at` on
 pub record PlanRoom (planned : List ℤ) (bounds steps : List ℕ) (at : ℕ) : Type 0 where
-  pub planned_room : list_room ≤ length planned
-  pub boundary_room : list_room ≤ length bounds
-  pub step_room_lem : step_room ≤ length steps
+  pub planned_long : list_room ≤ length planned
+  pub bounds_long : list_room ≤ length bounds
+  pub steps_long : step_room ≤ length steps
   pub place : at < 2 ^ 62
 
 -- and for the coefficients of a line
 pub record AnswerRoom (coefficients planned : List ℤ) (bounds steps : List ℕ) (at : ℕ) : Type 0 where
-  pub coefficient_room_lem : coefficient_room ≤ length coefficients
+  pub coefficients_long : coefficient_room ≤ length coefficients
   pub plan_room : PlanRoom planned bounds steps at

@@ -1,54 +1,51 @@
 -- What the functions that read a line ask of one another.
-use Rattle.std.specs.Prelude.{◌≡◌, true, false, List, map, ℕ, ◌+◌, ◌≤◌, ℤ, length, drop}
-use Rattle.std.proofs.lemmas.List.Edits.{sets}
+use Rattle.std.specs.Prelude.{◌≡◌, true, false, cond, List, ℕ, ℤ, length, drop, Ok, Option, Some, None, MatchOption}
 use Rattle.algebra.specs.declared.Basis.TheVariants.{Monomial}
 use Rattle.algebra.specs.declared.Parity.TheVariants.{Full}
 use Rattle.counts.specs.declared.choice.SplitStrategy.TheVariants.{MinDepth}
-use Rattle.lines.specs.Limits.{line_limit}
+use Rattle.lines.specs.Letters.{Letters, bases, parities, strategies, folds, is_letter, says}
 use Rattle.lines.specs.Fields.{first}
-use Rattle.lines.specs.Whole.{value_of}
-use Rattle.lines.specs.Letters.{bases, parities, strategies, folds, says}
-use Rattle.lines.specs.Line.{only_byte, letter_at, number_fields, are_whole}
-use Rattle.lines.specs.inside.FieldsFrom.{fields_from}
-use Rattle.lines.specs.declared.read.Letter.{Letter}
+use Rattle.lines.specs.Line.{are_whole, is_line}
+use Rattle.lines.specs.ReadLine.{line_in, line_answer, line_buffer}
+use Rattle.lines.specs.inside.FieldsLeft.{letter_in}
 use Rattle.lines.specs.declared.read.Opening.{Opening}
 use Rattle.lines.specs.declared.read.Line.{Line}
 
--- where the field at a place ends, within the line
-pub record FieldEnd (line : List ℕ) (at end : ℕ) : Type 0 where
-  pub is : end ≡ at + length (first (fields_from at line))
-  pub within : end ≤ length line
+-- what a byte says, if it is one of the letters
+abbrev pub said : {X : Type 0} → (otherwise : X) → Letters X → ℕ → Option X
+said otherwise rows b = cond (is_letter rows b) (Some (says otherwise rows b)) None
 
--- the letter of the field at a place, and the place of the fields behind it
-pub record Taken (line : List ℕ) (at : ℕ) (r : Letter) : Type 0 where
-  pub byte : r.byte ≡ only_byte (first (fields_from at line))
-  pub rest : fields_from r.next line ≡ drop 1 (fields_from at line)
+-- what comes of a value, if there is one
+abbrev pub bind : {A B : Type 0} → Option A → (A → Option B) → Option B
+bind None next = None
+bind (Some a) next = next a
 
--- the letters of the first four fields, and the place of the fields behind them
-pub record Opened (line : List ℕ) (r : Opening) : Type 0 where
-  pub basis : r.basis ≡ letter_at line 0
-  pub parity : r.parity ≡ letter_at line 1
-  pub strategy : r.strategy ≡ letter_at line 2
-  pub fold : r.fold ≡ letter_at line 3
-  pub rest : fields_from r.next line ≡ number_fields line
+-- what a field's one byte says
+abbrev pub said_in : {X : Type 0} → (otherwise : X) → Letters X → List ℕ → Option X
+said_in otherwise rows field = bind (letter_in field) (said otherwise rows)
 
--- a line that is not too long, with whole numbers from a place on
-pub record Fillable (line : List ℕ) (from : ℕ) : Type 0 where
-  pub few : length line ≤ line_limit
-  pub whole : are_whole (fields_from from line) ≡ true
+-- what the first four fields say, a letter each
+abbrev pub opening_of : List (List ℕ) → Option Opening
+opening_of fs =
+    bind (said_in Monomial bases (first fs)) (λ basis.
+    bind (said_in Full parities (first (drop 1 fs))) (λ parity.
+    bind (said_in MinDepth strategies (first (drop 1 (drop 1 fs)))) (λ strategy.
+    bind (said_in false folds (first (drop 1 (drop 1 (drop 1 fs))))) (λ fold.
+    Some (record { settings = record { strategy = strategy; parity = parity; basis = basis }; fold = fold })))))
 
--- the values of fields in the buffer's first places, as many as it holds, and how many fields there are
-pub record Filled (fs : List (List ℕ)) (buffer buffer' : List ℤ) (count : ℕ) : Type 0 where
-  pub written : buffer' ≡ sets buffer 0 (map value_of fs)
-  pub counted : count ≡ length fs
+-- how many fields there are, if all are whole numbers
+abbrev pub counted : List (List ℕ) → Option ℕ
+counted fs = cond (are_whole fs) (Some (length fs)) None
 
--- what four letters and a number of coefficients say
-unfoldable pub line_by : Opening → (count : ℕ) → Line
-line_by opening count = record {
-  refusal = 0;
-  basis = says Monomial bases opening.basis;
-  parity = says Full parities opening.parity;
-  strategy = says MinDepth strategies opening.strategy;
-  fold = says false folds opening.fold;
-  count = count;
-}
+-- a line in the form, and the coefficients in the buffer; no other line is read, and the buffer is as it was
+pub record InForm (line : List ℕ) (buffer : List ℤ) (r : Line) (buffer' : List ℤ) : Type 0 where
+  pub form : is_line line ≡ true
+  pub answer : line_in (Ok r) ≡ line_answer line
+  pub coefficients : buffer' ≡ line_buffer line buffer
+
+pub record OutOfForm (line : List ℕ) (buffer buffer' : List ℤ) : Type 0 where
+  pub form : is_line line ≡ false
+  pub same : buffer' ≡ buffer
+
+abbrev pub ReadForm : (line : List ℕ) (buffer : List ℤ) → Option Line → (buffer' : List ℤ) → Type 0
+ReadForm line buffer r buffer' = MatchOption r (OutOfForm line buffer buffer') (λ l. InForm line buffer l buffer')

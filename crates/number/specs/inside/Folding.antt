@@ -2,15 +2,10 @@
 use Rattle.std.specs.Prelude.{◌≡◌, Bool, false, not, List, [], ◌∷◌, ℕ, ◌+◌, ◌*◌, ◌-◌, ◌≤◌, length, drop}
 use Rattle.algebra.specs.Operations.{Operations}
 use Rattle.algebra.specs.Fold.{every_second, folded_length, add_r}
-use Rattle.algebra.specs.Transform.{transform_of}
-use Rattle.algebra.specs.declared.Basis.{Basis}
 use Rattle.algebra.specs.declared.Parity.{Parity}
-use Rattle.algebra.specs.declared.Parity.TheVariants.{Full}
 use Rattle.number.specs.Limits.{plan_limit}
-use Rattle.number.specs.Refusal.{first_refusal, unless_refused}
+use Rattle.number.specs.Refusal.{first_refusal}
 use Rattle.number.specs.Tests.{too_high, is_full, full_parity, too_low}
-use Rattle.number.specs.FoldCall.{no_fold}
-use Rattle.number.specs.declared.fold.Folded.{Folded}
 
 -- Even or Odd, and a place for each coefficient of the fold
 pub record Foldable {A : Type 0} (parity : Parity) (c out : List A) : Type 0 where
@@ -25,8 +20,3 @@ odd_place 𝓞 c i = add_r 𝓞 i i 𝓞.zero (every_second (drop (2 * i + 1) c)
 unfoldable pub refusal_by : Parity → (n : ℕ) → (fits small short : Bool) → ℕ
 refusal_by parity n fits small short =
     first_refusal (too_high plan_limit (n - 1) ∷ full_parity parity ∷ too_low parity (n - 1) ∷ (not fits, 4) ∷ (not small, 3) ∷ (short, 21) ∷ [])
-
--- the answer, by the refusal and the number of coefficients written
-unfoldable pub answer_by : (refusal : ℕ) → Parity → Basis → (count : ℕ) → Folded
-answer_by refusal parity basis count =
-    unless_refused refusal (record { refusal = 0; transform = transform_of parity basis; parity = Full; count = count }) (no_fold refusal)

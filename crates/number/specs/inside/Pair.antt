@@ -1,5 +1,5 @@
 -- The Chebyshev cut of one coefficient and its partner, and of two neighbours, within a list.
-use Rattle.std.specs.Prelude.{List, ℕ, ◌+◌, ◌-◌, ◌≤◌, ◌^◌, ℤ, pos, nat_abs, get_or, set}
+use Rattle.std.specs.Prelude.{List, ℕ, ◌+◌, ◌-◌, get_or, set}
 use Rattle.algebra.specs.Operations.{Operations, double}
 
 module _ {A : Type 0} (𝓞 : Operations A) (d : A) where
@@ -11,7 +11,7 @@ module _ {A : Type 0} (𝓞 : Operations A) (d : A) where
   unfoldable pub cut_two : List A → ℕ → ℕ → List A
   cut_two c low high = cut_one (cut_one c low high) (low - 1) (high + 1)
 
--- both numbers of a pair are at most 2^52
-pub record PairTo52 (c : List ℤ) (low high : ℕ) : Type 0 where
-  pub at_low : nat_abs (get_or c low (pos 0)) ≤ 2 ^ 52
-  pub at_high : nat_abs (get_or c high (pos 0)) ≤ 2 ^ 52
+-- both coefficients of a pair have P
+pub record EachOfPair {A : Type 0} (P : A → Type 0) (d : A) (c : List A) (low high : ℕ) : Type 0 where
+  pub at_low : P (get_or c low d)
+  pub at_high : P (get_or c high d)

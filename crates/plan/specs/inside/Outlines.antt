@@ -1,8 +1,10 @@
 -- What the counters of a plan answer (docs/RULES.md, "Steps and the walk"): the totals of a tree's lists, and the numbers that a head and its steps go
 -- by.
-use Rattle.std.specs.Prelude.{ℕ, suc, ◌-◌, ◌*◌, ◌^◌, Bool}
+use Rattle.std.specs.Prelude.{ℕ, suc, ◌+◌, ◌-◌, ◌*◌, ◌^◌, Bool, cond, ◌&&◌, leb}
 use Rattle.algebra.specs.declared.Basis.{Basis}
 use Rattle.algebra.specs.declared.Parity.{Parity}
+use Rattle.algebra.specs.declared.PolynomialInputTransform.{PolynomialInputTransform}
+use Rattle.algebra.specs.declared.PolynomialInputTransform.TheVariants.{Identity, Square, SquareTimesInput, ChebyshevT2, ChebyshevT2TimesInput}
 use Rattle.number.specs.Bits.{bit_len}
 use Rattle.needed.specs.NeededList.{needed_count}
 use Rattle.counts.specs.Choice.{split_for}
@@ -13,6 +15,7 @@ use Rattle.lists.specs.Arrange.{leaves_of, lengths_of}
 use Rattle.plan.specs.PlanSteps.{last_length, last_plain}
 use Rattle.plan.specs.Reported.{allowed_in}
 use Rattle.plan.specs.PlanSizes.{step_count}
+use Rattle.plan.specs.declared.head.Costs.{Costs}
 use Rattle.plan.specs.declared.outline.Totals.{Totals}
 use Rattle.plan.specs.declared.outline.Outline.{Outline}
 
@@ -43,3 +46,15 @@ outline_at leading parity basis degree split = record {
 -- by a strategy
 abbrev pub outline_for : SplitStrategy → Parity → Basis → (degree : ℕ) → Outline
 outline_for strategy parity basis degree = outline_at (relists strategy) parity basis degree (split_for strategy parity basis degree)
+
+-- what lists cost: a combine takes up each list but the first, and it is of kind 4 at a plain last list
+abbrev pub costs_of : (plain : Bool) (lists pt : ℕ) → Costs
+costs_of plain lists pt = record { threes = lists - 1 - cond (plain && leb 2 lists) 1 0; plains = pt + cond (plain && leb 2 lists) 1 0 }
+
+-- the multiplications of a transform for so many curves
+abbrev pub cost_for : PolynomialInputTransform → (curves : ℕ) → ℕ
+cost_for Identity curves = 0
+cost_for Square curves = 1
+cost_for SquareTimesInput curves = 1 + curves
+cost_for ChebyshevT2 curves = 1
+cost_for ChebyshevT2TimesInput curves = 1 + curves

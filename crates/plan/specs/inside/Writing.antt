@@ -6,21 +6,32 @@ use Rattle.algebra.specs.declared.Parity.{Parity}
 use Rattle.number.specs.Limits.{plan_limit, count_limit}
 use Rattle.needed.specs.NeededList.{needed_count}
 use Rattle.needed.specs.inside.Planned.{Planned}
-use Rattle.needed.specs.inside.Marks.{two_powers}
+use Rattle.needed.specs.inside.Marks.{Marked, marked_from, count_marks, two_powers}
 use Rattle.lists.specs.Tree.{Tree, tree_of}
 use Rattle.lists.specs.Arrange.{leaves_of}
 use Rattle.lists.specs.inside.Listing.{Ranges}
 use Rattle.walk.specs.WalksHeld.{flat}
+use Rattle.walk.specs.declared.plan.Instruction.{Instruction}
+use Rattle.walk.specs.declared.plan.Instruction.TheVariants.{Make, Load, Combine}
 use Rattle.plan.specs.PlanSteps.{make_step, power_steps, last_plain, tree_steps, steps_at}
 use Rattle.plan.specs.declared.tree.Place.{Place}
 
--- step i has its four places, and a u16 holds its numbers
-pub record StepFits (i kind x y z : ℕ) (steps : List ℕ) : Type 0 where
+-- the four numbers of a step
+abbrev pub numbers_of : Instruction → List ℕ
+numbers_of (Make n a b) = 1 ∷ n ∷ a ∷ b ∷ []
+numbers_of (Load list) = 2 ∷ list ∷ 0 ∷ 0 ∷ []
+numbers_of (Combine plain power) = cond plain 4 3 ∷ power ∷ 0 ∷ 0 ∷ []
+
+-- a u16 holds them
+abbrev pub Narrow : Instruction → Type 0
+Narrow (Make n a b) = (n ≤ count_limit) × (a ≤ count_limit) × (b ≤ count_limit)
+Narrow (Load list) = list ≤ count_limit
+Narrow (Combine plain power) = power ≤ count_limit
+
+-- and step i has its four places
+pub record StepFits (i : ℕ) (instruction : Instruction) (steps : List ℕ) : Type 0 where
   pub places : 4 * i + 4 ≤ length steps
-  pub kind_limit : kind ≤ 4
-  pub x_limit : x ≤ count_limit
-  pub y_limit : y ≤ count_limit
-  pub z_limit : z ≤ count_limit
+  pub narrow : Narrow instruction
 
 -- ---- the power steps
 
@@ -38,6 +49,17 @@ mark_numbers marked n = cond marked (flat (make_step n ∷ [])) []
 pub record PowerPut (marked : Bool) (n step : ℕ) (steps : List ℕ) (r : ℕ) (steps' : List ℕ) : Type 0 where
   pub numbers : steps' ≡ sets steps (4 * step) (mark_numbers marked n)
   pub next : r ≡ step + cond marked 1 0
+
+-- marked powers have parts, and their steps have their places
+pub record MarksFit (marks : List Bool) (steps : List ℕ) : Type 0 where
+  pub size : length marks ≤ count_limit
+  pub from_two : (n : ℕ) → Marked marks n → 2 ≤ n
+  pub places : 4 * count_marks marks ≤ length steps
+
+-- the steps of the marked powers stand from the first place on, and r is their number
+pub record MarksPut (marks : List Bool) (steps : List ℕ) (r : ℕ) (steps' : List ℕ) : Type 0 where
+  pub numbers : steps' ≡ sets steps 0 (flat (map make_step (marked_from 0 marks)))
+  pub next : r ≡ count_marks marks
 
 -- all power steps stand from the first place on, and r is their number
 pub record PowersPut (parity : Parity) (basis : Basis) (degree split : ℕ) (steps : List ℕ) (r : ℕ) (steps' : List ℕ) : Type 0 where

@@ -13,10 +13,6 @@ use Rattle.lists.specs.Tree.{tree_of, relists}
 use Rattle.rebuild.specs.Rebuild.{rebuilt}
 use Rattle.rebuild.specs.RebuildCall.{or_empty}
 
--- the most numbers that are rebuilt in the small scratch buffer
-abbrev pub small_limit : ℕ
-small_limit = 256
-
 -- asked: a degree within the limits, and a split up to 12
 pub record Rebuildable (split : ℕ) (lists : List ℤ) : Type 0 where
   pub degrees : Between 1 (degree_of lists) plan_limit

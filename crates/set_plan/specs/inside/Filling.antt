@@ -1,18 +1,16 @@
 -- What the writers of members' lists ask for and leave (docs/RULES.md, "Sets of curves").
-use Rattle.std.specs.Prelude.{◌≡◌, List, map, ℕ, ◌+◌, ◌≤◌, ℤ, length, take}
+use Rattle.std.specs.Prelude.{◌≡◌, List, map, ℕ, ◌+◌, ◌≤◌, ℤ, length}
 use Rattle.std.proofs.lemmas.List.Edits.{sets}
 use Rattle.number.specs.Refusal.{first_refusal}
 use Rattle.lists.specs.Lists.{joined}
 use Rattle.walk.specs.declared.plan.Head.{Head}
 use Rattle.plan.specs.PlanCall.{Accepted}
-use Rattle.sets.specs.Members.{Curve}
+use Rattle.sets.specs.Members.{Curve, curves_in, handed_count}
 use Rattle.sets.specs.Own.{own_boundaries, member_head, member_coefficients}
 use Rattle.sets.specs.SetPlan.{heads_of, set_coefficients, set_boundaries, coefficient_count, list_count}
-use Rattle.sets.specs.SetCall.{own_tests, curves}
+use Rattle.sets.specs.SetCall.{own_tests}
 use Rattle.sets.specs.inside.Heads.{HeadsFit}
-use Rattle.sets.specs.inside.Planning.{Stand}
 use Rattle.sets.specs.declared.member.Member.{Member}
-use Rattle.sets.specs.declared.member.Members.{Members}
 
 -- a member with these coefficients
 abbrev pub curve_of : Member → List ℤ → Curve
@@ -34,15 +32,15 @@ pub record MemberPut (member : Member) (head : Head) (list : ℕ) (c out : List 
 -- ---- all members
 
 -- the members stand in the slice and are accepted, their heads are worked out, and their lists have their places
-pub record AllListsFit (handed : Members) (heads : List Head) (slice : ℕ) (c out : List ℤ) (bounds : List ℕ) : Type 0 where
-  pub stand : Stand handed slice c
-  pub accepted : first_refusal (joined (map own_tests (curves handed c))) ≡ 0
-  pub heads_fit : HeadsFit heads handed.count
-  pub heads_are : take handed.count heads ≡ heads_of (curves handed c)
-  pub room : coefficient_count (heads_of (curves handed c)) ≤ length out
-  pub boundary_room : list_count (heads_of (curves handed c)) ≤ length bounds
+pub record AllListsFit (members : List Member) (heads : List Head) (c out : List ℤ) (bounds : List ℕ) : Type 0 where
+  pub within : handed_count members ≤ length c
+  pub accepted : first_refusal (joined (map own_tests (curves_in members c))) ≡ 0
+  pub heads_fit : HeadsFit heads
+  pub heads_are : heads ≡ heads_of (curves_in members c)
+  pub room : coefficient_count heads ≤ length out
+  pub boundary_room : list_count heads ≤ length bounds
 
 -- they stand from the first places on
-pub record AllListsPut (handed : Members) (c out : List ℤ) (bounds : List ℕ) (out' : List ℤ) (bounds' : List ℕ) : Type 0 where
-  pub coefficients : out' ≡ sets out 0 (set_coefficients (curves handed c))
-  pub boundaries : bounds' ≡ sets bounds 0 (set_boundaries (heads_of (curves handed c)))
+pub record AllListsPut (members : List Member) (c out : List ℤ) (bounds : List ℕ) (out' : List ℤ) (bounds' : List ℕ) : Type 0 where
+  pub coefficients : out' ≡ sets out 0 (set_coefficients (curves_in members c))
+  pub boundaries : bounds' ≡ sets bounds 0 (set_boundaries (heads_of (curves_in members c)))

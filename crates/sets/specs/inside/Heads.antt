@@ -1,5 +1,5 @@
--- Heads in an array, as the functions of a set ask for them.
-use Rattle.std.specs.Prelude.{◌≡◌, List, ℕ, suc, ◌^◌, ◌≤◌, length, take}
+-- Members' heads, as the functions of a set ask for them.
+use Rattle.std.specs.Prelude.{◌≡◌, List, ℕ, suc, ◌^◌, ◌≤◌, length}
 use Rattle.algebra.specs.Each.{Each}
 use Rattle.algebra.specs.declared.Basis.{Basis}
 use Rattle.number.specs.Limits.{plan_limit}
@@ -18,11 +18,10 @@ pub record HeadFits (head : Head) : Type 0 where
   pub lists_are : head.lists ≡ leaves_of (own_tree head)
   pub steps_are : head.steps ≡ length (own_steps head)
 
--- so it is with the first `count` heads of an array
-pub record HeadsFit (heads : List Head) (count : ℕ) : Type 0 where
-  pub few : count ≤ member_limit
-  pub size : length heads ≡ member_limit
-  pub each : Each HeadFits (take count heads)
+-- so it is with the heads of a set's members
+pub record HeadsFit (heads : List Head) : Type 0 where
+  pub few : length heads ≤ member_limit
+  pub each : Each HeadFits heads
 
 -- all heads have this basis
 pub record SameBasis (basis : Basis) (heads : List Head) : Type 0 where

@@ -34,13 +34,13 @@ pub record TargetsUpto (heads : List Head) (i : ℕ) (marks : List Bool) : Type 
   pub size : length marks ≡ count_limit
   pub marked : (n : ℕ) → Marked marks n ↔ TargetIn (take i heads) n
 
--- the marked places are the common powers of the first `count` heads
-pub record Common (heads : List Head) (count : ℕ) (marks : List Bool) : Type 0 where
+-- the marked places are the members' common powers
+pub record Common (heads : List Head) (marks : List Bool) : Type 0 where
   pub size : length marks ≡ count_limit
-  pub powers : marked_from 0 marks ≡ set_powers (take count heads)
+  pub powers : marked_from 0 marks ≡ set_powers heads
 
 -- they are counted
-pub record PowersCounted (heads : List Head) (count powers : ℕ) : Type 0 where
-  pub heads_fit : HeadsFit heads count
-  pub powers_are : powers ≡ length (set_powers (take count heads))
+pub record PowersCounted (heads : List Head) (powers : ℕ) : Type 0 where
+  pub heads_fit : HeadsFit heads
+  pub powers_are : powers ≡ length (set_powers heads)
   pub powers_most : powers ≤ count_limit

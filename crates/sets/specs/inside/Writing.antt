@@ -1,12 +1,10 @@
 -- What the writers of a set's steps ask for and leave (docs/RULES.md, "Sets of curves").
 use Rattle.std.specs.Prelude.{◌≡◌, Bool, List, ℕ, ◌+◌, ◌*◌, ◌≤◌, length, take}
 use Rattle.std.proofs.lemmas.List.Edits.{sets}
-use Rattle.number.specs.Limits.{count_limit}
-use Rattle.needed.specs.inside.Marks.{Marked, count_marks}
 use Rattle.walk.specs.WalksHeld.{flat}
 use Rattle.walk.specs.declared.plan.Head.{Head}
 use Rattle.sets.specs.Own.{own_steps}
-use Rattle.sets.specs.SetPlan.{set_powers, member_steps, set_steps}
+use Rattle.sets.specs.SetPlan.{member_steps, set_steps}
 use Rattle.sets.specs.inside.Heads.{HeadFits, HeadsFit}
 use Rattle.sets.specs.inside.Marking.{Common}
 
@@ -20,33 +18,27 @@ pub record OwnPut (head : Head) (step : ℕ) (steps : List ℕ) (r : ℕ) (steps
   pub numbers : steps' ≡ sets steps (4 * step) (flat (own_steps head))
   pub next : r ≡ step + length (own_steps head)
 
--- those of the first `count` members
-abbrev pub steps_of : List Head → (count : ℕ) → List ℕ
-steps_of heads count = flat (member_steps (take count heads))
+-- those of the first i members
+abbrev pub steps_of : List Head → (i : ℕ) → List ℕ
+steps_of heads i = flat (member_steps (take i heads))
 
-abbrev pub steps_in : List Head → (count : ℕ) → ℕ
-steps_in heads count = length (member_steps (take count heads))
+abbrev pub steps_in : List Head → (i : ℕ) → ℕ
+steps_in heads i = length (member_steps (take i heads))
 
-pub record MembersFit (heads : List Head) (count step : ℕ) (steps : List ℕ) : Type 0 where
-  pub heads_fit : HeadsFit heads count
-  pub places : 4 * (step + steps_in heads count) ≤ length steps
+-- all members' steps have their places from step `step` on
+pub record MembersFit (heads : List Head) (step : ℕ) (steps : List ℕ) : Type 0 where
+  pub heads_fit : HeadsFit heads
+  pub places : 4 * (step + length (member_steps heads)) ≤ length steps
 
-pub record MembersPut (heads : List Head) (count step : ℕ) (steps : List ℕ) (r : ℕ) (steps' : List ℕ) : Type 0 where
-  pub numbers : steps' ≡ sets steps (4 * step) (steps_of heads count)
-  pub next : r ≡ step + steps_in heads count
+-- those of the first i members stand there, and r is the next step
+pub record MembersPut (heads : List Head) (i step : ℕ) (steps : List ℕ) (r : ℕ) (steps' : List ℕ) : Type 0 where
+  pub numbers : steps' ≡ sets steps (4 * step) (steps_of heads i)
+  pub next : r ≡ step + steps_in heads i
 
--- ---- the common power steps
+-- ---- all steps
 
--- so many powers are marked; they have parts, and their steps have their places
-pub record CommonFits (marks : List Bool) (powers : ℕ) (steps : List ℕ) : Type 0 where
-  pub size : length marks ≡ count_limit
-  pub count : powers ≡ count_marks marks
-  pub from_two : (n : ℕ) → Marked marks n → 2 ≤ n
-  pub places : 4 * count_marks marks ≤ length steps
-
--- the common powers of the first `count` members are marked and counted, and all steps of these members have their places
-pub record SetStepsFit (heads : List Head) (count : ℕ) (marks : List Bool) (powers : ℕ) (steps : List ℕ) : Type 0 where
-  pub heads_fit : HeadsFit heads count
-  pub common : Common heads count marks
-  pub powers_are : powers ≡ length (set_powers (take count heads))
-  pub places : 4 * length (set_steps (take count heads)) ≤ length steps
+-- the common powers of the members are marked, and all steps of these members have their places
+pub record SetStepsFit (heads : List Head) (marks : List Bool) (steps : List ℕ) : Type 0 where
+  pub heads_fit : HeadsFit heads
+  pub common : Common heads marks
+  pub places : 4 * length (set_steps heads) ≤ length steps

@@ -1,16 +1,16 @@
 -- `answers::answer::put_answer` meets its contract. A line without the form gets the line of refusal 12. Of any other the settings and the coefficients
 -- are planned: all of them, or, where the line has more than are kept, enough to be too many.
-use mathlib.Core.Path.{ap, ◌∙◌}
+use Rattle.std.proofs.Common.{ap, ◌∙◌, arith}
+use Rattle.number.proofs.Refused.{refused}
 use Rattle.texts.proofs.PutLaws.{put_same}
 use Rattle.answers.specs.inside.TextFor.{text_for}
 use Rattle.answers.proofs.AnswerLaws.{line_refused, line_said}
 use Rattle.answers.proofs.answer.put_answer.Goals as goal
 
-pub returns-then-refusal-gt0 : goal.returns-then-refusal-gt0
-returns-then-refusal-gt0 c =
-    put_same c.put_refusal.ensures (line_refused c.requires.coefficient_room_lem c.read_line-read.ensures c.if-refusal-gt0.true)
+pub returns-in-Err : goal.returns-in-Err
+returns-in-Err c = put_same c.put_refusal.ensures (line_refused c.requires.coefficients_long c.in-Err.ensures (refused c.in-Err.refusal))
 
-pub returns : goal.returns
-returns c =
+pub returns-in-Ok : goal.returns-in-Ok
+returns-in-Ok c =
     put_same c.put_planned.ensures
-    (ap (text_for _ _ _ _) c.part_between-c.ensures ∙ line_said c.requires.coefficient_room_lem c.read_line-read.ensures c.if-refusal-gt0.false)
+    (ap (text_for _ _ _ _) c.part_between-c.ensures ∙ line_said c.requires.coefficients_long c.in-Ok.ensures (omega arith))

@@ -9,7 +9,7 @@ pub loop-at-init : goal.loop-at-init
 loop-at-init c =
     let pre = c.requires in
     record {
-      done = so_far_start pre.from_in_bounds pre.turn_room.line_room_lem pre.turn_room.held_within;
+      done = so_far_start pre.from_in_bounds pre.turn_room.line_size pre.turn_room.held_within;
       coefficients_long = refl;
       planned_long = refl;
       bounds_long = refl;
@@ -22,7 +22,7 @@ loop-at-preserved c =
     let inv = c.loop-at.invariant in
     record {
       done =
-          so_far_more inv.done c.loop-at-test.true (omega (arith, c.if-most-text.false, c.requires.turn_room.text_room_lem)) c.take_piece-piece.ensures
+          so_far_more inv.done c.loop-at-test.true (omega (arith, c.if-most-text.false, c.requires.turn_room.text_size)) c.take_piece-piece.ensures
           c.take_piece-piece.auto.line c.put_piece-text.ensures c.held_after-kept.ensures;
       coefficients_long = c.put_piece-text.auto.coefficients ∙ inv.coefficients_long;
       planned_long = c.put_piece-text.auto.planned ∙ inv.planned_long;
@@ -33,5 +33,5 @@ loop-at-preserved c =
 
 pub returns-then-most-text : goal.returns-then-most-text
 returns-then-most-text c =
-    so_far_end c.loop-at.invariant.done c.requires.turn_room.line_room_lem (omega (arith, c.requires.turn_room.text_room_lem))
-    (λ more. omega (arith, c.if-most-text.true, c.requires.turn_room.text_room_lem))
+    so_far_end c.loop-at.invariant.done c.requires.turn_room.line_size (omega (arith, c.requires.turn_room.text_size))
+    (λ more. omega (arith, c.if-most-text.true, c.requires.turn_room.text_size))

@@ -10,6 +10,3 @@ invariant-loop-degree l = record {
   put : Put l.initial.out 0 (degrees_from 2 (l.degree - 2)) l.out l.next;
   room : l.next ≤ (l.degree - 2) * degree_room;
 }
-
-abbrev pub decreases-loop-degree : goal.decreases-loop-degree
-decreases-loop-degree l = 512 - l.degree

@@ -1,4 +1,4 @@
-use Prim.Native.Nat.{◌+◌, ◌-◌, ◌*◌, ◌≤◌}
+use Prim.Native.Nat.{◌+◌, ◌*◌, ◌≤◌}
 use Rattle.texts.specs.Put.{Put}
 use Rattle.chains.specs.Line.{line_room}
 use Rattle.chains.specs.Table.{lines_from}
@@ -10,6 +10,3 @@ invariant-loop-k l = record {
   put : Put l.initial.out l.at (lines_from l.degree 0 l.k) l.out l.next;
   room : l.next ≤ l.at + l.k * line_room;
 }
-
-abbrev pub decreases-loop-k : goal.decreases-loop-k
-decreases-loop-k l = 12 - l.k

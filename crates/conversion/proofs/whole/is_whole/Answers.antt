@@ -1,35 +1,31 @@
--- `conversion::whole::is_whole` meets its contract. The loop's invariant: the places from n on decide.
-use mathlib.Core.Path.{◌≡◌, refl, sym, ◌∙◌, ap}
-use Prim.Native.Nat.{◌%◌}
+-- `conversion::whole::is_whole` meets its contract: it makes the definition's test of each coefficient, with its place.
+use mathlib.Core.Path.{◌≡◌, refl, ap, ◌∙◌}
+use mathlib.Core.Bool.{Bool, ◌&&◌}
+use mathlib.Core.List.{List, [], ◌∷◌}
+use Prim.Native.Nat.{ℕ, ◌+◌, ◌%◌}
+use native.Mathlib.Numerals.{add-one}
 use lib.Dec.{eqb}
-use lib.IntN.{ℤ, pos, nat_abs}
-use lib.ListN.{get_or}
-use mir.Syntax.{w64}
-use mir.Val.{to_z, of_z}
-use Rattle.number.proofs.Signed.{back}
+use lib.IntN.{ℤ, nat_abs}
+use Rattle.std.proofs.Common.{rules}
+use Rattle.std.proofs.lemmas.Iterator.{YieldsList-from_slice}
+use Rattle.std.proofs.lemmas.Iterator.Consumers.{YieldsList-from_enumerate}
+use Rattle.std.proofs.lemmas.Iterator.Search.{all_from_yields_List}
+use Rattle.std.specs.List.{list_all, enumerate_from}
+use Rattle.algebra.specs.declared.Basis.{Basis}
 use Rattle.bases.specs.Rows.{denominator}
-use Rattle.conversion.proofs.WholeLoop.{test_start, test_fails, test_step, test_end}
+use Rattle.bases.specs.Convert.{whole_from}
 use Rattle.conversion.proofs.whole.is_whole.Goals as goal
 
-pub loop-n-init : goal.loop-n-init
-loop-n-init c = test_start c.args.to c.args.c.now
+abbrev test : Basis → ℕ × ℤ → Bool
+test to p = eqb (nat_abs p.1 % denominator to p.0) 0
 
-pub returns-then-not-is_multiple : goal.returns-then-not-is_multiple
-returns-then-not-is_multiple c =
-    let x = get_or c.args.c.now c.loop-n.n (pos 0) in
-    let read : to_z w64 (of_z w64 x) ≡ x = back c.is_multiple-arg-1.given refl in
-    test_fails c.args.to c.args.c.now c.loop-n.invariant c.loop-n-test.true
-    (ap (λ (z : ℤ). eqb (nat_abs z % denominator c.args.to c.loop-n.n) 0) (sym read)
-    ∙ sym c.is_multiple.ensures ∙ c.if-not-is_multiple.true)
-
-pub loop-n-preserved : goal.loop-n-preserved
-loop-n-preserved c =
-    let x = get_or c.args.c.now c.loop-n.n (pos 0) in
-    let read : to_z w64 (of_z w64 x) ≡ x = back c.is_multiple-arg-1.given refl in
-    test_step c.args.to c.args.c.now c.loop-n.invariant c.loop-n-test.true
-    (ap (λ (z : ℤ). eqb (nat_abs z % denominator c.args.to c.loop-n.n) 0) (sym read)
-    ∙ sym c.is_multiple.ensures ∙ c.if-not-is_multiple.false)
+all_whole : (to : Basis) (n : ℕ) (c : List ℤ) → list_all (test to) (enumerate_from n c) ≡ whole_from to n c
+unfolding whole_from
+all_whole to n [] = refl
+all_whole to n (z ∷ c) = ap (λ (b : Bool). test to (n, z) && b) (all_whole to (n + 1) c ∙ rw add-one)
 
 pub returns : goal.returns
 returns c =
-    test_end c.args.to c.args.c.now c.loop-n.invariant c.loop-n-test.false
+    let items = YieldsList-from_enumerate (YieldsList-from_slice c.args.c.now cc) cc in
+    let tested = all_from_yields_List (test c.args.to) _ _ c.all.result c.all.ensures.ran items (λ p b f called. search rules) in
+    tested ∙ all_whole c.args.to 0 c.args.c.now

@@ -18,7 +18,8 @@ pub returns-then-bits-budget : goal.returns-then-bits-budget
 returns-then-bits-budget c =
     let loop = c.loop-degree in
     let args = c.args in
-    sym (loop.invariant.1 ∙ itself args.strategy args.budget args.input args.coeff (omega (arith, c.bits_from_one-bits.ensures, c.if-bits-budget.true)))
+    let found = itself args.strategy args.budget args.input args.coeff (omega (arith, c.bits_from_one-bits.ensures, c.if-bits-budget.true)) in
+    (c.loop-degree-test.true, sym (loop.invariant.1 ∙ found))
 
 pub lower_degree-degree-requires : goal.lower_degree-degree-requires
 lower_degree-degree-requires c =

@@ -16,40 +16,34 @@ module _ (c : After-min_depth-likely) where
       let range = depth_range c.args.bits c.requires.1.from in
       rw c.min_depth-likely.ensures range
 
-pub estimate_op_counts-pair-requires : goal.estimate_op_counts-pair-requires
-estimate_op_counts-pair-requires c =
-    let likely = likely_range (goal.at.estimate_op_counts-pair-requires c).After-min_depth-likely in
-    record { degrees = c.requires.0; splits = record { from = likely.from; to = omega (arith, c.requires.1.to) } }
+pub invariant_of-slicing : goal.invariant_of-slicing
+invariant_of-slicing c =
+    let likely = likely_range (goal.at.invariant_of-slicing c).After-min_depth-likely in
+    record { planned = record { degrees = c.requires.0; splits = record { from = likely.from; to = omega (arith, c.requires.1.to) } } }
 
 pub loop-split-init : goal.loop-split-init
 loop-split-init c =
     let args = c.args in
-    let likely = likely_range (goal.at.loop-split-init c).After-min_depth-likely in (
-      omega arith,
-      omega arith,
-      begins (pair_at args.parity args.basis args.degree) args.bits _ likely.from likely.to c.estimate_op_counts-pair.ensures,
-    )
+    let likely = likely_range (goal.at.loop-split-init c).After-min_depth-likely in
+    begins (pair_at args.parity args.basis args.degree) args.bits _ likely.from likely.to c.estimate_op_counts.ensures
+
+pub invariant_of-better_at : goal.invariant_of-better_at
+invariant_of-better_at c =
+    let loop = c.loop-split in
+    record { planned = record { degrees = c.requires.0; splits = record { from = omega arith; to = omega (arith, c.requires.1.to) } } }
 
 pub better_at-best-requires : goal.better_at-best-requires
-better_at-best-requires c =
-    let loop = c.loop-split in (
-      record { degrees = c.requires.0; splits = record { from = loop.invariant.0; to = omega (arith, c.requires.1.to, c.loop-split-test.true) } },
-      loop.invariant.2.pair,
-    )
+better_at-best-requires c = c.loop-split.invariant.pair
 
 pub loop-split-preserved : goal.loop-split-preserved
 loop-split-preserved c =
     let loop = c.loop-split in
-    let args = c.args in (
-      omega arith,
-      omega arith,
-      goes_on (pair_at args.parity args.basis args.degree) args.bits loop.invariant.0 c.loop-split-test.true loop.invariant.2
-          c.better_at-best.ensures,
-    )
+    let args = c.args in
+    goes_on (pair_at args.parity args.basis args.degree) args.bits (omega arith) (omega arith) loop.invariant c.better_at-best.ensures
 
 pub returns : goal.returns
 returns c =
     let loop = c.loop-split in
     let args = c.args in
     let past : args.bits < loop.split = omega arith in
-    ends (pair_at args.parity args.basis args.degree) args.bits past loop.invariant.2
+    ends (pair_at args.parity args.basis args.degree) args.bits past loop.invariant

@@ -1,46 +1,33 @@
--- `lines::read::fill_values` meets its contract: what is written, with what the fields from here on write, makes up the whole. A place behind the
--- buffer's end is counted and not written.
-use mathlib.Core.Path.{◌≡◌, ap, ◌∙◌}
-use mathlib.Core.List.{List}
-use Prim.Native.Nat.{ℕ, ◌-◌, ◌≤◌}
-use native.Mathlib.Omega.{arith}
-use lib.IntN.{ℤ}
-use lib.ListN.{length, take, drop, set, length-set}
+-- `lines::read::fill_values` meets its contract: what is written, with what the fields that are left write, makes up the whole.
+use Rattle.std.proofs.Common.{◌≡◌, sym, ap, ◌∙◌, arith, rules, length, List, ℕ, inl, ℤ, set, add-one}
+use Rattle.std.specs.Iterator.Adapters.{enumerate_source, enumerate_count}
 use Rattle.number.proofs.Signed.{back}
 use Rattle.lines.specs.Whole.{value_of}
-use Rattle.lines.proofs.FieldLaws.{from_past}
-use Rattle.lines.proofs.FormLaws.{whole_here, whole_behind, filled_step, count_step}
+use Rattle.lines.specs.Line.{are_whole}
+use Rattle.lines.proofs.LineLaws.{whole_first, whole_rest}
 use Rattle.lines.proofs.read.fill_values.Goals as goal
 
-pub value_of-value-requires : goal.value_of-value-requires
-value_of-value-requires c =
-    let loop = c.loop-at in
-    let end = c.field_end-end in
-    whole_here c.args.line.now loop.at end.result (omega arith) end.ensures loop.invariant.whole
+pub loop-i-init-derived : goal.loop-i-init-derived
+loop-i-init-derived c =
+    let source : enumerate_source c.into_iter-i-iterator.result ≡ c.args.fields = search rules in
+    let count : enumerate_count c.into_iter-i-iterator.result ≡ 0 = search rules in
+    rw (source, count) ((tt, tt, inl (omega (arith, c.requires.few))), tt)
 
-pub loop-at-preserved : goal.loop-at-preserved
-loop-at-preserved c =
-    let line = c.args.line.now in
-    let loop = c.loop-at in
-    let end = c.field_end-end in
-    let value = c.value_of-value in
-    let within : loop.at ≤ length line = omega arith in
-    let put : c.put_value.new.buffer ≡ set loop.buffer loop.i (value_of (take (end.result - loop.at) (drop loop.at line))) =
-    c.put_value.ensures ∙ ap (λ (z : ℤ). set loop.buffer loop.i z) (back value.type_inv value.ensures) in
-    let counted = count_step line loop.at end.result within end.ensures in
-    record {
-      few = omega arith;
-      long = ap (λ (l : List ℤ). length l) put ∙ length-set loop.buffer loop.i _ ∙ loop.invariant.long;
-      whole = whole_behind line loop.at end.result within end.ensures loop.invariant.whole;
-      written = rw put (filled_step line loop.at end.result within end.ensures loop.buffer loop.i) ∙ loop.invariant.written;
-      counted = omega arith;
-    }
+pub value_of-requires : goal.value_of-requires
+value_of-requires c = whole_first _ _ (sym (ap are_whole c.in-Some.ensures.steps.0) ∙ c.loop-i.invariant.3)
 
-pub returns : goal.returns
-returns c =
-    let loop = c.loop-at in
-    let none = from_past loop.at c.args.line.now (omega arith) in
-    record {
-      written = rw none at loop.invariant.written;
-      counted = omega (arith, ap (λ (fs : List (List ℕ)). length fs) none);
-    }
+pub loop-i-preserved : goal.loop-i-preserved
+loop-i-preserved c =
+    let loop = c.loop-i in
+    let steps = c.in-Some.ensures.steps in
+    let shorter = ap (λ (fs : List (List ℕ)). length fs) steps.0 in
+    let put : c.store.new.buffer ≡ set loop.buffer (enumerate_count loop.i-iterator) (value_of c.in-Some.field.now) =
+    c.store.ensures
+    ∙ ap (λ (z : ℤ). set loop.buffer c.in-Some.i z) (back c.value_of.type_inv c.value_of.ensures)
+    ∙ ap (λ (n : ℕ). set loop.buffer n (value_of c.in-Some.field.now)) steps.1 in (
+      (tt, tt, inl (omega (arith, shorter, steps.2, loop.invariant.2))),
+      tt,
+      omega (arith, shorter, steps.2, loop.invariant.2),
+      whole_rest _ _ (sym (ap are_whole steps.0) ∙ loop.invariant.3),
+      rw (put, steps.2, add-one) (rw steps.0 at loop.invariant.4),
+    )

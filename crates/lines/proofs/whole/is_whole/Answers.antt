@@ -1,8 +1,8 @@
 -- `lines::whole::is_whole` meets its contract: behind the minus, if there is one, there must be a number.
-use mathlib.Core.Path.{◌∙◌}
-use Rattle.lines.proofs.WholeLaws.{whole_is}
+use Rattle.std.proofs.Common.{ap, ◌∙◌}
+use Rattle.lines.specs.Whole.{is_number, is_whole}
 use Rattle.lines.proofs.whole.is_whole.Goals as goal
 
 pub returns : goal.returns
-returns c =
-    c.is_number.ensures ∙ whole_is c.args.field.now c.is_minus.ensures c.sign_length-from.ensures
+unfolding is_whole
+returns c = c.is_number.ensures ∙ ap is_number c.unsigned.ensures

@@ -1,6 +1,4 @@
 -- `lists::count::low_lists` meets its contract: a degree from the base on has more binary digits than the split says, and at most 12.
-use mathlib.Core.Path.{ap, ◌∙◌}
-use Prim.Native.Nat.{ℕ, ◌-◌, ◌^◌}
 use native.Mathlib.Omega.{arith}
 use Rattle.number.proofs.Bits.{few_digits}
 use Rattle.needed.proofs.BaseLaws.{split_under}
@@ -14,6 +12,3 @@ overflow_sub-bit_len-2 c = omega (arith, split_under c.args.degree c.args.split 
 
 pub power_of_two-requires : goal.power_of_two-requires
 power_of_two-requires c = omega (arith, few_digits c.args.degree c.requires.1)
-
-pub returns : goal.returns
-returns c = c.power_of_two.ensures ∙ ap (λ (k : ℕ). 2 ^ (k - 1 - c.args.split)) c.bit_len.ensures

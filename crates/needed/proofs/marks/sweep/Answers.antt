@@ -10,10 +10,7 @@ use Rattle.needed.proofs.marks.sweep.Goals as goal
 use Rattle.needed.proofs.marks.sweep.Goals.{then-marks-n, else-marks-n}
 
 pub loop-n-init : goal.loop-n-init
-loop-n-init c = (omega arith, refl)
-
-pub loop-n-smaller : goal.loop-n-smaller
-loop-n-smaller c = omega arith
+loop-n-init c = refl
 
 pub loop-n-preserved : goal.loop-n-preserved
 loop-n-preserved c =
@@ -25,10 +22,10 @@ loop-n-preserved c =
       | then-marks-n w ↦ ap (sweep_from basis (n - 1)) (w.marks-is ∙ w.mark_parts.ensures ∙ sym (place_marked basis n loop.marks w.if-marks-n.true))
       | else-marks-n w ↦ ap (sweep_from basis (n - 1)) (w.marks-is ∙ sym (place_unmarked basis n loop.marks w.if-marks-n.false))
     ] in
-    (omega arith, swept ∙ sym (sweep_place basis n loop.marks c.loop-n-test.true) ∙ loop.invariant.1)
+    swept ∙ sym (sweep_place basis n loop.marks c.loop-n-test.true) ∙ loop.invariant
 
 pub returns : goal.returns
 returns c =
     let loop = c.loop-n in
     let low : loop.n ≤ 1 = omega arith in
-    sym (sweep_end c.args.basis loop.n loop.marks low) ∙ loop.invariant.1
+    sym (sweep_end c.args.basis loop.n loop.marks low) ∙ loop.invariant

@@ -1,41 +1,37 @@
--- Clenshaw's rule is worked from the last coefficient to the second, so the loop's invariant is that b1 and b2 are the rule's pair of the
--- coefficients from place i on; at i = 1 the last term is made of it. Lists of no and of one coefficient are answered ahead. The measure is i.
-use mathlib.Core.Path.{◌≡◌, sym, ap, ◌∙◌}
-use Prim.Native.Nat.{ℕ}
-use lib.ListN.{get_or, drop}
-use lib.Ieee.{nan}
+-- `number::evaluate::clenshaw` meets its contract. Its arms are the definition's cases. In the last one it folds over the coefficients from the last to
+-- the second, which gives Clenshaw's pair, and the last term is made of it.
+use mathlib.Core.Path.{◌≡◌, ◌∙◌, ap, sym}
+use Rattle.std.proofs.Common.{rules}
+use Prim.Native.Nat.{◌-◌, ◌<◌}
+use native.Mathlib.Omega.{arith}
+use lib.Ieee.{Float, nan, binary64, of_bits}
+use lib.ListN.{length, get_or, take, drop, length-drop}
+use Rattle.std.proofs.lemmas.Iterator.Consumers.{fold_from_yields_List}
+use Rattle.std.proofs.lemmas.Iterator.Adapters.{YieldsList-from_rev_slice}
+use Rattle.std.proofs.lemmas.List.{take_all}
 use Rattle.number.specs.Numbers.{float_ops}
-use Rattle.number.specs.Evaluate.{clenshaw_pair, last_term}
-use Rattle.number.proofs.Literals.{zero_is, one_is}
-use Rattle.number.proofs.EvaluateLoops.{pair_start, pair_step, clenshaw_none, clenshaw_one, clenshaw_more}
-use borrow.Author.Rules.{rules}
+use Rattle.number.specs.Evaluate.{last_term}
+use Rattle.number.proofs.Literals.{zero_is, double_is}
+use Rattle.number.proofs.EvaluateFolds.{pair_of, next_pair, pair_folds, clenshaw_none, clenshaw_one, clenshaw_more}
 use Rattle.number.proofs.evaluate.clenshaw.Goals as goal
 
-pub returns-then-n-eq0 : goal.returns-then-n-eq0
-returns-then-n-eq0 c =
-    let args = c.args in
-    zero_is ∙ sym (clenshaw_none float_ops args.x nan args.coeffs.now (search rules))
+pub returns-in-empty : goal.returns-in-empty
+returns-in-empty c = zero_is ∙ sym (clenshaw_none float_ops c.args.x c.args.coeffs.now c.in-empty.len_below)
 
-pub returns-then-n-eq1 : goal.returns-then-n-eq1
-returns-then-n-eq1 c =
-    let args = c.args in
-    sym (clenshaw_one float_ops args.x nan args.coeffs.now (search rules))
+pub returns-in-len1 : goal.returns-in-len1
+returns-in-len1 c = sym (clenshaw_one float_ops c.args.x nan c.args.coeffs.now c.in-len1.len_at_least c.in-len1.len_below)
 
-pub loop-i-init : goal.loop-i-init
-loop-i-init c =
-    let args = c.args in
-    (search rules, search rules, rw zero_is (sym (pair_start float_ops args.x args.coeffs.now)))
-
-pub loop-i-preserved : goal.loop-i-preserved
-loop-i-preserved c =
-    let args = c.args in
-    let coeffs = args.coeffs.now in
-    (search rules, search rules, rw one_is (pair_step float_ops args.x coeffs c.loop-i.i nan (search rules) (search rules) c.loop-i.invariant.2))
-
-pub returns : goal.returns
-returns c =
-    let args = c.args in
-    let coeffs = args.coeffs.now in
-    let end : c.loop-i.i ≡ 1 = search rules in
-    let pair = c.loop-i.invariant.2 ∙ ap (λ (i : ℕ). clenshaw_pair float_ops args.x (drop i coeffs)) end in
-    ap (last_term float_ops args.x (get_or coeffs 0 nan)) pair ∙ sym (clenshaw_more float_ops args.x nan coeffs (search rules))
+pub returns-in-len1-up : goal.returns-in-len1-up
+returns-in-len1-up c =
+    let x = c.args.x in
+    let coeffs = c.args.coeffs.now in
+    let twice_x = float_ops.mul (of_bits binary64 0x4000_0000_0000_0000) x in
+    let rest : c.rev.result.iter.rest.now ≡ take (length coeffs - 1) (drop 1 coeffs) = search rules in
+    let folded =
+    fold_from_yields_List _ (next_pair float_ops x twice_x) _ c.fold-b1.result c.fold-b1.ensures.ran (YieldsList-from_rev_slice _ rest)
+    (λ p k q f called. search rules) in
+    let more : 1 < length coeffs = omega arith in
+    let whole : take (length coeffs - 1) (drop 1 coeffs) ≡ drop 1 coeffs = take_all _ _ (omega (arith, length-drop 1 coeffs)) in
+    let pair : c.fold-b1.result ≡ pair_of float_ops x (drop 1 coeffs) = folded ∙ rw (double_is, zero_is, whole) (pair_folds float_ops x (drop 1 coeffs)) in
+    ap (λ (p : Float × Float). last_term float_ops x (get_or coeffs 0 nan) record { b1 = p.0; b2 = p.1 }) pair
+    ∙ sym (clenshaw_more float_ops x nan coeffs more)

@@ -1,33 +1,27 @@
--- `number::magnitude::sum_fits` meets its contract. The loop's invariant: `left` is 2^30 + 1 less the magnitudes passed, or 0 where they are more.
--- So at the end something is left exactly if all magnitudes sum to at most 2^30.
-use mathlib.Core.Path.{◌≡◌, refl, ap, sym}
+-- `number::magnitude::sum_fits` meets its contract. The fold gives 2^30 + 1 less all magnitudes, or 0 where they are more, so something is left exactly
+-- if they sum to at most 2^30.
+use mathlib.Core.Path.{◌≡◌, refl, sym, ◌∙◌}
 use mathlib.Core.Bool.{Bool, true, false}
-use Prim.Native.Nat.{ℕ, ◌+◌, ◌-◌, ◌<◌, ◌^◌}
-use native.Mathlib.Numerals.{add-one}
+use mathlib.Core.List.{List, [], ◌∷◌}
+use Prim.Native.Nat.{ℕ, ◌+◌, ◌-◌}
 use native.Mathlib.Omega.{arith}
 use borrow.Author.Tests.{ltb-true, ltb-false, le-leb, lt-leb}
 use lib.Dec.{leb, ltb}
-use lib.ListN.{take, get_or}
-use lib.Seq.{take_all}
-use lib.IntN.{pos, nat_abs}
-use lib.Signed.{mag}
-use mir.Syntax.{w64}
-use mir.Val.{to_z, of_z}
+use lib.IntN.{ℤ, nat_abs}
+use Rattle.std.proofs.Common.{rules}
+use Rattle.std.specs.List.{fold}
 use Rattle.algebra.specs.Magnitude.{sum_abs}
-use Rattle.algebra.proofs.Magnitudes.{sum_abs_take_suc}
-use Rattle.number.proofs.Signed.{back}
+use Rattle.number.specs.Limits.{sum_limit}
 use Rattle.number.proofs.magnitude.sum_fits.Goals as goal
-use Rattle.number.proofs.magnitude.sum_fits.Goals.{In-loop-i}
 
--- one coefficient more
-next : (c : In-loop-i) → let xs = c.args.c.now in let i = c.loop-i.i in let x = get_or xs i (pos 0) in
-    mag x < 2 ^ 63 → sum_abs (take (i + 1) xs) ≡ sum_abs (take i xs) + nat_abs (to_z w64 (of_z w64 x))
-next c fits =
-    let xs = c.args.c.now in
-    let i = c.loop-i.i in
-    let x = get_or xs i (pos 0) in
-    let read : to_z w64 (of_z w64 x) ≡ x = back fits refl in
-    rw (add-one, read) (sum_abs_take_suc xs i (omega arith))
+abbrev taken : ℕ → ℤ → ℕ
+taken left x = left - nat_abs x
+
+-- the magnitudes taken off, one after the other
+all_taken : (left : ℕ) (c : List ℤ) → fold taken left c ≡ left - sum_abs c
+unfolding sum_abs
+all_taken left [] = omega arith
+all_taken left (x ∷ c) = omega (arith, all_taken (left - nat_abs x) c)
 
 -- something is left of limit + 1 exactly if the sum is at most the limit
 some_left : (limit sum left : ℕ) → left ≡ limit + 1 - sum → ltb 0 left ≡ leb sum limit
@@ -37,17 +31,8 @@ some_left limit sum left e = by_test (ltb 0 left) refl
     by_test true h = sym (le-leb sum limit (omega (arith, ltb-true 0 left h, e)))
     by_test false h = sym (lt-leb sum limit (omega (arith, ltb-false 0 left h, e)))
 
-pub loop-i-init : goal.loop-i-init
-unfolding sum_abs
-loop-i-init c = omega arith
-
-pub loop-i-preserved : goal.loop-i-preserved
-loop-i-preserved c =
-    omega (arith, next (goal.at.loop-i-preserved c).In-loop-i c.magnitude_of-arg-1.given, c.magnitude_of.ensures, c.less-left.ensures)
-
 pub returns : goal.returns
 returns c =
-    let xs = c.args.c.now in
-    let l = c.loop-i in
-    let all : take l.i xs ≡ xs = take_all l.i xs (omega arith) in
-    some_left 1073741824 (sum_abs xs) l.left (omega (arith, ap sum_abs all))
+    let coefficients = c.args.c.now in
+    let folded : c.fold-left.result ≡ fold taken (sum_limit + 1) coefficients = search rules in
+    some_left sum_limit (sum_abs coefficients) c.fold-left.result (folded ∙ all_taken (sum_limit + 1) coefficients)

@@ -5,17 +5,16 @@ use Rattle.plan.proofs.outline.outline_of.Goals as goal
 
 pub total_lists-totals-requires : goal.total_lists-totals-requires
 total_lists-totals-requires c =
-    ranges_at c.args.strategy c.args.parity c.args.basis c.args.degree c.requires
+    ranges_at c.args.settings.strategy c.args.settings.parity c.args.settings.basis c.args.degree c.requires
     c.split_for_strategy-split.ensures
 
-pub count_needed-powers-requires : goal.count_needed-powers-requires
-count_needed-powers-requires c =
-    planned_at c.args.strategy c.args.parity c.args.basis c.args.degree c.requires
-    c.split_for_strategy-split.ensures
+pub invariant_of-count_needed : goal.invariant_of-count_needed
+invariant_of-count_needed c =
+    record { planned = planned_at c.args.settings.strategy c.args.settings.parity c.args.settings.basis c.args.degree c.requires c.split_for_strategy-split.ensures }
 
 pub count_steps-steps-requires : goal.count_steps-steps-requires
 count_steps-steps-requires c =
-    counts_range c.args.strategy c.args.parity c.args.basis c.args.degree c.requires c.relists.result
+    counts_range c.args.settings.strategy c.args.settings.parity c.args.settings.basis c.args.degree c.requires c.relists-leading.result
     c.split_for_strategy-split.result c.total_lists-totals.ensures c.count_needed-powers.ensures
 
 pub overflow_add-result : goal.overflow_add-result
@@ -23,6 +22,6 @@ overflow_add-result c = omega (arith, c.requires.to)
 
 pub returns : goal.returns
 returns c =
-    outline_is c.args.strategy c.args.parity c.args.basis c.args.degree c.requires
-    c.split_for_strategy-split.ensures c.relists.ensures c.total_lists-totals.ensures c.count_needed-powers.ensures
+    outline_is c.args.settings.strategy c.args.settings.parity c.args.settings.basis c.args.degree c.requires
+    c.split_for_strategy-split.ensures c.relists-leading.ensures c.total_lists-totals.ensures c.count_needed-powers.ensures
     c.last_plain-plain.ensures c.count_steps-steps.ensures

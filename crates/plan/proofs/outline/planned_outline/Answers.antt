@@ -3,7 +3,7 @@
 use mathlib.Core.Path.{◌≡◌, ap₂, ap, ◌∙◌}
 use Prim.Native.Nat.{ℕ, ◌+◌, ◌-◌}
 use native.Mathlib.Omega.{arith}
-use Rattle.algebra.specs.declared.Parity.{Parity}
+use Rattle.counts.specs.declared.settings.Settings.{Settings}
 use Rattle.number.specs.Limits.{plan_limit}
 use Rattle.number.specs.inside.Between.{Between}
 use Rattle.plan.specs.PlanSizes.{degree_to_plan}
@@ -12,20 +12,20 @@ use Rattle.plan.proofs.PlanTests.{SettingsPass, settings_pass, degree_range, deg
 use Rattle.plan.proofs.outline.planned_outline.Goals as goal
 use Rattle.plan.proofs.outline.planned_outline.Goals.{After-planned_count-count, Start}
 
-pass : (c : Start) → SettingsPass c.args.fold c.args.parity c.args.degree
-pass c = settings_pass c.args.fold c.args.parity c.args.degree c.requires
+pass : (c : Start) → SettingsPass c.args.fold c.args.settings.parity c.args.degree
+pass c = settings_pass c.args.fold c.args.settings.parity c.args.degree c.requires
 
 -- the planned degree
 degree_is : (c : After-planned_count-count) →
-    c.planned_count-count.result - 1 ≡ degree_to_plan c.args.fold c.args.parity c.args.degree
+    c.planned_count-count.result - 1 ≡ degree_to_plan c.args.fold c.args.settings.parity c.args.degree
 degree_is c =
     ap (λ (n : ℕ). n - 1) c.planned_count-count.ensures
-    ∙ degree_planned c.args.fold c.args.parity (c.args.degree + 1)
-    ∙ ap (degree_to_plan c.args.fold c.args.parity) (omega arith)
+    ∙ degree_planned c.args.fold c.args.settings.parity (c.args.degree + 1)
+    ∙ ap (degree_to_plan c.args.fold c.args.settings.parity) (omega arith)
 
 degrees : (c : After-planned_count-count) → Between 1 (c.planned_count-count.result - 1) plan_limit
 degrees c =
-    rw (degree_is c) (degree_range c.args.fold c.args.parity c.args.degree (settings_pass c.args.fold c.args.parity c.args.degree c.requires))
+    rw (degree_is c) (degree_range c.args.fold c.args.settings.parity c.args.degree (settings_pass c.args.fold c.args.settings.parity c.args.degree c.requires))
 
 pub overflow_add-degree : goal.overflow_add-degree
 overflow_add-degree c = omega (arith, (pass (goal.at.overflow_add-degree c).Start).degrees.to)
@@ -39,5 +39,5 @@ outline_of-requires c = degrees (goal.at.outline_of-requires c).After-planned_co
 pub returns : goal.returns
 returns c =
     c.outline_of.ensures
-    ∙ ap₂ (λ (p : Parity) (d : ℕ). outline_for c.args.strategy p c.args.basis d) c.planned_parity-planned.ensures
+    ∙ ap₂ (λ (s : Settings) (d : ℕ). outline_for s.strategy s.parity s.basis d) c.planned_settings.ensures
     (degree_is (goal.at.returns c).After-planned_count-count)

@@ -1,5 +1,4 @@
 use mathlib.Core.Path.{◌≡◌}
-use Prim.Native.Nat.{◌-◌}
 use lib.ListN.{length}
 use Rattle.plan.proofs.TwoPowerSteps.{Left}
 use Rattle.plan.proofs.powers.write_two_powers.Given as goal
@@ -10,6 +9,3 @@ invariant-loop-k l = record {
       ≡ length l.initial.steps;
   left : Left l.split l.digits l.step l.initial.steps l.k l.next l.steps;
 }
-
-abbrev pub decreases-loop-k : goal.decreases-loop-k
-decreases-loop-k l = l.digits - l.k

@@ -99,13 +99,13 @@ write_tree-put_step-requires t c =
     tree.combine_fits c.requires (from_base (goal.at.write_tree-put_step-requires t c).Else-degree-base) c.top_power-p.ensures c.write_tree-low.ensures
     c.write_tree-low.auto.steps c.write_tree-high.ensures
     c.write_tree-high.auto.steps
-    c.combine_kind-kind.ensures
+    c.combine_of-combine.ensures
 
 pub write_tree-overflow_add-result : goal.write_tree-overflow_add-result
 write_tree-overflow_add-result t c =
     let fits = tree.combine_fits c.requires (from_base (goal.at.write_tree-overflow_add-result t c).Else-degree-base)
     c.top_power-p.ensures c.write_tree-low.ensures c.write_tree-low.auto.steps c.write_tree-high.ensures
-    c.write_tree-high.auto.steps c.combine_kind-kind.ensures in
+    c.write_tree-high.auto.steps c.combine_of-combine.ensures in
     let places = fits.places in
     let low_length = c.write_tree-low.auto.steps in
     let high_length = c.write_tree-high.auto.steps in
@@ -116,4 +116,4 @@ write_tree-returns t c =
     tree.put_both c.requires (from_base (goal.at.write_tree-returns t c).Else-degree-base) c.top_power-p.ensures c.write_tree-low.ensures
     c.write_tree-low.auto.steps c.write_tree-high.ensures
     c.write_tree-high.auto.steps
-    c.combine_kind-kind.ensures c.put_step.ensures
+    c.combine_of-combine.ensures c.put_step.ensures

@@ -1,15 +1,19 @@
 -- `plan::write::place_coeffs` meets its contract: with folding the fold is written, without it the coefficients are copied.
 use mathlib.Core.Path.{sym, ap, ◌∙◌}
 use mathlib.Core.Bool.{Bool}
+use borrow.Author.Tests.{le-leb}
 use lib.Seq.{sets}
+use Rattle.algebra.specs.Magnitude.{sum_abs}
+use Rattle.number.specs.Limits.{sum_limit}
+use mathlib.Core.List.{List, ◌++◌}
+use lib.IntN.{ℤ}
+use lib.ListN.{length, drop}
+use Rattle.lists.proofs.ListCall.{front}
 use Rattle.plan.specs.PlanCall.{planned_coefficients}
 use Rattle.plan.proofs.write.place_coeffs.Goals as goal
 
 pub fold_into-requires : goal.fold_into-requires
-fold_into-requires c = (c.requires.foldable c.if-fold.true, c.requires.sum_limit_lem)
-
-pub copy_coeffs-requires : goal.copy_coeffs-requires
-copy_coeffs-requires c = c.requires.copy_room c.if-fold.false
+fold_into-requires c = (c.requires.foldable c.if-fold.true, le-leb (sum_abs c.args.c.now) sum_limit c.requires.sum_limit_lem)
 
 pub returns-then-fold : goal.returns-then-fold
 returns-then-fold c =
@@ -19,6 +23,7 @@ returns-then-fold c =
 
 pub returns-else-fold : goal.returns-else-fold
 returns-else-fold c =
-    c.copy_coeffs.ensures
+    ap (λ (l : List ℤ). l ++ drop (length c.args.c.now) c.args.out.now) c.copy_from_slice.ensures.after
+    ∙ sym (front c.args.c.now c.args.out.now (c.requires.copy_room c.if-fold.false))
     ∙ ap (λ (t : Bool). sets c.args.out.now 0 (planned_coefficients t c.args.parity c.args.basis c.args.c.now))
     (sym c.if-fold.false)

@@ -12,7 +12,7 @@ loop-written-init g c =
     let a = c.args in
     record {
       within = omega arith;
-      line_held = held_start a.block.now a.line.now a.held c.requires.line_room_lem;
+      line_held = held_start a.block.now a.line.now a.held c.requires.line_size;
       told = λ _. part_none _ (take a.held a.line.now) a.block.now;
       kept_within = c.requires.held_within;
       line_long = refl;

@@ -32,13 +32,13 @@ loop-preserved g c =
     let written = not-false _ c.if-not-answered.false in
     record {
       room = record {
-        line_room_lem = kept.line ∙ room.line_room_lem;
+        line_size = kept.line ∙ room.line_size;
         held_within = omega (arith, answered.ensures.held.within, kept.line);
-        coefficient_room_lem = omega (arith, kept.coefficients, room.coefficient_room_lem);
-        planned_room = omega (arith, kept.planned, room.planned_room);
-        boundary_room = omega (arith, kept.bounds, room.boundary_room);
-        step_room_lem = omega (arith, kept.steps, room.step_room_lem);
-        text_room_lem = kept.out ∙ room.text_room_lem;
+        coefficients_long = omega (arith, kept.coefficients, room.coefficients_long);
+        planned_long = omega (arith, kept.planned, room.planned_long);
+        bounds_long = omega (arith, kept.bounds, room.bounds_long);
+        steps_long = omega (arith, kept.steps, room.steps_long);
+        text_size = kept.out ∙ room.text_size;
       };
       told = told_more inv.told (take c.in-Bytes.count c.read_block-read.new.block) c.in-Bytes.ensures.from (answered.ensures.written written)
           (answered.ensures.held.line_held written);

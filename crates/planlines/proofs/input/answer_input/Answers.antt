@@ -7,6 +7,6 @@ use Rattle.planlines.proofs.input.answer_input.Goals as goal
 pub returns-clause-last : goal.returns-clause-last
 returns-clause-last g c =
     let stopped = c.answer_blocks-stopped in
-    let long = c.put_last-text.auto.out ∙ stopped.auto.out ∙ c.requires.text_room_lem in
+    let long = c.put_last-text.auto.out ∙ stopped.auto.out ∙ c.requires.text_size in
     let left = last_put stopped.result.last _ c.put_last-text.ensures long in
     record { held_within = omega (arith, stopped.ensures.held, stopped.auto.line); text = left.0; within = left.1 }

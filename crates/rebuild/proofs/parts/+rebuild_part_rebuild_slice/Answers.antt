@@ -52,11 +52,6 @@ high_of c k = record {
   went_on = c.if-not-rebuild_part.false;
 }
 
-pub rebuild_part-rebuild_slice-requires : goal.rebuild_part-rebuild_slice-requires
-rebuild_part-rebuild_slice-requires t c =
-    let base_is = c.power_of_two-base.ensures in
-    (omega arith, (c.requires.0, (c.requires.1.0, (c.requires.1.1, omega arith))))
-
 pub rebuild_part-top_power-p-requires : goal.rebuild_part-top_power-p-requires
 rebuild_part-top_power-p-requires t c = omega (arith, pow_pos c.args.split)
 

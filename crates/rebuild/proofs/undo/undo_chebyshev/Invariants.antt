@@ -1,6 +1,6 @@
 use mathlib.Core.Path.{◌≡◌}
-use Prim.Native.Nat.{◌≤◌, ◌<◌, ◌-◌, ◌+◌}
-use lib.ListN.{length, take, drop}
+use Prim.Native.Nat.{◌-◌}
+use lib.ListN.{take, drop}
 use lib.IntN.{pos}
 use Rattle.algebra.specs.declared.Basis.TheVariants.{Chebyshev}
 use Rattle.rebuild.specs.Undo.{can_undo}
@@ -10,12 +10,6 @@ use Rattle.rebuild.proofs.undo.undo_chebyshev.Given as goal
 
 abbrev pub invariant-loop-j : goal.invariant-loop-j
 invariant-loop-j l = record {
-  started : 0 < l.j;
-  within : l.j + l.p ≤ length l.initial.c;
-  long : length l.c ≡ length l.initial.c;
   before : l.c ≡ cut_to undoing l.p l.initial.c (pos 0) (l.j - 1);
   passed : can_undo Chebyshev (take l.p l.initial.c) (drop l.p l.initial.c) ≡ rest l.p l.initial.c (l.j - 1);
 }
-
-abbrev pub decreases-loop-j : goal.decreases-loop-j
-decreases-loop-j l = length l.initial.c - l.j

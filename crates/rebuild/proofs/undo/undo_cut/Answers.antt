@@ -11,8 +11,3 @@ pub returns-in-Monomial : goal.returns-in-Monomial
 returns-in-Monomial c =
     ap (λ (b : Basis). undone b (take c.args.p c.args.c.now) (drop c.args.p c.args.c.now)) c.in-Monomial.is
     ∙ undo_monomial c.args.p c.args.c.now c.requires.1.1
-
-pub returns-in-Chebyshev : goal.returns-in-Chebyshev
-returns-in-Chebyshev c =
-    ap (λ (b : Basis). undone b (take c.args.p c.args.c.now) (drop c.args.p c.args.c.now)) c.in-Chebyshev.is
-    ∙ c.undo_chebyshev.ensures

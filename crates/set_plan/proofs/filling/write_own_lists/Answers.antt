@@ -3,13 +3,11 @@
 use Rattle.set_plan.proofs.FillingLaws.{head_fits, lists_fit, member_put}
 use Rattle.set_plan.proofs.filling.write_own_lists.Goals as goal
 
-pub own_split-split-requires : goal.own_split-split-requires
-own_split-split-requires c = head_fits c.requires
+pub own_slicing-requires : goal.own_slicing-requires
+own_slicing-requires c = head_fits c.requires
 
 pub write_lists-requires : goal.write_lists-requires
-write_lists-requires c =
-    lists_fit c.requires c.own_split-split.ensures
+write_lists-requires c = rw c.settings.ensures (lists_fit c.requires c.own_slicing.ensures.1)
 
 pub returns : goal.returns
-returns c =
-    member_put c.requires c.write_lists.ensures
+returns c = member_put c.requires (rw c.settings.ensures at c.write_lists.ensures)

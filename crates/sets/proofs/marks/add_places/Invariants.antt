@@ -1,12 +1,5 @@
-use Prim.Native.Nat.{◌-◌, ◌≤◌}
 use Rattle.sets.specs.inside.Marking.{PlacesAdded}
 use Rattle.sets.proofs.marks.add_places.Given as goal
 
 abbrev pub invariant-loop-n : goal.invariant-loop-n
-invariant-loop-n l = record {
-  within : l.n ≤ l.limit;
-  upto : PlacesAdded l.parity l.top l.limit l.n l.initial.marks l.marks;
-}
-
-abbrev pub decreases-loop-n : goal.decreases-loop-n
-decreases-loop-n l = l.limit - l.n
+invariant-loop-n l = PlacesAdded l.parity l.top l.limit l.n l.initial.marks l.marks

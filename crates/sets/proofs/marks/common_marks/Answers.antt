@@ -5,4 +5,4 @@ use Rattle.sets.proofs.marks.common_marks.Goals as goal
 
 pub returns : goal.returns
 returns c =
-    common_swept c.requires.0 c.requires.1 c.common_targets-marks.ensures c.greatest_power-last.ensures.0 c.sweep.ensures
+    common_swept c.requires.0 c.requires.1 c.common_targets-marks.ensures c.greatest_power.ensures.0 c.sweep.ensures

@@ -4,4 +4,4 @@ use Rattle.sets.proofs.marks.count_common.Goals as goal
 
 pub returns : goal.returns
 returns c =
-    powers_counted c.requires.0 c.requires.1 c.greatest_power-last.ensures.0 c.count_marks.ensures
+    powers_counted c.requires.0 c.requires.1 c.greatest_power.ensures.0 c.count_marks.ensures

@@ -1,15 +1,8 @@
-use Prim.Native.Nat.{◌-◌, ◌≤◌}
+use Prim.Native.Nat.{◌≤◌}
 use lib.ListN.{take}
 use Rattle.number.specs.Limits.{plan_limit}
 use Rattle.sets.specs.inside.Heads.{PowersTo}
 use Rattle.sets.proofs.marks.greatest_power.Given as goal
 
-abbrev pub invariant-loop-i : goal.invariant-loop-i
-invariant-loop-i l = record {
-  within : l.i ≤ l.count;
-  most : l.greatest ≤ plan_limit;
-  upto : PowersTo l.greatest (take l.i l.heads);
-}
-
-abbrev pub decreases-loop-i : goal.decreases-loop-i
-decreases-loop-i l = l.count - l.i
+abbrev pub invariant-loop-head : goal.invariant-loop-head
+invariant-loop-head l = record { most : l.greatest ≤ plan_limit; upto : PowersTo l.greatest (take l.head-index l.heads) }

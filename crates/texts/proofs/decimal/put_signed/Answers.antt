@@ -20,13 +20,13 @@ put-next-requires c =
 pub put_number-requires : goal.put_number-requires
 put_number-requires c =
     let a = c.args in
-    let text = below_text a.z c.ranges.z c.magnitude_of.result c.if-z-lt0.true c.magnitude_of.ensures in
+    let text = below_text a.z c.ranges.z c.unsigned_abs.result c.if-z-lt0.true c.unsigned_abs.ensures.value in
     omega (arith, ends_same a.at (sym text) c.requires, c.put-next.ensures.next)
 
 pub returns-then-z-lt0 : goal.returns-then-z-lt0
 returns-then-z-lt0 c =
     put_same (put_then c.put-next.ensures c.put_number.ensures)
-    (below_text c.args.z c.ranges.z c.magnitude_of.result c.if-z-lt0.true c.magnitude_of.ensures)
+    (below_text c.args.z c.ranges.z c.unsigned_abs.result c.if-z-lt0.true c.unsigned_abs.ensures.value)
 
 pub put_number-requires-2 : goal.put_number-requires-2
 put_number-requires-2 c =

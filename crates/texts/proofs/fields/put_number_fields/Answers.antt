@@ -6,11 +6,11 @@ use Rattle.texts.proofs.fields.put_number_fields.Goals as goal
 
 pub put_number_field-at-requires : goal.put_number_field-at-requires
 put_number_field-at-requires c =
-    field_ends decimal _ _ c.loop-i.invariant 0 c.loop-i-test.true c.requires
+    field_ends decimal _ _ c.loop-n.invariant 0 c.loop-n-test.true c.requires
 
-pub loop-i-preserved : goal.loop-i-preserved
-loop-i-preserved c =
-    fields_more decimal _ _ c.loop-i.invariant 0 c.loop-i-test.true c.put_number_field-at.ensures
+pub loop-n-preserved : goal.loop-n-preserved
+loop-n-preserved c =
+    fields_more decimal _ _ c.loop-n.invariant 0 c.loop-n-test.true c.put_number_field-at.ensures
 
 pub returns : goal.returns
-returns c = fields_end decimal _ _ c.loop-i.invariant c.loop-i-test.false
+returns c = fields_end decimal _ _ c.loop-n.invariant c.loop-n-test.false

@@ -21,18 +21,18 @@ next_few zs i h = read_few (get_or zs i (pos 0)) (record { sfits = h })
 
 pub put_signed_field-at-requires : goal.put_signed_field-at-requires
 put_signed_field-at-requires c =
-    omega (arith, next_few c.args.c.now c.loop-i.i (omega arith), c.loop-i.invariant.1, c.requires)
+    omega (arith, next_few c.args.c.now c.loop-z.z-index (omega arith), c.loop-z.invariant.1, c.requires)
 
-pub loop-i-preserved : goal.loop-i-preserved
-loop-i-preserved c =
+pub loop-z-preserved : goal.loop-z-preserved
+loop-z-preserved c =
     let zs = c.args.c.now in
-    let small : mag (get_or zs c.loop-i.i (pos 0)) < 2 ^ 63 = omega arith in
+    let small : mag (get_or zs c.loop-z.z-index (pos 0)) < 2 ^ 63 = omega arith in
     let same = ap (λ (z : ℤ). tab ∷ signed_decimal z) (back small refl) in (
-      fields_more signed_decimal _ _ c.loop-i.invariant.0 (pos 0) c.loop-i-test.true (put_same c.put_signed_field-at.ensures same),
-      omega (arith, next_few zs c.loop-i.i small, c.loop-i.invariant.1, c.put_signed_field-at.ensures.next),
+      fields_more signed_decimal _ _ c.loop-z.invariant.0 (pos 0) c.loop-z-test.true (put_same c.put_signed_field-at.ensures same),
+      omega (arith, next_few zs c.loop-z.z-index small, c.loop-z.invariant.1, c.put_signed_field-at.ensures.next),
     )
 
 pub returns : goal.returns
 returns c =
-    let inv = c.loop-i.invariant in
-    (fields_end signed_decimal _ _ inv.0 c.loop-i-test.false, omega (arith, inv.1, inv.0.within))
+    let inv = c.loop-z.invariant in
+    (fields_end signed_decimal _ _ inv.0 c.loop-z-test.false, omega (arith, inv.1, inv.0.within))

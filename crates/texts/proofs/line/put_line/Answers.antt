@@ -4,33 +4,33 @@ use mathlib.Core.Path.{sym}
 use Prim.Native.Nat.{◌-◌}
 use native.Mathlib.Omega.{arith}
 use lib.ListN.{length}
-use Rattle.texts.proofs.LineLaws.{behind_lists, head_line_lem, list_line_lem, step_line_lem, no_line_lem}
+use Rattle.texts.proofs.LineLaws.{behind_lists, first_line, list_line_at, step_line_at, no_line_at}
 use Rattle.texts.proofs.PutLaws.{put_same, put_none}
 use Rattle.texts.proofs.line.put_line.Goals as goal
 
 pub returns-then-k-eq0 : goal.returns-then-k-eq0
 returns-then-k-eq0 c =
     let a = c.args in
-    put_same c.put_head.ensures (head_line_lem a.head a.c.now a.bounds.now a.steps.now a.k c.if-k-eq0.true)
+    put_same c.put_head.ensures (first_line a.head a.c.now a.bounds.now a.steps.now a.k c.if-k-eq0.true)
 
 pub returns-then-i-bounds : goal.returns-then-i-bounds
 returns-then-i-bounds c =
     let a = c.args in
     put_same c.put_list.ensures
-    (list_line_lem a.head a.c.now a.bounds.now a.steps.now a.k (a.k - 1) (omega arith) c.if-i-bounds.true)
+    (list_line_at a.head a.c.now a.bounds.now a.steps.now a.k (a.k - 1) (omega arith) c.if-i-bounds.true)
 
-pub returns-then-j-least : goal.returns-then-j-least
-returns-then-j-least c =
+pub returns-then-j-shown : goal.returns-then-j-shown
+returns-then-j-shown c =
     let a = c.args in
     let next = behind_lists a.k (length a.bounds.now) c.if-k-eq0.false c.if-i-bounds.false in
     put_same c.put_step_at.ensures
-    (step_line_lem a.head a.c.now a.bounds.now a.steps.now a.k (a.k - 1 - length a.bounds.now) c.least.result next
-    c.least.ensures c.if-j-least.true)
+    (step_line_at a.head a.c.now a.bounds.now a.steps.now a.k (a.k - 1 - length a.bounds.now) c.min-shown.result next
+    c.min-shown.ensures c.if-j-shown.true)
 
 pub returns : goal.returns
 returns c =
     let a = c.args in
     let next = behind_lists a.k (length a.bounds.now) c.if-k-eq0.false c.if-i-bounds.false in
     put_same (put_none a.out.now a.at)
-    (sym (no_line_lem a.head a.c.now a.bounds.now a.steps.now a.k (a.k - 1 - length a.bounds.now) c.least.result next
-    c.least.ensures c.if-j-least.false))
+    (sym (no_line_at a.head a.c.now a.bounds.now a.steps.now a.k (a.k - 1 - length a.bounds.now) c.min-shown.result next
+    c.min-shown.ensures c.if-j-shown.false))

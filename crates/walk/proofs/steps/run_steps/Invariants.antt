@@ -1,18 +1,14 @@
-use mathlib.Core.Path.{◌≡◌}
-use Prim.Native.Nat.{◌-◌, ◌≤◌}
-use Rattle.walk.specs.inside.Taken.{state_of}
-use Rattle.walk.specs.inside.Waits.{FitsSixteen}
-use Rattle.walk.specs.inside.Arithmetic.{rules_of}
+use Rattle.std.proofs.Common.{◌≡◌}
 use Rattle.walk.specs.Boundaries.{list_at}
 use Rattle.walk.specs.Walk.{walk_of}
 use Rattle.walk.specs.Lent.{steps_from}
+use Rattle.walk.specs.inside.Powers.{state_of}
 use Rattle.walk.proofs.RunLaws.{left_from}
 use Rattle.walk.proofs.steps.run_steps.Given as goal
 
 abbrev pub invariant-loop-i : goal.invariant-loop-i
-invariant-loop-i l = (l.i ≤ l.count) ×
-    (FitsSixteen l.w × (left_from (rules_of l.arithmetic) l.parity l.basis (list_at l.coefficients l.bounds) l.steps l.count l.i (state_of l.powers l.made l.w)
-    ≡ walk_of (rules_of l.arithmetic) l.parity l.basis (list_at l.coefficients l.bounds) (steps_from l.steps 0 l.count) l.y))
-
-abbrev pub decreases-loop-i : goal.decreases-loop-i
-decreases-loop-i l = l.count - l.i
+invariant-loop-i g l =
+    let 𝓡 = g.A.Arithmetic.rules l.arithmetic in
+    let lists = list_at l.lists.coefficients.now l.lists.bounds.now in
+    left_from 𝓡 l.parity l.basis lists l.steps l.count l.i (state_of l.powers l.waiting)
+    ≡ walk_of 𝓡 l.parity l.basis lists (steps_from l.steps 0 l.count) l.y

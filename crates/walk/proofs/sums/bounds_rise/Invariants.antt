@@ -1,11 +1,6 @@
-use mathlib.Core.Path.{◌≡◌}
-use Prim.Native.Nat.{◌-◌, ◌≤◌}
-use lib.ListN.{length, drop}
+use Rattle.std.proofs.Common.{◌≡◌, drop}
 use Rattle.walk.specs.Boundaries.{rises}
 use Rattle.walk.proofs.sums.bounds_rise.Given as goal
 
-abbrev pub invariant-loop-i : goal.invariant-loop-i
-invariant-loop-i l = (l.i ≤ length l.bounds) × (rises l.last l.most (drop l.i l.bounds) ≡ rises 0 l.most l.bounds)
-
-abbrev pub decreases-loop-i : goal.decreases-loop-i
-decreases-loop-i l = length l.bounds - l.i
+abbrev pub invariant-loop-bound : goal.invariant-loop-bound
+invariant-loop-bound l = rises l.last l.most (drop l.bound-index l.bounds) ≡ rises 0 l.most l.bounds

@@ -1,0 +1,17 @@
+-- With a known basis it is the call's own interval for it, and else refusal 43.
+use mathlib.Core.Path.{refl}
+use Rattle.flat.specs.Unknown.{when_known}
+use Rattle.flat.proofs.Reading.{basis_read, no_basis, refused_told}
+use Rattle.flat.specs.Flat.{interval_refused}
+use Rattle.flat.specs.declared.flat.CInterval.{CInterval}
+use Rattle.exports.proofs.values.interval.Goals as goal
+
+pub returns-in_err-try_from : goal.returns-in_err-try_from
+returns-in_err-try_from c =
+    refused_told (λ (interval : CInterval). interval) _ interval_refused _ _ c.from_residual.ensures.1 refl (no_basis c.in_err-try_from.ensures.1)
+
+pub returns : goal.returns
+unfolding when_known
+returns c =
+    let basis = basis_read _ c.in_ok-try_from.ensures in
+    rw (basis.0, c.change_of_basis.ensures, basis.1)

@@ -1,0 +1,39 @@
+// The settings of a call, a letter each.
+use crate::field::Fields;
+use algebra::{Basis, Parity};
+use counts::{Settings, SplitStrategy};
+use lines::letter::{basis_of, fold_of, parity_of, strategy_of};
+
+impl Fields<'_> {
+    // Reads M or C.
+    pub fn basis(&mut self) -> Option<Basis> {
+        basis_of(self.letter()?)
+    }
+
+    // Reads F, E or O.
+    pub fn parity(&mut self) -> Option<Parity> {
+        parity_of(self.letter()?)
+    }
+
+    // Reads D or M.
+    pub fn strategy(&mut self) -> Option<SplitStrategy> {
+        strategy_of(self.letter()?)
+    }
+
+    // Reads N or Y: whether to fold.
+    pub fn fold(&mut self) -> Option<bool> {
+        fold_of(self.letter()?)
+    }
+
+    // Reads a basis, a parity and a strategy.
+    pub fn settings(&mut self) -> Option<Settings> {
+        let basis = self.basis()?;
+        let parity = self.parity()?;
+        let strategy = self.strategy()?;
+        Some(Settings {
+            strategy,
+            parity,
+            basis,
+        })
+    }
+}
