@@ -17,6 +17,10 @@ mod_mul_mod a b m = sym (ap (◌% m) parts ∙ add-mul-mod_self_right (a % m * b
     parts : a * b ≡ a % m * b + a / m * b * m
     parts = ap (◌* b) (sym (mod-add-div' a m)) ∙ omega arith
 
+-- the second factor may be
+pub mul_mod_mod : (a b m : ℕ) → (a * (b % m)) % m ≡ (a * b) % m
+mul_mod_mod a b m = ap (◌% m) (N.mul_comm a (b % m)) ∙ mod_mul_mod b a m ∙ ap (◌% m) (N.mul_comm b a)
+
 module _ (m : ℕ) (h : 0 < m) where
   -- what is added on both sides can be taken off
   mod_cancel : (x y z : ℕ) → (x + z) % m ≡ (y + z) % m → x % m ≡ y % m
