@@ -1,7 +1,7 @@
 -- The sum of the magnitudes times the number of coefficients is at most 2^53 at the start, and so is the sum alone.
 use mathlib.Core.List.{List, [], ◌∷◌}
-use Prim.Native.Nat.{suc, ◌≤◌, ◌^◌}
-use native.Mathlib.Nat.{le_trans, le-mul_of_pos_right}
+use Prim.Native.Nat.{suc, ◌*◌, ◌≤◌, ◌^◌}
+use native.Mathlib.Nat.{mul-le-mul_left, le_trans, le-mul_of_pos_right}
 use native.Mathlib.Omega.{arith}
 use borrow.Author.Tests.{le-leb}
 use lib.IntN.{ℤ}
@@ -21,3 +21,8 @@ pub sum_by_length_sum : (c : List ℤ) → SumByLengthTo53 c → sum_abs c ≤ 2
 unfolding SumByLengthTo53 sum_abs
 sum_by_length_sum [] room = omega arith
 sum_by_length_sum (x ∷ c) room = le_trans (le-mul_of_pos_right {m = suc (length c)} (sum_abs (x ∷ c)) (omega arith)) room
+
+-- with two coefficients or more the sum is at most 2^52
+pub sum_by_length_half : (c : List ℤ) → 2 ≤ length c → SumByLengthTo53 c → sum_abs c ≤ 2 ^ 52
+unfolding SumByLengthTo53
+sum_by_length_half c two room = let twice : sum_abs c * 2 ≤ sum_abs c * length c = mul-le-mul_left (sum_abs c) two in omega (arith, room)

@@ -17,6 +17,7 @@ use Rattle.number.proofs.Bits.{top_power_lem}
 use Rattle.counts.specs.MinDepth.{min_depth}
 use Rattle.lists.specs.Tree.{Tree, cut, listed_again, tree_of}
 use Rattle.lists.specs.Arrange.{ends_of}
+use Rattle.lists.proofs.Arranging.{length_ends, some_leaves}
 use Rattle.lists.proofs.TreeRule.{tree_leaf, tree_again, tree_cut}
 use Rattle.rebuild.specs.RebuildCall.{begins}
 use Rattle.rebuild.specs.inside.Matching.{match_from}
@@ -83,6 +84,11 @@ module _ (e : ℕ) (bs : List ℕ) (n : ℕ) where
 
 abbrev ends : (leading : Bool) → (whole degree split at : ℕ) → List ℕ
 ends leading whole degree split at = ends_of (tree_of leading whole degree split) at (suc degree)
+
+-- there is at least one
+pub some_ends : (leading : Bool) (whole degree split at : ℕ) → 0 < length (ends_of (tree_of leading whole degree split) at (suc degree))
+some_ends leading whole degree split at =
+    omega (arith, length_ends (tree_of leading whole degree split) at (suc degree), some_leaves (tree_of leading whole degree split))
 
 -- a slice
 module _ (leading : Bool) (whole degree split at n : ℕ) (bs : List ℕ) (below : degree < 2 ^ split) where
