@@ -2,10 +2,10 @@
 -- buffer is what the call leaves. One proof for i64 and f64.
 use mathlib.Core.Path.{◌≡◌, ap, ap₂, sym, ◌∙◌}
 use mathlib.Core.Bool.{Bool}
-use mathlib.Core.List.{List, ◌++◌}
+use mathlib.Core.List.{List, ◌++◌, append-nil}
 use Prim.Native.Nat.{ℕ, ◌+◌, ◌^◌, ◌≤◌, ◌<◌}
 use native.Mathlib.Omega.{arith}
-use lib.ListN.{length, take, drop}
+use lib.ListN.{length, take, drop, drop_of_length-le}
 use lib.Seq.{sets, sets-eq, take_at}
 use Rattle.std.specs.Prelude.{Result, Ok, Err}
 use Rattle.std.specs.Result.{IsErrAnd}
@@ -47,6 +47,10 @@ front xs out fits = let all : 0 + length xs ≡ length xs = omega arith in sets-
 -- and taken again
 pub front_take : {A : Type 0} (xs out : List A) (n : ℕ) → length xs ≡ n → n ≤ length out → take n (sets out 0 xs) ≡ xs
 front_take xs out n size fits = ap (take n) (front xs out (omega arith)) ∙ take_at xs (drop (length xs) out) n size
+
+-- values that fill a buffer
+pub put_whole : {A : Type 0} (xs out : List A) → length out ≡ length xs → sets out 0 xs ≡ xs
+put_whole {A = A} xs out same = front xs out (omega arith) ∙ ap (λ (l : List A). xs ++ l) (drop_of_length-le out (omega arith)) ∙ append-nil xs
 
 -- a call that every test passes
 pub list_passed : {A : Type 0} (numbers : Numbers A) (strategy : SplitStrategy) (parity : Parity) (basis : Basis) (c out : List A) (bounds : List ℕ)

@@ -10,7 +10,9 @@ ghost use Rattle.lists.specs.inside.Listing.{Listable, InPlace};
 use super::call::{Listing, check_sizes};
 use super::count::{count_lists, listed_again, relists, smaller_split};
 use counts::{Settings, split_for_strategy};
-use number::{Basis, Coefficient, Refusal, factorize_coeffs_chebyshev, power_of_two, top_power};
+use number::{
+    Basis, Coefficient, Refusal, copy_coeffs, factorize_coeffs_chebyshev, power_of_two, top_power,
+};
 
 // Cuts the coefficients at p.
 fn cut_coeffs<C: Coefficient>(basis: Basis, p: usize, c: &mut [C])
@@ -96,7 +98,7 @@ pub fn decompose_bsgs<C: Coefficient>(
         return Err(Refusal::BoundariesShort);
     }
     let part = &mut out[..n];
-    part.copy_from_slice(c);
+    copy_coeffs(c, part);
     list_coeffs(leading, settings.basis, degree, split, 0, 0, part, bounds);
     Ok(Listing {
         degree,

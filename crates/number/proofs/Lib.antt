@@ -16,6 +16,7 @@ mod EverySecond
 mod ParityLoops
 mod FillFromEnd
 mod Rows
+mod CopyLoop
 mod FoldLoops
 pub mod FoldCall
 pub mod FoldSame

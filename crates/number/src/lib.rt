@@ -2,6 +2,7 @@
 #![tactic(auto)]
 
 pub mod coefficient;
+pub mod copy;
 pub mod degree;
 pub mod evaluate;
 pub mod factor;
@@ -30,6 +31,7 @@ pub use powers::bit_len;
 pub use refusal::Refusal;
 pub use split::{Split, parts_of, split_degree};
 // What serves planning and conversion, which call it within its ranges.
+pub use copy::copy_coeffs;
 pub use factor::factorize_coeffs_chebyshev;
 pub use fold::{fold_count, fold_into, is_full, least_folded};
 pub use parity::has_parity;

@@ -15,7 +15,7 @@ use super::tree::{Place, write_tree};
 use counts::Settings;
 use lists::{list_coeffs, relists};
 use needed::Slicing;
-use number::{Basis, Parity, fold_into};
+use number::{Basis, Parity, copy_coeffs, fold_into};
 
 // Writes the planned coefficients to the front of a buffer.
 fn place_coeffs(fold: bool, parity: Parity, basis: Basis, c: &[i64], out: &mut [i64])
@@ -25,7 +25,7 @@ fn place_coeffs(fold: bool, parity: Parity, basis: Basis, c: &[i64], out: &mut [
     if fold {
         fold_into(parity, basis, c, out);
     } else {
-        out[..c.len()].copy_from_slice(c);
+        copy_coeffs(c, out);
     }
 }
 

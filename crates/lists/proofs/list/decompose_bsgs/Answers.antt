@@ -13,6 +13,7 @@ use Rattle.lists.specs.Tree.{tree_of, plan_tree}
 use Rattle.lists.specs.Arrange.{leaves_of}
 use Rattle.lists.proofs.ListTests.{Early, early_passed}
 use Rattle.lists.proofs.ListCall as calls
+use Rattle.lists.proofs.ListCall.{put_whole}
 use Rattle.lists.proofs.list.decompose_bsgs.Goals as goal
 use Rattle.lists.proofs.list.decompose_bsgs.Goals.{In_ok-check_sizes, After-split_for_strategy-split, After-count_lists-lists}
 
@@ -76,18 +77,19 @@ slice_bounds-part-end g c = (passes g (goal.at.slice_bounds-part-end g c).In_ok-
 pub slice_bounds-part-end-2 : goal.slice_bounds-part-end-2
 slice_bounds-part-end-2 g c = sym (places g (goal.at.slice_bounds-part-end-2 g c).In_ok-check_sizes)
 
-pub copy_from_slice-requires : goal.copy_from_slice-requires
-copy_from_slice-requires g c = places g (goal.at.copy_from_slice-requires g c).In_ok-check_sizes
+pub copy_coeffs-requires : goal.copy_coeffs-requires
+copy_coeffs-requires g c = omega (arith, places g (goal.at.copy_coeffs-requires g c).In_ok-check_sizes)
 
 pub list_coeffs-requires : goal.list_coeffs-requires
 list_coeffs-requires g c =
     let here = goal.at.list_coeffs-requires g c in
     let settings = c.args.settings in
-    let passed = passes g here.In_ok-check_sizes in (
+    let passed = passes g here.In_ok-check_sizes in
+    let copied = c.copy_coeffs.ensures ∙ put_whole c.args.c.now _ (places g here.In_ok-check_sizes) in (
       calls.listable g.C.Coefficient.numbers settings.strategy settings.parity settings.basis c.args.c.now c.args.out.now c.args.bounds.now
-          passed.degree c.copy_from_slice.ensures.after c.relists-leading.ensures c.split_for_strategy-split.ensures
+          passed.degree copied c.relists-leading.ensures c.split_for_strategy-split.ensures
           (omega (arith, counted g here.After-count_lists-lists, c.if-bounds-lists.false)),
-      rw c.copy_from_slice.ensures.after (g.met.C.Coefficient.small_lists _ (sym c.sum_fits.ensures ∙ passed.is_small) passed.degree.to),
+      rw copied (g.met.C.Coefficient.small_lists _ (sym c.sum_fits.ensures ∙ passed.is_small) passed.degree.to),
     )
 
 pub power_of_two-requires : goal.power_of_two-requires
@@ -99,8 +101,9 @@ returns g c =
     let settings = c.args.settings in
     let passed = passes g here.In_ok-check_sizes in
     let counts = counted g here.After-count_lists-lists in
+    let copied = c.copy_coeffs.ensures ∙ put_whole c.args.c.now _ (places g here.In_ok-check_sizes) in
     calls.call_listed g.C.Coefficient.numbers settings.strategy settings.parity settings.basis c.args.c.now c.args.out.now c.args.bounds.now
-    passed.degree c.copy_from_slice.ensures.after c.relists-leading.ensures c.split_for_strategy-split.ensures
+    passed.degree copied c.relists-leading.ensures c.split_for_strategy-split.ensures
     (calls.none_is g.C.Coefficient.numbers settings.strategy settings.parity settings.basis c.args.c.now c.args.out.now c.args.bounds.now
     c.sum_fits.ensures (sym c.in_ok-check_sizes.ensures) (omega (arith, counts, c.if-bounds-lists.false)))
     passed.holds c.list_coeffs.auto.c c.power_of_two.ensures counts c.list_coeffs.ensures

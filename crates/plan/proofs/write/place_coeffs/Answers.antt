@@ -5,10 +5,6 @@ use borrow.Author.Tests.{le-leb}
 use lib.Seq.{sets}
 use Rattle.algebra.specs.Magnitude.{sum_abs}
 use Rattle.number.specs.Limits.{sum_limit}
-use mathlib.Core.List.{List, ◌++◌}
-use lib.IntN.{ℤ}
-use lib.ListN.{length, drop}
-use Rattle.lists.proofs.ListCall.{front}
 use Rattle.plan.specs.PlanCall.{planned_coefficients}
 use Rattle.plan.proofs.write.place_coeffs.Goals as goal
 
@@ -23,7 +19,9 @@ returns-then-fold c =
 
 pub returns-else-fold : goal.returns-else-fold
 returns-else-fold c =
-    ap (λ (l : List ℤ). l ++ drop (length c.args.c.now) c.args.out.now) c.copy_from_slice.ensures.after
-    ∙ sym (front c.args.c.now c.args.out.now (c.requires.copy_room c.if-fold.false))
+    c.copy_coeffs.ensures
     ∙ ap (λ (t : Bool). sets c.args.out.now 0 (planned_coefficients t c.args.parity c.args.basis c.args.c.now))
     (sym c.if-fold.false)
+
+pub copy_coeffs-requires : goal.copy_coeffs-requires
+copy_coeffs-requires c = c.requires.copy_room c.if-fold.false
