@@ -32,25 +32,28 @@ impl Modulus {
     }
 
     // Returns the remainder of a whole number, from 0 to m - 1.
-    fn remainder(self, x: i64) -> u64
+    pub fn remainder(self, x: i64) -> u64
         ensures { result ≡ rem self.m x }
     {
         x.rem_euclid(self.m as i64) as u64
     }
 
-    fn add(self, a: u64, b: u64) -> u64
+    // Returns the remainder of a sum.
+    pub fn add(self, a: u64, b: u64) -> u64
         ensures { result ≡ (remainders self.m).add a b }
     {
         (a % self.m + b % self.m) % self.m
     }
 
-    fn mul(self, a: u64, b: u64) -> u64
+    // Returns the remainder of a product.
+    pub fn mul(self, a: u64, b: u64) -> u64
         ensures { result ≡ (remainders self.m).mul a b }
     {
         (a % self.m) * (b % self.m) % self.m
     }
 
-    fn twice(self, a: u64) -> u64
+    // Returns the remainder of a number taken twice.
+    pub fn twice(self, a: u64) -> u64
         ensures { result ≡ double (remainders self.m) a }
     {
         self.mul(2, a)

@@ -19,7 +19,7 @@ pub struct PlanLists<'a> {
 }
 
 // Returns whether the boundaries rise strictly from 0 and none passes `most`.
-fn bounds_rise(most: usize, bounds: &[u16]) -> bool
+pub fn bounds_rise(most: usize, bounds: &[u16]) -> bool
     ensures { result ≡ rises 0 most bounds.now }
 {
     let mut last = 0;

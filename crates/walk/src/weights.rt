@@ -15,7 +15,7 @@ pub struct Weights {
 }
 
 // Returns the weight of a product: a scale more than the greater of its factors'.
-fn product_weight(scale: u64, a: u64, b: u64) -> u64
+pub fn product_weight(scale: u64, a: u64, b: u64) -> u64
     ensures { result ≡ weight_making.product scale a b }
 {
     a.max(b).saturating_add(scale)
