@@ -14,12 +14,10 @@ use Rattle.walk.specs.Rules.{Rules}
 use Rattle.walk.specs.Load.{push_of}
 use Rattle.walk.specs.Combine.{join_of}
 use Rattle.walk.specs.Walk.{one_left}
-use Rattle.walk.specs.inside.Waits.{last_first}
+use Rattle.walk.specs.inside.Waits.{last_first, length_last_first}
 
 pub length_stack : (values : List ℕ) (k : ℕ) → length (last_first values k) ≡ k
-unfolding last_first
-length_stack values zero = refl
-length_stack values (suc k) = ap suc (length_stack values k)
+length_stack values k = length_last_first values k
 
 -- a store from place k on leaves the first k
 stack_set : (values : List ℕ) (i v k : ℕ) → k ≤ i → last_first (set values i v) k ≡ last_first values k

@@ -1,5 +1,5 @@
 -- A step by what it does, as the program decodes it: by cases of its kind.
-use mathlib.Core.Path.{◌≡◌, refl}
+use mathlib.Core.Path.{◌≡◌, refl, ◌∙◌}
 use mathlib.Core.List.{List}
 use mathlib.Core.Bool.{Bool, true, false}
 use mathlib.Core.Option.{Option, some, none}
@@ -14,6 +14,7 @@ use Rattle.walk.specs.Make.{make_of}
 use Rattle.walk.specs.Load.{load_of}
 use Rattle.walk.specs.Combine.{combine_of}
 use Rattle.walk.specs.Walk.{unused_zero, act_of, step_of}
+use Rattle.walk.specs.inside.Waits.{Stack}
 use Rattle.walk.specs.inside.Instructions.{instruction_by, instruction_of}
 use Rattle.walk.specs.declared.plan.Step.{Step}
 use Rattle.walk.specs.declared.plan.Instruction.{Instruction}
@@ -29,6 +30,15 @@ beside powers waiting wanted e = rw (← e) (by waiting)
   where
     by : (o : Option (List ℕ)) → image (with powers) o ≡ (o then λ ws. some (with powers ws))
     by (some ws) = refl
+    by none = refl
+
+-- and so do those that a stack has
+pub beside_stack : (powers : Powers ℕ) (stack : Option Stack) (wanted : Option (List ℕ)) → image (λ (s : Stack). s.list) stack ≡ wanted
+    → image (λ (s : Stack). with powers s.list) stack ≡ (wanted then λ ws. some (with powers ws))
+beside_stack powers stack wanted e = by stack ∙ beside powers (image (λ (s : Stack). s.list) stack) wanted e
+  where
+    by : (o : Option Stack) → image (λ (s : Stack). with powers s.list) o ≡ image (with powers) (image (λ (s : Stack). s.list) o)
+    by (some s) = refl
     by none = refl
 
 -- a step by what it does

@@ -27,8 +27,8 @@ fn load<A: Arithmetic>(
     lists: &PlanLists,
     powers: &Powers,
 ) -> Option<Waiting>
-    ensures { found result ≡ load_of (A.rules arithmetic) parity (powers_of powers.now)
-        (list_at lists.now.coefficients.now lists.now.bounds.now) waiting i }
+    ensures { image (λ w. w.list) (found result) ≡ load_of (A.rules arithmetic) parity (powers_of powers.now)
+        (list_at lists.now.coefficients.now lists.now.bounds.now) waiting.list i }
 {
     let list = lists.get(i)?;
     let v = sum_list(parity, arithmetic, list, powers)?;
@@ -44,7 +44,7 @@ fn combine<A: Arithmetic>(
     waiting: Waiting,
     powers: &Powers,
 ) -> Option<Waiting>
-    ensures { found result ≡ combine_of (A.rules arithmetic) plain (powers_of powers.now) waiting p }
+    ensures { image (λ w. w.list) (found result) ≡ combine_of (A.rules arithmetic) plain (powers_of powers.now) waiting.list p }
 {
     let v = powers.get(p)?;
     waiting.join(plain, v, arithmetic)
@@ -60,8 +60,8 @@ fn take_step<A: Arithmetic>(
     lists: &PlanLists,
     powers: &mut Powers,
 ) -> Option<Waiting>
-    ensures { image (λ after. state_of powers.new after) (found result)
-        ≡ step_of (A.rules arithmetic) parity basis (list_at lists.now.coefficients.now lists.now.bounds.now) step (state_of powers.old waiting) }
+    ensures { image (λ after. state_of powers.new after.list) (found result)
+        ≡ step_of (A.rules arithmetic) parity basis (list_at lists.now.coefficients.now lists.now.bounds.now) step (state_of powers.old waiting.list) }
 {
     let instruction = step.decode()?;
     match instruction {

@@ -18,7 +18,7 @@ returns-in_err-waiting g c =
     let refused = rw c.step_at.ensures at c.in_err-waiting.ensures in
     rw c.from_residual.ensures
     (left_refused (g.A.Arithmetic.rules a.arithmetic) a.parity a.basis (list_at a.lists.now.coefficients.now a.lists.now.bounds.now) a.steps.now a.count
-    l.i (state_of l.powers l.waiting) c.loop-i-test.true refused ∙ l.invariant)
+    l.i (state_of l.powers l.waiting.list) c.loop-i-test.true refused ∙ l.invariant)
 
 pub loop-i-preserved : goal.loop-i-preserved
 loop-i-preserved g c =
@@ -26,7 +26,7 @@ loop-i-preserved g c =
     let l = c.loop-i in
     let taken = rw c.step_at.ensures at c.in_ok-waiting.ensures in
     left_next (g.A.Arithmetic.rules a.arithmetic) a.parity a.basis (list_at a.lists.now.coefficients.now a.lists.now.bounds.now) a.steps.now a.count
-    l.i (state_of l.powers l.waiting) c.loop-i-test.true _ taken ∙ l.invariant
+    l.i (state_of l.powers l.waiting.list) c.loop-i-test.true _ taken ∙ l.invariant
 
 pub returns : goal.returns
 returns g c =
@@ -34,4 +34,4 @@ returns g c =
     let l = c.loop-i in
     c.one_left.ensures
     ∙ sym (left_done (g.A.Arithmetic.rules a.arithmetic) a.parity a.basis (list_at a.lists.now.coefficients.now a.lists.now.bounds.now) a.steps.now a.count
-    l.i (state_of l.powers l.waiting) c.loop-i-test.false) ∙ l.invariant
+    l.i (state_of l.powers l.waiting.list) c.loop-i-test.false) ∙ l.invariant

@@ -10,5 +10,5 @@ abbrev pub invariant-loop-i : goal.invariant-loop-i
 invariant-loop-i g l =
     let 𝓡 = g.A.Arithmetic.rules l.arithmetic in
     let lists = list_at l.lists.coefficients.now l.lists.bounds.now in
-    left_from 𝓡 l.parity l.basis lists l.steps l.count l.i (state_of l.powers l.waiting)
+    left_from 𝓡 l.parity l.basis lists l.steps l.count l.i (state_of l.powers l.waiting.list)
     ≡ walk_of 𝓡 l.parity l.basis lists (steps_from l.steps 0 l.count) l.y
