@@ -1,13 +1,15 @@
 // Making a power of its parts.
-ghost use Rattle.std.specs.Prelude.{◌≡◌};
+ghost use Rattle.std.specs.Prelude.{◌≡◌, ◌≤◌};
+ghost use Rattle.number.specs.Limits.{degree_limit};
 ghost use Rattle.number.specs.Options.{image};
+ghost use Rattle.number.specs.Split.{split_of};
 ghost use Rattle.walk.specs.Make.{power_from, make_of};
 ghost use Rattle.walk.specs.inside.Found.{found};
 ghost use Rattle.walk.specs.inside.Powers.{powers_of};
 
 use crate::arithmetic::Arithmetic;
 use crate::powers::Powers;
-use number::{Basis, PLAN_LIMIT, parts_of};
+use number::{Basis, PLAN_LIMIT, Split, parts_of};
 
 // Returns X_a·X_b, or 2·T_a·T_b - T_c with c the distance, where these powers were made.
 #[tactic(auto, unfolding(crate::specs::Make::power_from))]
@@ -32,6 +34,21 @@ fn power_from<A: Arithmetic>(
     }
 }
 
+// Returns the split of n, and zeros below 2, where an index has none.
+fn split_or_zeros(n: usize) -> Split
+    requires { n ≤ degree_limit }
+    ensures { (result.a ≡ (split_of n).a) × (result.b ≡ (split_of n).b) × (result.distance ≡ (split_of n).distance) }
+{
+    if n < 2 {
+        return Split {
+            a: 0,
+            b: 0,
+            distance: 0,
+        };
+    }
+    parts_of(n)
+}
+
 // Makes power n of powers a and b. It returns `None` where n is above 4,095 or was made before, where a and b are not the parts of its split, and where
 // a power that it needs was not made.
 #[tactic(auto, unfolding(crate::specs::Make::make_of, crate::specs::Make::is_makeable))]
@@ -51,8 +68,7 @@ pub fn make_power<A: Arithmetic>(
     if powers.get(n).is_some() {
         return None;
     }
-    // Powers 0 and 1 are there, so n is at least 2.
-    let split = parts_of(n);
+    let split = split_or_zeros(n);
     if a != split.a {
         return None;
     }

@@ -1,20 +1,19 @@
 // The powers that were made.
-ghost use Rattle.std.specs.Prelude.{◌≡◌, ◌≤◌, get_or, true, false};
+ghost use Rattle.std.specs.Prelude.{◌≡◌, ◌≤◌};
 ghost use Rattle.number.specs.Limits.{plan_limit};
 ghost use Rattle.walk.specs.Make.{first_powers, with_power};
 ghost use Rattle.walk.specs.inside.Found.{found};
 
 use crate::arithmetic::Arithmetic;
 use crate::limits::POWERS;
+pub use crate::make::make_power;
 
-// Powers 0 to 4,095, with marks of those that were made. Powers 0 and 1 always were. An array of Options would be nearly twice as long, and a walk of a
-// short plan, which takes most of its time to set it up, half as slow again.
+// Powers 0 to 4,095, with marks of those that were made. An array of Options would be nearly twice as long, and a walk of a short plan, which takes most
+// of its time to set it up, half as slow again.
 #[derive(Drop)]
 pub struct Powers {
-    values: [u64; POWERS],
-    made: [bool; POWERS],
-    ghost zero: { get_or made 0 false ≡ true },
-    ghost one: { get_or made 1 false ≡ true },
+    pub values: [u64; POWERS],
+    pub made: [bool; POWERS],
 }
 
 impl Powers {
