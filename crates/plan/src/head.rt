@@ -1,5 +1,5 @@
 // The head of a plan.
-ghost use Rattle.std.specs.Prelude.{◌≡◌, ◌+◌, ◌≤◌};
+ghost use Rattle.std.specs.Prelude.{◌≡◌, ◌+◌, ◌≤◌, cond, ◌&&◌, leb};
 ghost use Rattle.number.specs.Limits.{plan_limit, count_limit};
 ghost use Rattle.number.specs.inside.Between.{Between};
 ghost use Rattle.plan.specs.PlanHead.{head_of, no_head};
@@ -19,13 +19,20 @@ pub struct Costs {
     pub plains: usize,
 }
 
+// Returns how many combines are of kind 4: one at a plain last list that is not the only one.
+pub fn plain_steps(plain: bool, lists: usize) -> usize
+    ensures { result ≡ cond (plain && leb 2 lists) 1 0 }
+{
+    if plain && 2 <= lists { 1 } else { 0 }
+}
+
 // Returns what so many lists cost, of which the last may be plain, with `pt` allowed powers from 1 up over all of them: a plain last list that is not the
 // only one makes its combine one of kind 4.
 pub fn costs_of(plain: bool, lists: usize, pt: usize) -> Costs
     requires { (1 ≤ lists) × (lists + pt ≤ count_limit) }
     ensures { result ≡ costs_of plain lists pt }
 {
-    let fours = if plain && 2 <= lists { 1 } else { 0 };
+    let fours = plain_steps(plain, lists);
     Costs {
         threes: lists - 1 - fours,
         plains: pt + fours,
