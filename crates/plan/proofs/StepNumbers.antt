@@ -12,7 +12,7 @@ use Rattle.number.specs.declared.split.Split.{Split}
 use Rattle.number.proofs.SplitParts.{parted, split_accepted}
 use Rattle.walk.specs.WalksHeld.{flat}
 use Rattle.walk.specs.declared.plan.Instruction.TheVariants.{Make}
-use Rattle.plan.specs.inside.Writing.{StepFits, PowerFits, PowerPut}
+use Rattle.plan.specs.inside.Writing.{InstructionFits, PowerFits, PowerPut}
 
 -- ---- the step of a power
 
@@ -25,10 +25,10 @@ parts_asked fits is_marked = (fits.from_two is_marked, omega (arith, fits.limit)
 
 module _ (marked : Bool) {n step : ℕ} {b : List ℕ} {parts : Split} (fits : PowerFits marked n step b) (is_marked : marked ≡ true)
     (parts_are : parts_in (Ok parts) ≡ split_of n) where
-  pub power_fits : StepFits step (Make n parts.a parts.b) b
+  pub power_fits : InstructionFits step (Make n parts.a parts.b) b
   power_fits = by_mark marked fits is_marked
     where
-      by_mark : (t : Bool) → PowerFits t n step b → t ≡ true → StepFits step (Make n parts.a parts.b) b
+      by_mark : (t : Bool) → PowerFits t n step b → t ≡ true → InstructionFits step (Make n parts.a parts.b) b
       by_mark true known is =
           let from = known.from_two refl in
           let within = known.limit in

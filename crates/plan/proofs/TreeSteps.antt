@@ -18,7 +18,7 @@ use Rattle.lists.proofs.Arranging.{some_leaves, sets_append}
 use Rattle.walk.specs.WalksHeld.{flat}
 use Rattle.walk.proofs.FlatSteps.{flat_append, flat_length}
 use Rattle.plan.specs.PlanSteps.{combine_step, combine_kind, tree_steps}
-use Rattle.plan.specs.inside.Writing.{numbers_of, StepFits, TreeFits, TreePut}
+use Rattle.plan.specs.inside.Writing.{numbers_of, InstructionFits, TreeFits, TreePut}
 use Rattle.walk.specs.declared.plan.Instruction.{Instruction}
 use Rattle.walk.specs.declared.plan.Instruction.TheVariants.{Load, Combine}
 use Rattle.plan.specs.declared.tree.Place.{Place}
@@ -111,7 +111,7 @@ module _ {leading : Bool} {whole degree split list step : ℕ} {b : List ℕ} (f
         → TreePut plain (tree_of leading whole degree split) list step b r b'
     put_again put = rw (tree_again leading whole degree split below again) put
 
-  pub load_fits : StepFits step (Load list) b
+  pub load_fits : InstructionFits step (Load list) b
   load_fits =
       let one = some_leaves (tree_of leading whole degree split) in
       record { places = omega (arith, fits.places); narrow = omega (arith, fits.list_limit) }
@@ -172,7 +172,7 @@ module _ {leading : Bool} {whole degree split list step : ℕ} {b : List ℕ} (f
       lists_rise = omega (arith, high.next_list)
 
       module _ {combine : Instruction} (combine_is : combine ≡ Combine (plain && eqb (h.list - l.list) 1) p) where
-        pub combine_fits : StepFits h.step combine b₂
+        pub combine_fits : InstructionFits h.step combine b₂
         combine_fits =
             let bounds = top in
             rw combine_is (record {

@@ -3,7 +3,7 @@ ghost use Rattle.std.specs.Prelude.{◌*◌, ◌≤◌, length};
 ghost use Rattle.needed.specs.NeededList.{needed_count};
 ghost use Rattle.plan.specs.inside.Writing.{PowerFits, PowerPut, MarksFit, MarksPut, PowersPut, TwoPowersFit, TwoPowersPut};
 
-use super::step::put_step;
+use super::step::put_instruction;
 use needed::Slicing;
 use number::{Basis, Parity, bit_len, parts_of, power_of_two};
 use walk::plan::Instruction;
@@ -22,7 +22,7 @@ pub fn put_power(marked: bool, n: usize, step: usize, steps: &mut [u16]) -> usiz
         a: parts.a,
         b: parts.b,
     };
-    put_step(step, make, steps);
+    put_instruction(step, make, steps);
     step + 1
 }
 

@@ -4,7 +4,7 @@ ghost use Rattle.lists.specs.Tree.{tree_of};
 ghost use Rattle.walk.specs.declared.plan.Instruction.TheVariants.{Combine};
 ghost use Rattle.plan.specs.inside.Writing.{TreeFits, TreePut};
 
-use super::step::put_step;
+use super::step::put_instruction;
 use lists::{listed_again, smaller_split};
 use number::{power_of_two, top_power};
 use walk::plan::Instruction;
@@ -48,7 +48,7 @@ pub fn write_tree(
     let low = write_tree(false, false, whole, p - 1, split, at, steps);
     let high = write_tree(leading, plain, whole, degree - p, split, low, steps);
     let combine = combine_of(plain, high.list - low.list, p);
-    put_step(high.step, combine, steps);
+    put_instruction(high.step, combine, steps);
     Place {
         list: high.list,
         step: high.step + 1,
@@ -73,7 +73,7 @@ fn write_slice(
         let smaller = smaller_split(degree);
         return write_tree(leading, plain, whole, degree, smaller, at, steps);
     }
-    put_step(at.step, Instruction::Load(at.list), steps);
+    put_instruction(at.step, Instruction::Load(at.list), steps);
     Place {
         list: at.list + 1,
         step: at.step + 1,

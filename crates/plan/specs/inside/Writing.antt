@@ -16,6 +16,14 @@ use Rattle.walk.specs.declared.plan.Instruction.TheVariants.{Make, Load, Combine
 use Rattle.plan.specs.PlanSteps.{make_step, power_steps, last_plain, tree_steps, steps_at}
 use Rattle.plan.specs.declared.tree.Place.{Place}
 
+-- step i has its four places, and a u16 holds its numbers
+pub record StepFits (i kind x y z : ℕ) (steps : List ℕ) : Type 0 where
+  pub places : 4 * i + 4 ≤ length steps
+  pub kind_limit : kind ≤ 4
+  pub x_limit : x ≤ count_limit
+  pub y_limit : y ≤ count_limit
+  pub z_limit : z ≤ count_limit
+
 -- the four numbers of a step
 abbrev pub numbers_of : Instruction → List ℕ
 numbers_of (Make n a b) = 1 ∷ n ∷ a ∷ b ∷ []
@@ -29,7 +37,7 @@ Narrow (Load list) = list ≤ count_limit
 Narrow (Combine plain power) = power ≤ count_limit
 
 -- and step i has its four places
-pub record StepFits (i : ℕ) (instruction : Instruction) (steps : List ℕ) : Type 0 where
+pub record InstructionFits (i : ℕ) (instruction : Instruction) (steps : List ℕ) : Type 0 where
   pub places : 4 * i + 4 ≤ length steps
   pub narrow : Narrow instruction
 

@@ -9,10 +9,10 @@ returns-then-not-marked c =
 pub parts_of-parts-requires : goal.parts_of-parts-requires
 parts_of-parts-requires c = parts_asked c.requires c.if-not-marked.false
 
-pub put_step-requires : goal.put_step-requires
-put_step-requires c =
+pub put_instruction-requires : goal.put_instruction-requires
+put_instruction-requires c =
     power_fits c.args.marked c.requires c.if-not-marked.false c.parts_of-parts.ensures
 
 pub returns : goal.returns
 returns c =
-    power_marked c.args.marked c.requires c.if-not-marked.false c.parts_of-parts.ensures c.put_step.ensures
+    power_marked c.args.marked c.requires c.if-not-marked.false c.parts_of-parts.ensures c.put_instruction.ensures

@@ -38,8 +38,8 @@ write_slice-returns-then-listed_again t c =
     tree.put_again c.requires.0 c.requires.1 (sym c.listed_again.ensures ∙ c.if-listed_again.true)
     (rw c.smaller_split-smaller.ensures at c.write_tree.ensures)
 
-pub write_slice-put_step-requires : goal.write_slice-put_step-requires
-write_slice-put_step-requires t c =
+pub write_slice-put_instruction-requires : goal.write_slice-put_instruction-requires
+write_slice-put_instruction-requires t c =
     tree.load_fits c.requires.0 c.requires.1
 
 pub write_slice-overflow_add-result : goal.write_slice-overflow_add-result
@@ -55,7 +55,7 @@ write_slice-overflow_add-result-2 t c =
 pub write_slice-returns : goal.write_slice-returns
 write_slice-returns t c =
     tree.put_load c.requires.0 c.requires.1 (sym c.listed_again.ensures ∙ c.if-listed_again.false)
-    c.put_step.ensures
+    c.put_instruction.ensures
 
 pub write_tree-write_slice-requires : goal.write_tree-write_slice-requires
 write_tree-write_slice-requires t c =
@@ -94,9 +94,9 @@ write_tree-overflow_sub-high t c =
     c.write_tree-low.auto.steps c.write_tree-high.ensures
     c.write_tree-high.auto.steps
 
-pub write_tree-put_step-requires : goal.write_tree-put_step-requires
-write_tree-put_step-requires t c =
-    tree.combine_fits c.requires (from_base (goal.at.write_tree-put_step-requires t c).Else-degree-base) c.top_power-p.ensures c.write_tree-low.ensures
+pub write_tree-put_instruction-requires : goal.write_tree-put_instruction-requires
+write_tree-put_instruction-requires t c =
+    tree.combine_fits c.requires (from_base (goal.at.write_tree-put_instruction-requires t c).Else-degree-base) c.top_power-p.ensures c.write_tree-low.ensures
     c.write_tree-low.auto.steps c.write_tree-high.ensures
     c.write_tree-high.auto.steps
     c.combine_of-combine.ensures
@@ -116,4 +116,4 @@ write_tree-returns t c =
     tree.put_both c.requires (from_base (goal.at.write_tree-returns t c).Else-degree-base) c.top_power-p.ensures c.write_tree-low.ensures
     c.write_tree-low.auto.steps c.write_tree-high.ensures
     c.write_tree-high.auto.steps
-    c.combine_of-combine.ensures c.put_step.ensures
+    c.combine_of-combine.ensures c.put_instruction.ensures
