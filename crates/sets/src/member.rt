@@ -1,7 +1,6 @@
 // The members of a set as they are handed in.
-ghost use Rattle.std.specs.Prelude.{◌≡◌, ◌≤◌, not, ltb};
+ghost use Rattle.std.specs.Prelude.{◌≡◌, not, ltb};
 ghost use Rattle.sets.specs.Members.{alike, all_alike, members_in, handed_count};
-ghost use Rattle.sets.specs.SetPlan.{member_limit};
 
 use counts::{Settings, SplitStrategy};
 use number::{Basis, Parity};
@@ -42,12 +41,11 @@ impl Member {
 }
 
 impl Members {
-    // Returns the members.
+    // Returns the members: all places of the array if the count is above 16.
     pub fn list(&self) -> &[Member]
-        requires { self.now.count ≤ member_limit }
         ensures { result.now ≡ members_in self.now }
     {
-        &self.members[..self.count]
+        &self.members[..self.count.min(MEMBERS)]
     }
 }
 

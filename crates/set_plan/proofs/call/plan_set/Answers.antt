@@ -19,9 +19,6 @@ returns-in_err-check_ahead c =
     rw (p.1, p.2) (refused_ahead c.args.members c.args.c.now c.args.out.now c.args.bounds.now c.args.steps.now
     c.in_err-check_ahead.ensures (refused c.in_err-check_ahead.field-0.0) refl)
 
-pub list-curves-requires : goal.list-curves-requires
-list-curves-requires c = (ahead_tells c.args.members c.args.c.now (sym c.in_ok-check_ahead.ensures)).few
-
 pub set_outline-outline-requires : goal.set_outline-outline-requires
 set_outline-outline-requires c =
     let ahead = ahead_tells c.args.members c.args.c.now (sym c.in_ok-check_ahead.ensures) in
