@@ -122,3 +122,8 @@ pub members_all : {heads : List Head} {step i r : ℕ} {b₀ b : List ℕ} → M
     → b ≡ sets b₀ (4 * step) (flat (member_steps heads))
 members_all {heads} {step} {i} {r} {b₀} put past =
     put.numbers ∙ ap (λ (l : List Head). sets b₀ (4 * step) (flat (member_steps l))) (take_all i heads past)
+
+pub members_next : {heads : List Head} {step i r : ℕ} {b₀ b : List ℕ} → MembersPut heads i step b₀ r b → length heads ≤ i
+    → r ≡ step + length (member_steps heads)
+members_next {heads} {step} {i} put past =
+    put.next ∙ ap (λ (l : List Head). step + length (member_steps l)) (take_all i heads past)

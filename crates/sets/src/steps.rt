@@ -1,5 +1,5 @@
 // All steps of a set: the common power steps, and then the loads and combines of each member.
-ghost use Rattle.std.specs.Prelude.{◌≡◌, ◌*◌};
+ghost use Rattle.std.specs.Prelude.{◌≡◌, ◌+◌, ◌*◌, length};
 ghost use Rattle.std.proofs.lemmas.List.Edits.{sets};
 ghost use Rattle.walk.specs.WalksHeld.{flat};
 ghost use Rattle.sets.specs.SetPlan.{member_steps, set_steps};
@@ -26,15 +26,17 @@ fn write_own(head: &Head, step: usize, steps: &mut [u16]) -> usize
     write_tree(leading, plain, degree, degree, split, at, steps).step
 }
 
-// Writes those of all members from step `step` on, one member's after another's.
-fn write_members(heads: &[Head], step: usize, steps: &mut [u16])
+// Writes those of all members from step `step` on, one member's after another's, and returns the next step.
+pub fn write_members(heads: &[Head], step: usize, steps: &mut [u16]) -> usize
     requires { MembersFit heads.now step steps.old }
-    ensures { steps.new ≡ sets steps.old (4 * step) (flat (member_steps heads.now)) }
+    ensures { (steps.new ≡ sets steps.old (4 * step) (flat (member_steps heads.now)))
+        × (result ≡ step + length (member_steps heads.now)) }
 {
     let mut next = step;
     for head in heads {
         next = write_own(head, next, steps);
     }
+    next
 }
 
 // Writes the steps of members as a set, whose common powers are marked.

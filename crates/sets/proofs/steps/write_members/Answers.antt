@@ -1,6 +1,7 @@
--- `sets::steps::write_members` meets its contract. The invariant: the steps of the members passed stand one member's after another's.
+-- `sets::steps::write_members` meets its contract. The invariant: the steps of the members passed stand one member's after another's, and the next step
+-- is the one behind them.
 use mathlib.Core.Path.{refl, ◌∙◌}
-use Rattle.sets.proofs.WritingLaws.{members_none, own_fits, members_more, members_all}
+use Rattle.sets.proofs.WritingLaws.{members_none, own_fits, members_more, members_all, members_next}
 use Rattle.sets.proofs.steps.write_members.Goals as goal
 
 pub loop-head-init : goal.loop-head-init
@@ -16,4 +17,5 @@ loop-head-preserved c = record {
 }
 
 pub returns : goal.returns
-returns c = members_all c.loop-head.invariant.upto c.loop-head-test.false
+returns c =
+    (members_all c.loop-head.invariant.upto c.loop-head-test.false, members_next c.loop-head.invariant.upto c.loop-head-test.false)

@@ -16,4 +16,4 @@ write_members-requires c =
     members_fit c.requires c.greatest_power-last.ensures.0 c.write_marks-powers.ensures c.write_marks-powers.auto.steps
 
 pub returns : goal.returns
-returns c = set_put c.requires c.greatest_power-last.ensures.0 c.write_marks-powers.ensures c.write_members.ensures
+returns c = set_put c.requires c.greatest_power-last.ensures.0 c.write_marks-powers.ensures c.write_members.ensures.0
