@@ -11,7 +11,7 @@ use firrozun::{
     bsgs_op_counts, largest_degree, min_depth_split, min_mult_split, plan_sizes, split_degree,
 };
 use flat::flat::{CBits, CCounts, CDegree, CDepth, CParts, CSizes, CSplit};
-use flat::kinds::{fold_of, settings_of};
+use flat::kinds::{read_fold, settings_of};
 
 #[unsafe(no_mangle)]
 pub extern "C" fn firrozun_split_degree(n: usize) -> CParts
@@ -110,7 +110,7 @@ pub extern "C" fn firrozun_largest_degree(
 fn sizes(strategy: u8, parity: u8, basis: u8, fold: u8, degree: usize) -> Result<Sizes, Refusal>
     ensures { flat_sizes (plan_sizes_in result) ≡ sizes_flat strategy parity basis fold degree }
 {
-    let fold = fold_of(fold)?;
+    let fold = read_fold(fold)?;
     plan_sizes(settings_of(strategy, parity, basis)?, fold, degree)
 }
 

@@ -10,7 +10,7 @@ ghost use Rattle.exports.specs.Planning.{PlanFlat, trial_flat, chain_flat};
 use firrozun::{Head, Refusal, heaviest_chain, plan, trial_walk};
 use flat::flat::{CChain, CTrial};
 use flat::head::{CHead, CPlanned};
-use flat::kinds::{fold_of, settings_of};
+use flat::kinds::{read_fold, settings_of};
 
 // Plans by numbers. The many arguments are those of the C call.
 fn planned(
@@ -28,7 +28,7 @@ fn planned(
     ensures { PlanFlat strategy parity basis fold c.now a b out.old bounds.old steps.old
         (flat_planned (planned_in result)) out.new bounds.new steps.new }
 {
-    let fold = fold_of(fold)?;
+    let fold = read_fold(fold)?;
     let settings = settings_of(strategy, parity, basis)?;
     plan(settings, fold, c, a, b, out, bounds, steps)
 }

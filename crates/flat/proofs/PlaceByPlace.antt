@@ -4,19 +4,10 @@ use mathlib.Core.Bool.{true, false, ◌&&◌}
 use mathlib.Core.List.{List, [], ◌∷◌, ◌++◌, map}
 use Prim.Native.Nat.{ℕ, zero, suc, ◌+◌, ◌≤◌, ◌<◌}
 use native.Mathlib.Omega.{arith}
-use lib.ListN.{length, get_or, set, take, drop, replicate, length-map, length-set, length-replicate, length-take, drop_of_length-le, get_or-map}
+use lib.ListN.{length, get_or, set, take, drop, replicate, length-map, length-set, length-replicate, drop_of_length-le, get_or-map}
 use lib.Seq.{take-suc, take_all, take-suc-set}
 use Rattle.flat.specs.Sets.{knows_member, knows_each}
 use Rattle.flat.specs.declared.members.CMember.{CMember}
-
--- ---- the first places of the first places
-
-take_swap : {A : Type 0} (i k : ℕ) (l : List A) → take i (take k l) ≡ take k (take i l)
-take_swap zero zero l = refl
-take_swap zero (suc k) l = refl
-take_swap (suc i) zero l = refl
-take_swap (suc i) (suc k) [] = refl
-take_swap (suc i) (suc k) (x ∷ l) = ap (λ (rest : List _). x ∷ rest) (take_swap i k l)
 
 -- ---- an array that is filled
 
@@ -51,14 +42,6 @@ module _ {A B : Type 0} (of : A → B) (from : List A) where
   pub filled_all : {i : ℕ} {to : List B} → FilledUpto i to → length from ≤ i → to ≡ map of from
   filled_all {i} {to} upto past =
       sym (take_all i to (omega (arith, upto.size))) ∙ upto.done ∙ take_all i (map of from) (omega (arith, length-map from of))
-
-  -- of the first k all are, if no more than the first i are there
-  pub filled_taken : {i : ℕ} {to : List B} (k : ℕ) → FilledUpto i to → length (take k from) ≤ i → take k to ≡ take k (map of from)
-  filled_taken {i} {to} k upto past =
-      let others : length (take k to) ≤ i = omega (arith, length-take k to, length-take k from, upto.size) in
-      let meant : length (take k (map of from)) ≤ i = omega (arith, length-take k (map of from), length-take k from, length-map from of) in
-      sym (take_all i (take k to) others) ∙ take_swap i k to ∙ ap (take k) upto.done ∙ sym (take_swap i k (map of from))
-      ∙ take_all i (take k (map of from)) meant
 
 -- ---- members one after another
 

@@ -5,7 +5,7 @@ ghost use Rattle.plan.specs.PlanCall.{planned_in};
 ghost use Rattle.flat.specs.Heads.{flat_head_interval, interval_meant, flat_head, head_meant, knows_head, flat_planned};
 ghost use Rattle.flat.specs.Reads.{Reads};
 
-use super::kinds::settings_of;
+use super::kinds::{basis_of, parity_of, settings_of, strategy_of, transform_of};
 use firrozun::{Head, Interval, PolynomialInputTransform, Refusal};
 
 // The interval with its change pair.
@@ -115,6 +115,27 @@ impl TryFrom<CHead> for Head {
             steps: flat.steps,
             interval: Interval::from(flat.interval),
         })
+    }
+}
+
+// Returns the head that is meant, where an unknown kind is taken for the last one.
+pub fn head_of(head: CHead) -> Head
+    ensures { result ≡ head_meant head }
+{
+    Head {
+        basis: basis_of(head.basis),
+        parity: parity_of(head.parity),
+        strategy: strategy_of(head.strategy),
+        transform: transform_of(head.transform),
+        degree: head.degree,
+        base: head.base,
+        ct: head.ct,
+        pt: head.pt,
+        depth: head.depth,
+        coefficients: head.coefficients,
+        lists: head.lists,
+        steps: head.steps,
+        interval: Interval::from(head.interval),
     }
 }
 

@@ -1,9 +1,10 @@
 // The members of a set as structs of numbers, and the members that they mean.
-ghost use Rattle.flat.specs.Sets.{member_meant, knows_member};
-ghost use Rattle.flat.specs.Reads.{Reads, ReadsMembers};
+ghost use Rattle.std.specs.Prelude.{◌≡◌};
+ghost use Rattle.flat.specs.Sets.{member_meant, members_meant, knows_member, knows_members};
+ghost use Rattle.flat.specs.Reads.{Reads};
 
-use super::kinds::{fold_of, settings_of};
-use firrozun::{Basis, MEMBERS, Member, Members, Parity, Refusal, SplitStrategy};
+use super::kinds::{basis_of, fold_of, parity_of, read_fold, settings_of, strategy_of};
+use firrozun::{MEMBERS, Member, Members, Refusal};
 
 // A curve's settings by their numbers, the bounds of its interval, and how many coefficients it has.
 #[repr(C)]
@@ -32,7 +33,7 @@ impl TryFrom<CMember> for Member {
     ghost try_from_gives = { λ c r. Reads (knows_member c) (member_meant c) r };
 
     fn try_from(flat: CMember) -> Result<Self, Refusal> {
-        let fold = fold_of(flat.fold)?;
+        let fold = read_fold(flat.fold)?;
         let settings = settings_of(flat.strategy, flat.parity, flat.basis)?;
         Ok(Member {
             strategy: settings.strategy,
@@ -46,34 +47,46 @@ impl TryFrom<CMember> for Member {
     }
 }
 
-// Returns what stands in the places beyond the members: the last of each kind. No call uses it.
-fn no_member() -> Member {
+// Returns the member that is meant, where an unknown kind is taken for the last one.
+fn member_of(member: CMember) -> Member
+    ensures { result ≡ member_meant member }
+{
     Member {
-        strategy: SplitStrategy::MinMult,
-        parity: Parity::Odd,
-        basis: Basis::Chebyshev,
-        fold: true,
-        a: 0.0,
-        b: 0.0,
-        count: 0,
+        strategy: strategy_of(member.strategy),
+        parity: parity_of(member.parity),
+        basis: basis_of(member.basis),
+        fold: fold_of(member.fold),
+        a: member.a,
+        b: member.b,
+        count: member.count,
     }
 }
 
-// The kinds of the members are read: of the first `count`, or of all 16 if the count is above 16.
+// Returns the members that are meant, with what the places beyond them would mean.
+pub fn members_of(handed: CMembers) -> Members
+    ensures { result ≡ members_meant handed }
+{
+    let mut members = [member_of(handed.members[0]); MEMBERS];
+    // By index, since a proof does not know what is written through an `iter_mut`.
+    for i in 1..MEMBERS {
+        members[i] = member_of(handed.members[i]);
+    }
+    Members {
+        count: handed.count,
+        members,
+    }
+}
+
+// The kinds of the members are read: of the first `count`, or of all 16 if the count is above 16. Those of the places beyond them are not asked for.
 impl TryFrom<CMembers> for Members {
     type Error = Refusal;
 
-    ghost try_from_gives = { ReadsMembers };
+    ghost try_from_gives = { λ c r. Reads (knows_members c) (members_meant c) r };
 
     fn try_from(handed: CMembers) -> Result<Self, Refusal> {
-        let mut members = [no_member(); MEMBERS];
-        // By index, since a proof does not know what is written through an `iter_mut`.
         for i in 0..MEMBERS.min(handed.count) {
-            members[i] = Member::try_from(handed.members[i])?;
+            Member::try_from(handed.members[i])?;
         }
-        Ok(Members {
-            count: handed.count,
-            members,
-        })
+        Ok(members_of(handed))
     }
 }

@@ -1,10 +1,8 @@
 -- With known kinds of all members the answer is the call's own answer for the members that are meant, with its heads in numbers and the call's own buffers,
 -- and else refusal 43 with the buffers unchanged.
-use mathlib.Core.Path.{◌∙◌, ap}
-use Rattle.flat.specs.Sets.{flat_set_planned, no_set_planned, members_meant}
+use Rattle.flat.specs.Unknown.{when_known}
 use Rattle.flat.proofs.NoSet.{refused_set_told}
-use Rattle.flat.proofs.Reading.{left_told, accepted_told}
-use Rattle.flat.proofs.SameMembers.{same_answer, same_coefficients, same_boundaries, same_numbers}
+use Rattle.flat.proofs.Reading.{left_told}
 use Rattle.exports.proofs.curve_sets.planned_set.Goals as goal
 
 pub returns-in_err-try_from : goal.returns-in_err-try_from
@@ -18,18 +16,12 @@ returns-in_err-try_from c =
     }
 
 pub returns : goal.returns
-unfolding members_meant
+unfolding when_known
 returns c =
     let read = c.in_ok-try_from.ensures in
-    let meant = members_meant c.args.members in
-    let coeffs = c.args.c.now in
-    let out = c.args.out.now in
-    let bounds = c.args.bounds.now in
-    let steps = c.args.steps.now in
     record {
-      answer = ap flat_set_planned (c.plan_set.ensures.answer ∙ same_answer _ meant read.1 read.2 coeffs out bounds steps)
-          ∙ accepted_told no_set_planned read.0;
-      coefficients = c.plan_set.ensures.coefficients ∙ same_coefficients _ meant read.1 read.2 coeffs out bounds steps ∙ accepted_told out read.0;
-      boundaries = c.plan_set.ensures.boundaries ∙ same_boundaries _ meant read.1 read.2 coeffs out bounds steps ∙ accepted_told bounds read.0;
-      numbers = c.plan_set.ensures.numbers ∙ same_numbers _ meant read.1 read.2 coeffs out bounds steps ∙ accepted_told steps read.0;
+      answer = rw (read.0, c.plan_set.ensures.answer, read.1);
+      coefficients = rw (read.0, c.plan_set.ensures.coefficients, read.1);
+      boundaries = rw (read.0, c.plan_set.ensures.boundaries, read.1);
+      numbers = rw (read.0, c.plan_set.ensures.numbers, read.1);
     }

@@ -1,10 +1,8 @@
 -- With known kinds of all members it is the call's own answer for the members that are meant, and else refusal 43.
-use mathlib.Core.Path.{◌∙◌, ap}
 use Rattle.plan.specs.PlanSizes.{no_sizes}
+use Rattle.flat.specs.Unknown.{when_known}
 use Rattle.flat.specs.Flat.{flat_sizes}
-use Rattle.flat.specs.Sets.{members_meant}
-use Rattle.flat.proofs.Reading.{refused_told, accepted_told}
-use Rattle.flat.proofs.SameMembers.{same_sizes}
+use Rattle.flat.proofs.Reading.{refused_told}
 use Rattle.exports.proofs.curve_sets.sizes.Goals as goal
 
 pub returns-in_err-try_from : goal.returns-in_err-try_from
@@ -13,7 +11,7 @@ returns-in_err-try_from c =
     refused_told flat_sizes _ no_sizes _ _ c.from_residual.ensures.1 refused.1 refused.0
 
 pub returns : goal.returns
-unfolding members_meant
+unfolding when_known
 returns c =
     let read = c.in_ok-try_from.ensures in
-    ap flat_sizes (c.set_sizes.ensures ∙ same_sizes _ (members_meant c.args.members) read.1 read.2) ∙ accepted_told _ read.0
+    rw (read.0, c.set_sizes.ensures, read.1)
