@@ -4,9 +4,10 @@ ghost use Rattle.lists.specs.ListCall.{listed_in};
 ghost use Rattle.flat.specs.Flat.{flat_listed};
 ghost use Rattle.exports.specs.Listing.{ListFlat};
 
-use firrozun::{Coefficient, Listing, Refusal, decompose_bsgs};
+use firrozun::{Listing, Refusal, decompose_bsgs};
 use flat::flat::CListed;
 use flat::kinds::settings_of;
+use number::Coefficient;
 
 // Lists coefficients of either type, by numbers.
 fn listed<C: Coefficient>(

@@ -9,10 +9,11 @@ ghost use Rattle.flat.specs.Flat.{flat_converted, flat_folded, interval_in, valu
 ghost use Rattle.exports.specs.Values.{FoldFlat, ConvertFlat, evaluate_flat, change_flat, InterpolateFlat};
 
 use firrozun::{
-    Basis, Coefficient, Fold, Interval, Parity, Refusal, change_of_basis, chebyshev_interpolate,
-    convert_coeffs, detect_parity, evaluate_coeffs, fold_parity,
+    Basis, Fold, Interval, Parity, Refusal, change_of_basis, chebyshev_interpolate, convert_coeffs,
+    detect_parity, evaluate_coeffs, fold_parity,
 };
 use flat::flat::{CConverted, CFolded, CInterpolated, CInterval, CValue};
+use number::Coefficient;
 
 // Folds coefficients of either type, by numbers.
 fn folded<C: Coefficient>(parity: u8, basis: u8, c: &[C], out: &mut [C]) -> Result<Fold, Refusal>

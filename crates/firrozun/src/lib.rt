@@ -9,8 +9,8 @@ pub use counts::{
 pub use interpolation::{Interpolation, chebyshev_interpolate};
 pub use lists::{Listing, decompose_bsgs};
 pub use number::{
-    Basis, Coefficient, Fold, Interval, Parity, PolynomialInputTransform, Refusal, Split,
-    UnknownKind, change_of_basis, detect_parity, evaluate_coeffs, fold_parity, split_degree,
+    Basis, Fold, Interval, Parity, PolynomialInputTransform, Refusal, Split, UnknownKind,
+    change_of_basis, detect_parity, evaluate_coeffs, fold_parity, split_degree,
 };
 pub use plan::{Sizes, plan, plan_sizes};
 pub use rebuild::rebuild;

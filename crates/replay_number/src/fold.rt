@@ -1,5 +1,6 @@
 // Replaying folds.
-use firrozun::{Coefficient, Parity, Refusal};
+use firrozun::{Parity, Refusal};
+use number::Coefficient;
 use recording::{Element, Fields, agree};
 
 // fold_parity  basis  parity  n  c..  =  transform  n  c..

@@ -1,5 +1,6 @@
 // Replaying parity detection.
-use firrozun::{Coefficient, Parity};
+use firrozun::Parity;
+use number::Coefficient;
 use recording::{Element, Fields, agree};
 
 // Agrees if the line ends with our parity.
