@@ -35,7 +35,7 @@ fn put_planned(
     );
     match made {
         Ok(head) => put_plan(head, planned, bounds, steps, at, out),
-        Err(refusal) => put_refusal(refusal, at, out),
+        Err(refusal) => put_refusal(u8::from(refusal), at, out),
     }
 }
 
@@ -58,6 +58,6 @@ pub fn put_answer(
             let c = part_between(coefficients, 0, read.count);
             put_planned(read, c, planned, bounds, steps, at, out)
         }
-        Err(refusal) => put_refusal(refusal, at, out),
+        Err(refusal) => put_refusal(u8::from(refusal), at, out),
     }
 }

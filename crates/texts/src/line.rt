@@ -2,13 +2,11 @@
 ghost use Rattle.std.specs.Prelude.{◌≡◌, [], ◌-◌, ◌/◌, ◌<◌, ◌^◌, length, get_or, take, drop};
 ghost use Rattle.walk.specs.Boundaries.{start_of, part_of};
 ghost use Rattle.walk.specs.Lent.{step_at};
-ghost use Rattle.number.specs.Refused.{refusal_number};
 ghost use Rattle.texts.specs.Text.{list_line, refusal_line};
 ghost use Rattle.texts.specs.PlanText.{head_line, step_line, lines_of, lists_in, shown_steps};
 ghost use Rattle.texts.specs.Put.{Put};
 
 use crate::fields::{put_list_line, put_numbers_line};
-use number::Refusal;
 use walk::Head;
 
 // Puts the line of the head, and returns the place behind it.
@@ -27,12 +25,12 @@ fn put_head(out: &mut [u8], at: usize, head: Head) -> usize
     put_numbers_line(out, at, b'H', &ns)
 }
 
-// Puts the line of a refusal, and returns the place behind it.
-pub fn put_refusal(refusal: Refusal, at: usize, out: &mut [u8]) -> usize
+// Puts the line of the refusal with this number, which may be any, and returns the place behind it.
+pub fn put_refusal(refusal: u8, at: usize, out: &mut [u8]) -> usize
     requires { at < 2 ^ 63 }
-    ensures { Put out.old at (refusal_line (refusal_number refusal)) out.new result }
+    ensures { Put out.old at (refusal_line refusal) out.new result }
 {
-    let ns = [u64::from(u8::from(refusal))];
+    let ns = [u64::from(refusal)];
     put_numbers_line(out, at, b'R', &ns)
 }
 
