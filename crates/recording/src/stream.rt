@@ -80,11 +80,13 @@ impl<'a> LineReader<'a> {
         &self.text[from..end]
     }
 
-    // Moves the text that is left to the front, reads once behind it, and returns how many bytes came: 0 at the input's end. Text that fills the
-    // buffer is let go.
+    // Moves the text that is left to the front, unless it stands there already, reads once behind it, and returns how many bytes came: 0 at the input's
+    // end. Text that fills the buffer is let go.
     fn refill<R: Read>(&mut self, input: &mut R) -> io::Result<usize> {
         let mut left = self.end - self.next;
-        self.text.copy_within(self.next..self.end, 0);
+        if 0 < self.next {
+            self.text.copy_within(self.next..self.end, 0);
+        }
         if left == self.text.len() {
             self.long = true;
             left = 0;
