@@ -20,19 +20,19 @@ impl Letters {
     pub fn said_basis(self) -> Basis
         ensures { result ≡ basis_of self }
     {
-        letter::basis_of(self.basis).unwrap_or(Basis::Monomial)
+        letter::basis_of(self.basis)
     }
 
     pub fn said_parity(self) -> Parity
         ensures { result ≡ parity_of self }
     {
-        letter::parity_of(self.parity).unwrap_or(Parity::Full)
+        letter::parity_of(self.parity)
     }
 
     pub fn said_strategy(self) -> SplitStrategy
         ensures { result ≡ strategy_of self }
     {
-        letter::strategy_of(self.strategy).unwrap_or(SplitStrategy::MinDepth)
+        letter::strategy_of(self.strategy)
     }
 }
 

@@ -9,7 +9,7 @@ ghost use Rattle.lines.specs.inside.Reading.{opening_of, ReadForm, counted};
 
 use crate::buffer::store;
 use crate::field::Fields;
-use crate::letter::{basis_of, fold_of, parity_of, strategy_of};
+use crate::letter::{read_basis, read_fold, read_parity, read_strategy};
 use crate::limits::LINE_LIMIT;
 use crate::whole::{is_whole, value_of};
 use counts::Settings;
@@ -35,10 +35,10 @@ fn take_opening(fields: &mut Fields) -> Option<Opening>
     ensures opening { result ≡ opening_of (fields_left fields.old) }
     ensures rest { IfSome result (λ _. fields_left fields.new ≡ drop 4 (fields_left fields.old)) }
 {
-    let basis = basis_of(fields.letter()?)?;
-    let parity = parity_of(fields.letter()?)?;
-    let strategy = strategy_of(fields.letter()?)?;
-    let fold = fold_of(fields.letter()?)?;
+    let basis = read_basis(fields.letter()?)?;
+    let parity = read_parity(fields.letter()?)?;
+    let strategy = read_strategy(fields.letter()?)?;
+    let fold = read_fold(fields.letter()?)?;
     let settings = Settings {
         strategy,
         parity,

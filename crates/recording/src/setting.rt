@@ -2,27 +2,27 @@
 use crate::field::Fields;
 use algebra::{Basis, Parity};
 use counts::{Settings, SplitStrategy};
-use lines::letter::{basis_of, fold_of, parity_of, strategy_of};
+use lines::letter::{read_basis, read_fold, read_parity, read_strategy};
 
 impl Fields<'_> {
     // Reads M or C.
     pub fn basis(&mut self) -> Option<Basis> {
-        basis_of(self.letter()?)
+        read_basis(self.letter()?)
     }
 
     // Reads F, E or O.
     pub fn parity(&mut self) -> Option<Parity> {
-        parity_of(self.letter()?)
+        read_parity(self.letter()?)
     }
 
     // Reads D or M.
     pub fn strategy(&mut self) -> Option<SplitStrategy> {
-        strategy_of(self.letter()?)
+        read_strategy(self.letter()?)
     }
 
     // Reads N or Y: whether to fold.
     pub fn fold(&mut self) -> Option<bool> {
-        fold_of(self.letter()?)
+        read_fold(self.letter()?)
     }
 
     // Reads a basis, a parity and a strategy.
