@@ -11,9 +11,9 @@ mod split;
 
 use converted::convert_coeffs_agrees;
 use evaluate::{change_of_basis_agrees, evaluate_agrees};
-use fold::fold_parity_agrees;
+use fold::{real_fold_agrees, whole_fold_agrees};
 use interpolate::interpolate_agrees;
-use parity::parity_agrees;
+use parity::{real_parity_agrees, whole_parity_agrees};
 use recording::Fields;
 use split::split_degree_agrees;
 use std::io;
@@ -22,10 +22,10 @@ use std::io;
 fn agrees(mut fields: Fields) -> Option<()> {
     match fields.next()? {
         b"split_degree" => split_degree_agrees(fields),
-        b"parity" => parity_agrees(fields, &mut [0.0; 8192]),
-        b"parity_whole" => parity_agrees(fields, &mut [0; 8192]),
-        b"fold_parity" => fold_parity_agrees(fields, &mut [0.0; 4096], &mut [0.0; 4096]),
-        b"fold_parity_whole" => fold_parity_agrees(fields, &mut [0; 4096], &mut [0; 4096]),
+        b"parity" => real_parity_agrees(fields),
+        b"parity_whole" => whole_parity_agrees(fields),
+        b"fold_parity" => real_fold_agrees(fields),
+        b"fold_parity_whole" => whole_fold_agrees(fields),
         b"convert_coeffs" => convert_coeffs_agrees(fields),
         b"evaluate" => evaluate_agrees(fields),
         b"change_of_basis" => change_of_basis_agrees(fields),
