@@ -14,24 +14,25 @@ use number::Basis;
 // A power of two below which the sum of two magnitudes fits an i64.
 const NEAR: i64 = 1 << 62;
 
-// Returns the sum of a number that is not near zero and a half, if an i64 holds it. It stands out of line, so that a number near zero pays for one test.
-#[cold]
-#[inline(never)]
-fn plus_far(y: i64, half: i64) -> Option<i64>
-    ensures { SomeIff result (FitsSigned w64 (y +ℤ half)) (y +ℤ half) }
-{
-    y.checked_add(half)
-}
-
-// Returns y and a half together, if an i64 holds their sum. Most numbers are near zero, where the sum fits: `checked_add` alone is slower.
+// Returns y and a half together, if an i64 holds their sum. Most numbers are near zero, where the sum fits. Of those farther out the limit on their side tells:
+// `checked_add` takes longer, and makes numbers near zero wait for it too.
 fn plus_half(y: i64, half: i64) -> Option<i64>
     requires { mag half < 2 ^ 62 }
     ensures { SomeIff result (FitsSigned w64 (y +ℤ half)) (y +ℤ half) }
 {
     if -NEAR <= y && y < NEAR {
+        return Some(y + half);
+    }
+    if y < 0 {
+        if i64::MIN - y <= half {
+            Some(y + half)
+        } else {
+            None
+        }
+    } else if half <= i64::MAX - y {
         Some(y + half)
     } else {
-        plus_far(y, half)
+        None
     }
 }
 

@@ -21,7 +21,8 @@ pub struct SetOutline {
     pub sizes: Sizes,
 }
 
-// Returns the outline of members that pass their tests.
+// Returns the outline of members that pass their tests. It is made where the call keeps it: handed back from a function apart it stands on the stack twice.
+#[inline(always)]
 pub fn set_outline(members: &[Member]) -> SetOutline
     requires { MembersPass members.now × (all_alike members.now ≡ true) }
     ensures { Outlined members.now result }
