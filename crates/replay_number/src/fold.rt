@@ -5,7 +5,7 @@ use recording::{Element, Fields, agree};
 
 // fold_parity  basis  parity  n  c..  =  transform  n  c..
 // The coefficients are read into one buffer, and folded into the other. Our refusals 4, 5 and 6 are the Rust's errors; the recording does not say which.
-fn fold_parity_agrees<C: Coefficient + Element>(
+pub fn fold_parity_agrees<C: Coefficient + Element>(
     mut fields: Fields,
     coeffs: &mut [C],
     out: &mut [C],

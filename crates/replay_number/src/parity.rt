@@ -11,7 +11,7 @@ pub fn match_parity(mut fields: Fields, ours: Parity) -> Option<()> {
 
 // parity  n  c..  =  letter
 // The coefficients are read into the buffer.
-fn parity_agrees<C: Coefficient + Element>(mut fields: Fields, coeffs: &mut [C]) -> Option<()> {
+pub fn parity_agrees<C: Coefficient + Element>(mut fields: Fields, coeffs: &mut [C]) -> Option<()> {
     let c = fields.list(coeffs)?;
     fields.word(b"=")?;
     match_parity(fields, firrozun::detect_parity(c))
