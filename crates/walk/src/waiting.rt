@@ -5,6 +5,7 @@ ghost use Rattle.walk.specs.Load.{push_of};
 ghost use Rattle.walk.specs.Combine.{join_of};
 ghost use Rattle.walk.specs.Walk.{one_left};
 ghost use Rattle.walk.specs.inside.Found.{found};
+ghost use Rattle.walk.specs.inside.Waits.{last_first};
 
 use crate::arithmetic::Arithmetic;
 use crate::limits::WAITING;
@@ -76,9 +77,16 @@ impl Waiting {
     pub fn one_left(self) -> Option<u64>
         ensures { found result ≡ one_left self.list }
     {
-        if self.count != 1 {
-            return None;
-        }
-        Some(self.values[0])
+        one_left(&self.values, self.count)
     }
+}
+
+// Returns the value that is left of the first `count`, if there is just one. The count may be any.
+pub fn one_left(values: &[u64; WAITING], count: usize) -> Option<u64>
+    ensures { found result ≡ one_left (last_first values.now count) }
+{
+    if count != 1 {
+        return None;
+    }
+    Some(values[0])
 }
